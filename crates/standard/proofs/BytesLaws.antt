@@ -1,0 +1,109 @@
+-- Strings of a known length: `table`, and what `Bytes` gives.
+-- Assumes nothing.
+use mathlib.Core.Bool.{Bool, true, false, _&&_, true≢false}
+use mathlib.Core.List.{List, [], _∷_, _++_}
+use mathlib.Core.Path.{_≡_, refl, sym, ap, ap₂, _∙_}
+use Prim.Native.Nat.{ℕ, zero, suc, _+_, _<_}
+use native.Mathlib.Nat.{suc-inj, suc-ne-zero, le-of-suc-le-suc, not-suc-le-zero}
+use native.Mathlib.Omega.{arith}
+use lib.ListN.{length, length-append}
+use borrow.Author.Tests.{eqb-true}
+use Rattle.standard.specs.Bytes.{_!_, _⊕_, table, part, xors, Bytes}
+use Rattle.standard.specs.Refusals.{long}
+use Rattle.standard.proofs.XorLaws.{xor-byte}
+
+-- ---- tables
+
+pub length-table : (n : ℕ) (f : ℕ → ℕ) → length (table n f) ≡ n
+length-table zero f = refl
+length-table (suc n) f = ap suc (length-table n (λ i. f (suc i)))
+
+pub table-at : (n : ℕ) (f : ℕ → ℕ) (i : ℕ) → i < n → table n f ! i ≡ f i
+table-at zero f i h = absurd (not-suc-le-zero h)
+table-at (suc n) f zero h = refl
+table-at (suc n) f (suc i) h = table-at n (λ j. f (suc j)) i (le-of-suc-le-suc h)
+
+-- tables that agree below n are the same
+pub table-same : (n : ℕ) (f g : ℕ → ℕ) → ((i : ℕ) → i < n → f i ≡ g i) → table n f ≡ table n g
+table-same zero f g h = refl
+table-same (suc n) f g h =
+    ap₂ _∷_ (h zero (omega arith)) (table-same n (λ i. f (suc i)) (λ i. g (suc i)) (λ i k. h (suc i) (omega arith)))
+
+-- one entry more, at the end
+pub table-snoc : (n : ℕ) (f : ℕ → ℕ) → table (suc n) f ≡ table n f ++ (f n ∷ [])
+table-snoc zero f = refl
+table-snoc (suc n) f = ap (_∷_ (f zero)) (table-snoc n (λ i. f (suc i)))
+
+-- a string of n bytes is the table of its bytes
+pub spelled : (n : ℕ) (xs : List ℕ) → length xs ≡ n → table n (λ i. xs ! i) ≡ xs
+spelled zero [] e = refl
+spelled zero (x ∷ xs) e = absurd (suc-ne-zero (length xs) e)
+spelled (suc n) [] e = absurd (suc-ne-zero n (sym e))
+spelled (suc n) (x ∷ xs) e = ap (_∷_ x) (spelled n xs (suc-inj e))
+
+-- a string that passes the test of its length
+pub long-spelled : (n : ℕ) (xs : List ℕ) → long n xs ≡ true → table n (λ i. xs ! i) ≡ xs
+long-spelled n xs t = spelled n xs (eqb-true (length xs) n t)
+
+-- ---- strings of bytes
+
+pub spell : {n : ℕ} {xs : List ℕ} → Bytes n xs → table n (λ i. xs ! i) ≡ xs
+spell {n} {xs} h = spelled n xs (h .len)
+
+table-bound : (n : ℕ) (f : ℕ → ℕ) → ((i : ℕ) → f i < 256) → (i : ℕ) → table n f ! i < 256
+table-bound zero f h i = omega arith
+table-bound (suc n) f h zero = h zero
+table-bound (suc n) f h (suc i) = table-bound n (λ j. f (suc j)) (λ j. h (suc j)) i
+
+pub bytes-table : (n : ℕ) (f : ℕ → ℕ) → ((i : ℕ) → f i < 256) → Bytes n (table n f)
+bytes-table n f h = record { len = length-table n f; bound = table-bound n f h }
+
+pub bytes-nil : Bytes 0 []
+bytes-nil = record { len = refl; bound = λ i. omega arith }
+
+cons-bound : (x : ℕ) (xs : List ℕ) → x < 256 → ((i : ℕ) → xs ! i < 256) → (i : ℕ) → (x ∷ xs) ! i < 256
+cons-bound x xs h k zero = h
+cons-bound x xs h k (suc i) = k i
+
+pub bytes-cons : {n x : ℕ} {xs : List ℕ} → x < 256 → Bytes n xs → Bytes (suc n) (x ∷ xs)
+bytes-cons {n} {x} {xs} h b = record { len = ap suc (b .len); bound = cons-bound x xs h (b .bound) }
+
+pub bytes-append : {m n : ℕ} {xs ys : List ℕ} → Bytes m xs → Bytes n ys → Bytes (m + n) (xs ++ ys)
+bytes-append {m} {n} {xs} {ys} a b =
+    record { len = length-append xs ys ∙ ap₂ _+_ (a .len) (b .len); bound = go xs (a .bound) }
+  where
+    go : (zs : List ℕ) → ((i : ℕ) → zs ! i < 256) → (i : ℕ) → (zs ++ ys) ! i < 256
+    go [] h i = b .bound i
+    go (z ∷ zs) h zero = h zero
+    go (z ∷ zs) h (suc i) = go zs (λ j. h (suc j)) i
+
+pub bytes-part : {m : ℕ} {xs : List ℕ} (from n : ℕ) → Bytes m xs → Bytes n (part from n xs)
+bytes-part {m} {xs} from n h = bytes-table n (λ i. xs ! (from + i)) (λ i. h .bound (from + i))
+
+pub bytes-xors : {l m : ℕ} {xs ys : List ℕ} (n : ℕ) → Bytes l xs → Bytes m ys → Bytes n (xors n xs ys)
+bytes-xors {l} {m} {xs} {ys} n a b =
+    bytes-table n (λ i. xs ! i ⊕ ys ! i) (λ i. xor-byte (xs ! i) (ys ! i) (a .bound i) (b .bound i))
+
+-- ---- tests
+
+and-left : (a b : Bool) → a && b ≡ true → a ≡ true
+and-left true b e = refl
+and-left false b e = e
+
+and-right : (a b : Bool) → a && b ≡ true → b ≡ true
+and-right true b e = e
+and-right false b e = absurd (true≢false (sym e))
+
+-- two tests that both pass
+pub and-split : (a b : Bool) → a && b ≡ true → (a ≡ true) × (b ≡ true)
+and-split a b e = (and-left a b e, and-right a b e)
+
+-- a test at each number below n, computed once, gives the test at each
+abbrev pub every : ℕ → (ℕ → Bool) → Bool
+every zero f = true
+every (suc n) f = f zero && every n (λ i. f (suc i))
+
+pub every-at : (n : ℕ) (f : ℕ → Bool) → every n f ≡ true → (i : ℕ) → i < n → f i ≡ true
+every-at zero f e i h = absurd (not-suc-le-zero h)
+every-at (suc n) f e zero h = and-left (f zero) (every n (λ i. f (suc i))) e
+every-at (suc n) f e (suc i) h = every-at n (λ j. f (suc j)) (and-right (f zero) (every n (λ j. f (suc j))) e) i (le-of-suc-le-suc h)

@@ -1,0 +1,3 @@
+pub mod Bytes
+pub mod Hurdle
+pub mod Refusals
