@@ -1,0 +1,72 @@
+-- `arrays::copy` meets its contract.
+-- Assumes nothing.
+use mathlib.Core.List.{List, _++_}
+use mathlib.Core.Path.{_≡_, refl, sym, ap, _∙_}
+use Prim.Native.Nat.{ℕ, _-_, _≤_, zero-le}
+use native.Mathlib.Omega.{arith}
+use lib.ListN.{length, take, drop, set, length-set}
+use denote.Ref.{now}
+use Rattle.arrays.proofs.CopyLaws.{copy-next, copied}
+use Rattle.arrays.specs.Least.{Least}
+use Rattle.standard.specs.Bytes.{_!_}
+use Rattle.arrays.proofs.copy.Statement.{statement}
+use Rattle.arrays.proofs.copy.Tie as tie
+
+abbrev Inv-loop : tie.InvT-loop
+Inv-loop s out₀ n i₀ out i = (i ≤ n) × (length out ≡ length out₀) × (out ≡ take i s ++ drop i out₀) × Least (length s) (length out₀) n
+
+abbrev μ-loop : tie.MeasureT-loop
+μ-loop s out₀ n i₀ out i = n - i
+
+least-requires : tie.Need-least-requires Inv-loop μ-loop
+least-requires c κs = omega arith
+
+loop-holds : tie.Need-loop-holds Inv-loop μ-loop
+loop-holds c = (zero-le, refl, refl, c .least .ensures)
+
+shared-slice-read-out : tie.Need-shared-slice-read-out Inv-loop μ-loop
+shared-slice-read-out c = omega arith
+
+slice-write-out : tie.Need-slice-write-out Inv-loop μ-loop
+slice-write-out c = omega arith
+
+add-i : tie.Need-add-i Inv-loop μ-loop
+add-i c = omega arith
+
+loop-less : tie.Need-loop-less Inv-loop μ-loop
+loop-less c = omega arith
+
+loop-again : tie.Need-loop-again Inv-loop μ-loop
+loop-again c =
+    let at = c .before .before .loop in
+    let x = c .before .before .before .before .before .before .args in (
+      omega arith,
+      length-set (at .out) _ _ ∙ at .inv .1,
+      ap (λ (l : List ℕ). set l (at .i) (now (x .s) ! at .i)) (at .inv .2) ∙ copy-next (now (x .out)) (now (x .s)) (at .i) (omega arith) (omega arith),
+      at .inv .3,
+    )
+
+same-length : tie.Need-same-length Inv-loop μ-loop
+same-length c = omega arith
+
+returns : tie.Need-returns Inv-loop μ-loop
+returns c =
+    let at = c .before .loop in
+    let x = c .before .before .before .before .before .args in
+    at .inv .2 ∙ copied (now (x .out)) (now (x .s)) (at .i) (at .inv .3) (omega arith)
+
+pub copy-spec : {M : Type 1} → statement M
+copy-spec =
+    tie.close
+    (tie.spec
+    Inv-loop
+    μ-loop
+    least-requires
+    loop-holds
+    shared-slice-read-out
+    slice-write-out
+    add-i
+    loop-less
+    loop-again
+    same-length
+    returns)

@@ -1,0 +1,16 @@
+-- `arrays::least` meets its contract.
+-- Assumes nothing.
+use mathlib.Core.Logic.{inl, inr}
+use mathlib.Core.Path.{refl}
+use borrow.Author.Needs.{needs}
+use Rattle.arrays.proofs.least.Statement.{statement}
+use Rattle.arrays.proofs.least.Tie as tie
+
+returns : tie.Need-returns
+returns c = record { left = search needs; right = search needs; one = inl refl }
+
+returns-2 : tie.Need-returns-2
+returns-2 c = record { left = search needs; right = search needs; one = inr refl }
+
+pub least-spec : {M : Type 1} → statement M
+least-spec = tie.close (tie.spec returns returns-2)

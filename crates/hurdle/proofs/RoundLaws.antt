@@ -1,0 +1,124 @@
+-- The steps of the code add up to f, to the rounds and to the block.
+-- Assumes nothing.
+use mathlib.Core.Bool.{Bool, true, _&&_}
+use mathlib.Core.List.{List, [], _∷_, _++_}
+use mathlib.Core.Path.{_≡_, refl, sym, ap, ap₂, _∙_}
+use Prim.Native.Nat.{ℕ, suc, _+_, _*_, _/_, _%_, _^_, _≤_, _<_}
+use native.Mathlib.Numerals.{add-one}
+use native.Mathlib.Omega.{arith}
+use lib.Bits.{bitXor, bitAnd, xor-shr, xor-mod}
+use lib.Dec.{eqb, leb}
+use lib.ListN.{length}
+use borrow.Author.Tests.{eqb-true, leb-true}
+use Rattle.standard.specs.Bytes.{_!_, byte, bit, _⊕_, _⊞_, part, xors}
+use Rattle.standard.specs.Hurdle.{S, E, T, ofBits, Y, f, Halves, round, rounds, crypt, roundKey}
+use Rattle.standard.proofs.BytesLaws.{and-split, every, every-at}
+use Rattle.hurdle.specs.Steps.{bytes4, Four, Spread, nibble, Nibbles, gathered, Gathered, HalvesOf, place, Turned}
+
+-- ---- the chain
+
+pub chain-next : (x k : List ℕ) (j : ℕ) {t r : ℕ} → t ≡ T x k j → r ≡ S ! ((E x (suc j) ⊞ byte 12 k (suc j)) ⊕ t) → r ≡ T x k (suc j)
+unfolding T
+chain-next x k j p q = q ∙ rw p
+
+-- four links after Tj, from the links' results
+pub chain-four : (x k : List ℕ) (j : ℕ) {t a b c d : ℕ} → t ≡ T x k j
+    → a ≡ S ! ((E x (suc j) ⊞ byte 12 k (suc j)) ⊕ t)
+    → b ≡ S ! ((E x (suc (suc j)) ⊞ byte 12 k (suc (suc j))) ⊕ a)
+    → c ≡ S ! ((E x (suc (suc (suc j))) ⊞ byte 12 k (suc (suc (suc j)))) ⊕ b)
+    → d ≡ S ! ((E x (suc (suc (suc (suc j)))) ⊞ byte 12 k (suc (suc (suc (suc j))))) ⊕ c)
+    → Four x k (suc j) a b c d
+chain-four x k j t a b c d =
+    let p = chain-next x k j t a in
+    let q = chain-next x k (suc j) p b in
+    let r = chain-next x k (suc (suc j)) q c in
+    record { first = p; second = q; third = r; fourth = chain-next x k (suc (suc (suc j))) r d }
+
+-- ---- the bits
+
+-- the word that has bit n of t as the lowest bit of byte n
+spreadOf : ℕ → ℕ
+spreadOf t = bit 0 t + 256 * bit 1 t + 65536 * bit 2 t + 16777216 * bit 3 t
+
+-- the low four bits of t are those of its remainder
+low-bits : (t : ℕ) → (bit 0 (t % 16) ≡ bit 0 t) × (bit 1 (t % 16) ≡ bit 1 t) × (bit 2 (t % 16) ≡ bit 2 t) × (bit 3 (t % 16) ≡ bit 3 t)
+unfolding bit
+low-bits t = (omega arith, omega arith, omega arith, omega arith)
+
+spread-low : (t : ℕ) → spreadOf (t % 16) ≡ spreadOf t
+unfolding spreadOf
+spread-low t = let e = low-bits t in rw (e .0, e .1, e .2, e .3)
+
+right : ℕ → Bool
+right k = eqb (bitAnd (k * 0x204081) 0x1010101) (spreadOf k) && leb (bitAnd (k * 0x204081) 0x1010101) 16843009
+
+all-right : every 16 right ≡ true
+unfolding right spreadOf bit
+all-right = refl
+
+pub spread-is : (t : ℕ) → Spread t (bitAnd (t % 16 * 0x204081) 0x1010101)
+unfolding right spreadOf
+spread-is t =
+    let e = and-split _ _ (every-at 16 right all-right (t % 16) (omega arith)) in
+    record { is = eqb-true _ _ (e .0) ∙ spread-low t; most = leb-true _ _ (e .1) }
+
+bit-lt : (n x : ℕ) → bit n x < 2
+unfolding bit
+bit-lt n x = omega arith
+
+nibble-lt : (n a b c d : ℕ) → nibble n a b c d < 16
+nibble-lt n a b c d = omega (arith, bit-lt n a, bit-lt n b, bit-lt n c, bit-lt n d)
+
+-- four bytes in a word, and out again
+pub bytes4-of : (a b c d : ℕ) → a < 256 → b < 256 → c < 256 → d < 256 → bytes4 (a + 256 * b + 65536 * c + 16777216 * d) ≡ d ∷ c ∷ b ∷ a ∷ []
+bytes4-of a b c d ha hb hc hd =
+    let w = a + 256 * b + 65536 * c + 16777216 * d in
+    let e3 : w / 2 ^ 24 % 256 ≡ d = omega arith in
+    let e2 : w / 2 ^ 16 % 256 ≡ c = omega arith in
+    let e1 : w / 2 ^ 8 % 256 ≡ b = omega arith in
+    let e0 : w % 256 ≡ a = omega arith in
+    cc
+
+-- T4 to T11, gathered, are f's result
+pub gathered-is : (x k : List ℕ) {a b c d e f′ g h y : ℕ} → Four x k 4 a b c d → Four x k 8 e f′ g h → Gathered a b c d e f′ g h y → bytes4 y ≡ f x k
+unfolding f
+gathered-is x k {a} {b} {c} {d} {e} {f′} {g} {h} {y} p q o =
+    let lt : (n : ℕ) → gathered n a b c d e f′ g h < 256 = λ n. omega (arith, nibble-lt n a b c d, nibble-lt n e f′ g h) in
+    let is : (n : ℕ) → gathered n a b c d e f′ g h ≡ Y x k n =
+    λ n. rw (p .first, p .second, p .third, p .fourth, q .first, q .second, q .third, q .fourth) (sums n) in
+    ap bytes4 (o .is) ∙ bytes4-of _ _ _ _ (lt 0) (lt 1) (lt 2) (lt 3) ∙ rw (is 0, is 1, is 2, is 3)
+  where
+    sums : (n : ℕ) → gathered n (T x k 4) (T x k 5) (T x k 6) (T x k 7) (T x k 8) (T x k 9) (T x k 10) (T x k 11) ≡ Y x k n
+    sums n = omega arith
+
+-- ---- the rounds
+
+xor-byte : (a b k : ℕ) → bitXor a b / 2 ^ k % 256 ≡ bitXor (a / 2 ^ k % 256) (b / 2 ^ k % 256)
+xor-byte a b k = rw xor-shr (xor-mod (a / 2 ^ k) (b / 2 ^ k) 8)
+
+bytes4-xor : (a b : ℕ) → bytes4 (bitXor a b) ≡ xors 4 (bytes4 a) (bytes4 b)
+bytes4-xor a b = cc (xor-byte a b 24, xor-byte a b 16, xor-byte a b 8, xor-mod a b 8)
+
+pub turned-none : {back : Bool} {keys : List ℕ} {l r : ℕ} → Turned back keys l r 0 l r
+unfolding rounds
+turned-none = record { is = refl }
+
+-- one round more
+round-more : (k : ℕ → List ℕ) (i : ℕ) (h : Halves) (l r y : ℕ) → bytes4 y ≡ f (bytes4 r) (k i) → (bytes4 l, bytes4 r) ≡ rounds k i h
+    → (bytes4 r, bytes4 (bitXor l y)) ≡ rounds k (i + 1) h
+unfolding round rounds
+round-more k i h l r y e p =
+    ap (λ (z : List ℕ). (bytes4 r, z)) (bytes4-xor l y ∙ ap (xors 4 (bytes4 l)) e) ∙ ap (round (k i)) p ∙ rw add-one refl
+
+pub turned-more : {back : Bool} {keys : List ℕ} {l₀ r₀ i n l r : ℕ} (y : ℕ) → n ≡ place back i → bytes4 y ≡ f (bytes4 r) (roundKey keys n)
+    → Turned back keys l₀ r₀ i l r → Turned back keys l₀ r₀ (i + 1) r (bitXor l y)
+turned-more {back} {keys} {l₀} {r₀} {i} {n} {l} {r} y e p h =
+    record { is = round-more (λ m. roundKey keys (place back m)) i _ l r y (p ∙ ap (λ (m : ℕ). f (bytes4 r) (roundKey keys m)) e) (h .is) }
+
+-- the halves, the rounds and the halves exchanged are the block
+pub crypted : {back : Bool} {keys b out : List ℕ} {l r l₁ r₁ : ℕ} → HalvesOf b l r → Turned back keys l r 16 l₁ r₁
+    → out ≡ bytes4 r₁ ++ bytes4 l₁ → out ≡ crypt (λ i. roundKey keys (place back i)) b
+unfolding crypt
+crypted {back} {keys} s h j =
+    j ∙ ap (λ (g : Halves). g .1 ++ g .0)
+    (h .is ∙ ap₂ (λ (x y : List ℕ). rounds (λ n. roundKey keys (place back n)) 16 (x, y)) (s .left) (s .right))

@@ -1,0 +1,17 @@
+-- `hurdle::round::link` meets its contract.
+-- Assumes nothing.
+use borrow.Author.Needs.{needs}
+use Rattle.hurdle.proofs.round.link.Statement.{statement}
+use Rattle.hurdle.proofs.round.link.Tie as tie
+
+wrapping-add-u8-requires : tie.Need-wrapping-add-u8-requires
+wrapping-add-u8-requires c κs = search needs
+
+entry-requires : tie.Need-entry-requires
+entry-requires c κs = search needs
+
+returns : tie.Need-returns
+returns c = cc
+
+pub link-spec : {M : Type 1} → statement M
+link-spec = tie.close (tie.spec wrapping-add-u8-requires entry-requires returns)

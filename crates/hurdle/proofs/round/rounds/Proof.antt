@@ -1,0 +1,54 @@
+-- `hurdle::round::rounds` meets its contract.
+-- Assumes nothing.
+use mathlib.Core.Path.{_≡_, refl}
+use Prim.Native.Nat.{_-_, _≤_, zero-le}
+use native.Mathlib.Omega.{arith}
+use Rattle.hurdle.proofs.RoundLaws.{turned-none, turned-more}
+use Rattle.hurdle.specs.Steps.{Turned}
+use Rattle.standard.specs.Hurdle.{S}
+use Rattle.hurdle.proofs.round.rounds.Statement.{statement}
+use Rattle.hurdle.proofs.round.rounds.Tie as tie
+
+abbrev Inv-loop : tie.InvT-loop
+Inv-loop keys back s l₀ r₀ i₀ l r i = (i ≤ 16) × Turned back keys l₀ r₀ i l r
+
+abbrev μ-loop : tie.MeasureT-loop
+μ-loop keys back s l₀ r₀ i₀ l r i = 16 - i
+
+loop-holds : tie.Need-loop-holds Inv-loop μ-loop
+loop-holds c = (zero-le, turned-none)
+
+place-requires : tie.Need-place-requires Inv-loop μ-loop
+place-requires c κs = omega arith
+
+f-requires : tie.Need-f-requires Inv-loop μ-loop
+unfolding S
+f-requires c κs = (refl, omega arith)
+
+add-i : tie.Need-add-i Inv-loop μ-loop
+add-i c = omega arith
+
+loop-less : tie.Need-loop-less Inv-loop μ-loop
+loop-less c = omega arith
+
+loop-again : tie.Need-loop-again Inv-loop μ-loop
+loop-again c = (omega arith, turned-more (c .f .result) (c .before .place .ensures .0) (c .f .ensures) (c .before .before .before .before .loop .inv .1))
+
+returns : tie.Need-returns Inv-loop μ-loop
+returns c =
+    let e : c .before .loop .i ≡ 16 = omega arith in
+    rw e at (c .before .loop .inv .1)
+
+pub rounds-spec : {M : Type 1} → statement M
+rounds-spec =
+    tie.close
+    (tie.spec
+    Inv-loop
+    μ-loop
+    loop-holds
+    place-requires
+    f-requires
+    add-i
+    loop-less
+    loop-again
+    returns)

@@ -1,0 +1,39 @@
+-- `hurdle::round::word` meets its contract.
+-- Assumes nothing.
+use mathlib.Core.Path.{_≡_, ap, _∙_}
+use Prim.Native.Nat.{_+_, _*_}
+use native.Mathlib.Omega.{arith}
+use borrow.Author.Needs.{needs}
+use Rattle.hurdle.proofs.RoundLaws.{bytes4-of}
+use Rattle.hurdle.specs.Steps.{bytes4}
+use Rattle.hurdle.proofs.round.word.Statement.{statement}
+use Rattle.hurdle.proofs.round.word.Tie as tie
+
+mul-result : tie.Need-mul-result
+mul-result c = search needs
+
+mul-result-2 : tie.Need-mul-result-2
+mul-result-2 c = search needs
+
+add-result : tie.Need-add-result
+add-result c = search needs
+
+mul-result-3 : tie.Need-mul-result-3
+mul-result-3 c = search needs
+
+add-result-2 : tie.Need-add-result-2
+add-result-2 c = search needs
+
+add-result-3 : tie.Need-add-result-3
+add-result-3 c = search needs
+
+returns : tie.Need-returns
+returns c =
+    let x = c .args in
+    let sum : x .a * 16777216 + x .b * 65536 + x .c * 256 + x .d ≡ x .d + 256 * x .c + 65536 * x .b + 16777216 * x .a = omega arith in
+    ap bytes4 sum ∙ bytes4-of (x .d) (x .c) (x .b) (x .a) (search needs) (search needs) (search needs) (search needs)
+
+pub word-spec : {M : Type 1} → statement M
+word-spec =
+    tie.close
+    (tie.spec mul-result mul-result-2 add-result mul-result-3 add-result-2 add-result-3 returns)

@@ -1,0 +1,53 @@
+-- What the steps of the code compute on their way to the definitions.
+-- Assumes nothing.
+use mathlib.Core.Bool.{Bool, true, false}
+use mathlib.Core.List.{List, [], _∷_}
+use mathlib.Core.Path.{_≡_}
+use Prim.Native.Nat.{ℕ, suc, _+_, _-_, _*_, _/_, _%_, _^_, _≤_}
+use Rattle.standard.specs.Bytes.{bit, part}
+use Rattle.standard.specs.Hurdle.{T, rounds, roundKey}
+
+-- the four bytes of a word, leftmost first
+abbrev pub bytes4 : ℕ → List ℕ
+bytes4 w = w / 2 ^ 24 % 256 ∷ w / 2 ^ 16 % 256 ∷ w / 2 ^ 8 % 256 ∷ w % 256 ∷ []
+
+-- four bytes of the chain, from Tj on
+pub record Four (x k : List ℕ) (j a b c d : ℕ) : Type 0 where
+  pub first : a ≡ T x k j
+  pub second : b ≡ T x k (suc j)
+  pub third : c ≡ T x k (suc (suc j))
+  pub fourth : d ≡ T x k (suc (suc (suc j)))
+
+-- bit n of t is the lowest bit of byte n of r
+pub record Spread (t r : ℕ) : Type 0 where
+  pub is : r ≡ bit 0 t + 256 * bit 1 t + 65536 * bit 2 t + 16777216 * bit 3 t
+  pub most : r ≤ 16843009
+
+-- bit n of four bytes
+abbrev pub nibble : ℕ → ℕ → ℕ → ℕ → ℕ → ℕ
+nibble n a b c d = bit n a + 2 * bit n b + 4 * bit n c + 8 * bit n d
+
+pub record Nibbles (a b c d r : ℕ) : Type 0 where
+  pub is : r ≡ nibble 0 a b c d + 256 * nibble 1 a b c d + 65536 * nibble 2 a b c d + 16777216 * nibble 3 a b c d
+  pub most : r ≤ 15 * 16843009
+
+-- bit n of eight bytes
+abbrev pub gathered : ℕ → ℕ → ℕ → ℕ → ℕ → ℕ → ℕ → ℕ → ℕ → ℕ
+gathered n a b c d e f g h = nibble n a b c d + 16 * nibble n e f g h
+
+pub record Gathered (a b c d e f g h y : ℕ) : Type 0 where
+  pub is : y ≡ gathered 0 a b c d e f g h + 256 * gathered 1 a b c d e f g h + 65536 * gathered 2 a b c d e f g h + 16777216 * gathered 3 a b c d e f g h
+
+-- the words l and r are the halves of a block
+pub record HalvesOf (b : List ℕ) (l r : ℕ) : Type 0 where
+  pub left : bytes4 l ≡ part 0 4 b
+  pub right : bytes4 r ≡ part 4 4 b
+
+-- the place of the round key that round i takes
+abbrev pub place : Bool → ℕ → ℕ
+place false i = i
+place true i = 15 - i
+
+-- the words l and r are what the first i rounds make of l₀ and r₀
+pub record Turned (back : Bool) (keys : List ℕ) (l₀ r₀ i l r : ℕ) : Type 0 where
+  pub is : (bytes4 l, bytes4 r) ≡ rounds (λ n. roundKey keys (place back n)) i (bytes4 l₀, bytes4 r₀)

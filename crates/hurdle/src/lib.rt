@@ -1,0 +1,108 @@
+// HURDLE-II, the block cipher of TAA1 (000, clause 6). Strings have the leftmost byte first.
+mod key_schedule;
+mod round;
+mod tables;
+
+use crate::key_schedule::lay;
+use crate::round::crypt;
+use crate::tables::S;
+use crate::tables::S_INVERSE;
+use crate::tables::entry;
+use arrays::array8;
+use arrays::array16;
+use standard::Bytes8;
+ghost use mathlib.Core.Path.{_≡_};
+ghost use Rattle.standard.specs.Bytes.{_!_, table, zeros};
+ghost use Rattle.standard.specs.Hurdle.{S as sOf, S⁻¹ as sInverseOf, schedule as scheduleOf, encryptWith, decryptWith, encrypt as encryptOf, decrypt as decryptOf, encryptCall, decryptCall};
+
+// All sixteen round keys, the first one first.
+pub fn schedule(key: [u8; 16]) -> [u8; 192]
+    ensures { λ r. ⌜ r ≡ scheduleOf key ⌝ }
+{
+    lay(key)
+}
+
+// A block under round keys that were laid out before.
+pub fn encrypt_with(keys: &[u8; 192], block: [u8; 8]) -> [u8; 8]
+    ensures { λ r. ⌜ r ≡ encryptWith (now (keys .entry)) block ⌝ }
+{
+    crypt(keys, block, false)
+}
+
+pub fn decrypt_with(keys: &[u8; 192], block: [u8; 8]) -> [u8; 8]
+    ensures { λ r. ⌜ r ≡ decryptWith (now (keys .entry)) block ⌝ }
+{
+    crypt(keys, block, true)
+}
+
+// A block under a key.
+pub fn encrypt_block(key: [u8; 16], block: [u8; 8]) -> [u8; 8]
+    ensures { λ r. ⌜ r ≡ encryptOf key block ⌝ }
+{
+    let keys = lay(key);
+    crypt(&keys, block, false)
+}
+
+pub fn decrypt_block(key: [u8; 16], block: [u8; 8]) -> [u8; 8]
+    ensures { λ r. ⌜ r ≡ decryptOf key block ⌝ }
+{
+    let keys = lay(key);
+    crypt(&keys, block, true)
+}
+
+// S at each of three bytes, as TA61's permutation takes it.
+pub fn substitute(x: [u8; 3]) -> [u8; 3]
+    ensures { λ r. ⌜ r ≡ table 3 (λ i. sOf ! (x ! i)) ⌝ }
+{
+    let s = S;
+    let a = entry(&s, x[0]);
+    let b = entry(&s, x[1]);
+    let c = entry(&s, x[2]);
+    [a, b, c]
+}
+
+pub fn substitute_back(x: [u8; 3]) -> [u8; 3]
+    ensures { λ r. ⌜ r ≡ table 3 (λ i. sInverseOf ! (x ! i)) ⌝ }
+{
+    let s = S_INVERSE;
+    let a = entry(&s, x[0]);
+    let b = entry(&s, x[1]);
+    let c = entry(&s, x[2]);
+    [a, b, c]
+}
+
+fn refused8(number: u32) -> Bytes8
+    ensures { λ r. ⌜ r ≡ record { refusal = number; bytes = zeros 8 } ⌝ }
+{
+    Bytes8 {
+        refusal: number,
+        bytes: [0; 8],
+    }
+}
+
+// The calls, over strings of any length.
+pub fn encrypt(key: &[u8], block: &[u8]) -> Bytes8
+    ensures { λ r. ⌜ r ≡ encryptCall (now (key .entry)) (now (block .entry)) ⌝ }
+{
+    let long = (key.len() == 16) & (block.len() == 8);
+    if !long {
+        return refused8(11);
+    }
+    Bytes8 {
+        refusal: 0,
+        bytes: encrypt_block(array16(key), array8(block)),
+    }
+}
+
+pub fn decrypt(key: &[u8], block: &[u8]) -> Bytes8
+    ensures { λ r. ⌜ r ≡ decryptCall (now (key .entry)) (now (block .entry)) ⌝ }
+{
+    let long = (key.len() == 16) & (block.len() == 8);
+    if !long {
+        return refused8(11);
+    }
+    Bytes8 {
+        refusal: 0,
+        bytes: decrypt_block(array16(key), array8(block)),
+    }
+}
