@@ -1,0 +1,42 @@
+//! The engine. The call is its own; the steps are another archive's.
+
+use crate::{Inputs, Round};
+use host::engine;
+
+pub fn rounds(inputs: &Inputs) -> [Round<'_>; 3] {
+    let [schedule, block] = steps(inputs);
+    let call = inputs.calls(|key, block| *block = engine::encrypt(key, block).bytes);
+    [schedule, block, call]
+}
+
+#[cfg(steps)]
+fn steps(inputs: &Inputs) -> [Round<'_>; 2] {
+    use std::hint::black_box;
+
+    extern "C" {
+        fn taa1_bench_schedule(key: *const u8, keys: *mut u8);
+        fn taa1_bench_encrypt_with(keys: *const u8, block: *mut u8);
+    }
+
+    // SAFETY, here and below: keys have 16 bytes, round keys 192, blocks 8.
+    let schedule = |key: &[u8; 16], keys: &mut [u8; 192]| unsafe {
+        taa1_bench_schedule(key.as_ptr(), keys.as_mut_ptr());
+    };
+    let mut laid_out = [0; 192];
+    schedule(&inputs.keys[0], &mut laid_out);
+    let mut keys = [0; 192];
+    [
+        inputs.schedules(move |key| {
+            schedule(key, &mut keys);
+            black_box(&keys);
+        }),
+        inputs.blocks(move |block| unsafe {
+            taa1_bench_encrypt_with(laid_out.as_ptr(), block.as_mut_ptr());
+        }),
+    ]
+}
+
+#[cfg(not(steps))]
+fn steps(_: &Inputs) -> [Round<'_>; 2] {
+    [None, None]
+}
