@@ -6,9 +6,10 @@ use mathlib.Core.Path.{_≡_, refl, sym, ap, ap₂, _∙_}
 use Prim.Native.Nat.{ℕ, zero, suc, _+_, _<_}
 use native.Mathlib.Nat.{suc-inj, suc-ne-zero, le-of-suc-le-suc, not-suc-le-zero}
 use native.Mathlib.Omega.{arith}
+use lib.Dec.{eqb}
 use lib.ListN.{length, length-append}
-use borrow.Author.Tests.{eqb-true}
-use Rattle.standard.specs.Bytes.{_!_, _⊕_, table, part, xors, Bytes}
+use borrow.Author.Tests.{eqb-true, eq-eqb}
+use Rattle.standard.specs.Bytes.{_!_, _⊕_, table, part, xors, sameOn, same, Bytes}
 use Rattle.standard.specs.Refusals.{long}
 use Rattle.standard.proofs.XorLaws.{xor-byte}
 
@@ -84,6 +85,12 @@ pub bytes-xors : {l m : ℕ} {xs ys : List ℕ} (n : ℕ) → Bytes l xs → Byt
 bytes-xors {l} {m} {xs} {ys} n a b =
     bytes-table n (λ i. xs ! i ⊕ ys ! i) (λ i. xor-byte (xs ! i) (ys ! i) (a .bound i) (b .bound i))
 
+pub bytes-one : {x : ℕ} → x < 256 → Bytes 1 (x ∷ [])
+bytes-one h = bytes-cons h bytes-nil
+
+pub bytes-zero : Bytes 1 (0 ∷ [])
+bytes-zero = bytes-one (omega arith)
+
 -- ---- tests
 
 and-left : (a b : Bool) → a && b ≡ true → a ≡ true
@@ -97,6 +104,25 @@ and-right false b e = absurd (true≢false (sym e))
 -- two tests that both pass
 pub and-split : (a b : Bool) → a && b ≡ true → (a ≡ true) × (b ≡ true)
 and-split a b e = (and-left a b e, and-right a b e)
+
+pub and-join : {a b : Bool} → a ≡ true → b ≡ true → a && b ≡ true
+and-join {a} {b} p q = ap₂ _&&_ p q
+
+sameOn-split : (t : Bool) (xs ys : List ℕ) → sameOn t xs ys ≡ true → (t ≡ true) × (xs ≡ ys)
+sameOn-split t [] [] e = (e, refl)
+sameOn-split t [] (y ∷ ys) e = absurd (true≢false (sym e))
+sameOn-split t (x ∷ xs) [] e = absurd (true≢false (sym e))
+sameOn-split t (x ∷ xs) (y ∷ ys) e =
+    let p = sameOn-split (t && eqb x y) xs ys e in
+    (and-left t (eqb x y) (p .0), ap₂ _∷_ (eqb-true x y (and-right t (eqb x y) (p .0))) (p .1))
+
+-- strings that pass the test are the same, and the same string passes
+pub same-eq : (xs ys : List ℕ) → same xs ys ≡ true → xs ≡ ys
+same-eq xs ys e = sameOn-split true xs ys e .1
+
+pub same-refl : (xs : List ℕ) → same xs xs ≡ true
+same-refl [] = refl
+same-refl (x ∷ xs) = ap (λ (t : Bool). sameOn t xs xs) (eq-eqb x x refl) ∙ same-refl xs
 
 -- a test at each number below n, computed once, gives the test at each
 abbrev pub every : ℕ → (ℕ → Bool) → Bool

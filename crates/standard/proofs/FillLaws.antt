@@ -1,21 +1,14 @@
 -- A loop that fills a list with a table from the front, one store a turn: after j turns the first j elements are the table's.
 -- Assumes nothing.
-use mathlib.Core.List.{List, [], _∷_, _++_, append-assoc}
+use mathlib.Core.List.{List, [], _∷_, _++_}
 use mathlib.Core.Path.{_≡_, sym, ap, ap₂, _∙_}
 use Prim.Native.Nat.{ℕ, suc, _+_, _<_}
-use native.Mathlib.Nat.{add-assoc}
 use native.Mathlib.Numerals.{add-one}
 use native.Mathlib.Omega.{arith}
 use lib.ListN.{length, take, set}
 use lib.Seq.{take-suc-set, take-all}
 use Rattle.standard.specs.Bytes.{table}
 use Rattle.standard.proofs.BytesLaws.{table-snoc}
-
--- one store more, in a part that begins at b after p
-pub fill-part : (out p : List ℕ) (f : ℕ → ℕ) (b j v : ℕ) → b + j < length out → v ≡ f j → take (b + j) out ≡ p ++ table j f
-    → take (b + (j + 1)) (set out (b + j) v) ≡ p ++ table (j + 1) f
-fill-part out p f b j v l q e =
-    rw (← add-assoc, add-one, take-suc-set out (b + j) v l, add-one, table-snoc, ← append-assoc, e, q)
 
 -- one store more
 pub fill-next : (out : List ℕ) (f : ℕ → ℕ) (j v : ℕ) → j < length out → v ≡ f j → take j out ≡ table j f

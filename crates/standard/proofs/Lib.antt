@@ -1,5 +1,12 @@
 pub mod XorLaws
 pub mod BytesLaws
 pub mod FillLaws
+pub mod MixingLaws
+pub mod InverseLaws
 pub mod HurdleLaws
+pub mod CoreLaws
+pub mod ExpansionLaws
+pub mod SealLaws
+pub mod IdentityLaws
+pub mod CallLaws
 pub mod Cases

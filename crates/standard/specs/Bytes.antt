@@ -1,11 +1,12 @@
 -- Byte strings (01, Byte order): lists of bytes, the leftmost first, as a lent buffer holds them.
 -- A string of known length is written out by its indexes: `table 3 f` is `f 0 ∷ f 1 ∷ f 2 ∷ []`.
 -- Assumes nothing.
-use mathlib.Core.Bool.{Bool, true, false}
+use mathlib.Core.Bool.{Bool, true, false, _&&_}
 use mathlib.Core.List.{List, [], _∷_}
 use mathlib.Core.Path.{_≡_}
-use Prim.Native.Nat.{ℕ, zero, suc, _+_, _-_, _/_, _%_, _^_, _<_}
+use Prim.Native.Nat.{ℕ, zero, suc, _+_, _-_, _*_, _/_, _%_, _^_, _<_}
 use lib.Bits.{bitXor}
+use lib.Dec.{eqb}
 use lib.ListN.{length, getD}
 
 infixl 90 _!_
@@ -47,6 +48,25 @@ xors n xs ys = table n (λ i. xs ! i ⊕ ys ! i)
 abbrev pub zeros : ℕ → List ℕ
 zeros n = table n (λ i. 0)
 
+-- a number's n lowest bytes, big-endian
+abbrev pub bytesOf : ℕ → ℕ → List ℕ
+bytesOf zero x = []
+bytesOf (suc n) x = x / 2 ^ (8 * n) % 256 ∷ bytesOf n x
+
+-- the number that a string of three bytes spells
+abbrev pub number3 : List ℕ → ℕ
+number3 b = 65536 * b ! 0 + 256 * b ! 1 + b ! 2
+
+-- two strings are the same, as a test: from left to right
+abbrev pub sameOn : Bool → List ℕ → List ℕ → Bool
+sameOn t [] [] = t
+sameOn t [] (y ∷ ys) = false
+sameOn t (x ∷ xs) [] = false
+sameOn t (x ∷ xs) (y ∷ ys) = sameOn (t && eqb x y) xs ys
+
+abbrev pub same : List ℕ → List ℕ → Bool
+same xs ys = sameOn true xs ys
+
 -- the first if the test passes, the second if not
 abbrev pub choose : {A : Type 0} → Bool → A → A → A
 choose true a b = a
@@ -56,3 +76,8 @@ choose false a b = b
 pub record Bytes (n : ℕ) (xs : List ℕ) : Type 0 where
   pub len : length xs ≡ n
   pub bound : (i : ℕ) → xs ! i < 256
+
+-- a string of n bytes that passes a test
+pub record Passed (n : ℕ) (ok : List ℕ → Bool) (xs : List ℕ) : Type 0 where
+  pub bytes : Bytes n xs
+  pub passed : ok xs ≡ true

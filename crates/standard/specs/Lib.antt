@@ -1,3 +1,9 @@
 pub mod Bytes
 pub mod Hurdle
+pub mod Cores
+pub mod Expansions
+pub mod Seals
+pub mod Identity
+pub mod Derivation
+pub mod Mixing
 pub mod Refusals

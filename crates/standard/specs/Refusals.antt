@@ -1,12 +1,68 @@
--- Refusals (01, Who causes which number): the numbers by name, the tests, and the answers of single calls.
+-- Refusals (01, Who causes which number): the numbers by name, their tests, and the answers of single calls.
+-- Order: 11, 1, 2, 12, then record by record 3, then 4, 5 (sealing) or 6 (opening); in single calls 11, 7, 8, 9, 10, 5.
 -- Assumes nothing.
-use mathlib.Core.Bool.{Bool}
+use mathlib.Core.Bool.{Bool, true, false, _&&_}
 use mathlib.Core.List.{List, [], _∷_}
-use Prim.Native.Nat.{ℕ}
-use lib.Dec.{eqb}
+use Prim.Native.Nat.{ℕ, _^_}
+use lib.Bits.{bitAnd}
+use lib.Count.{ones}
+use lib.Dec.{eqb, leb, ltb}
 use lib.ListN.{length}
 use Rattle.standard.specs.Bytes.{choose, zeros}
+use Rattle.standard.specs.declared.Authentication.{Authentication}
+use Rattle.standard.specs.declared.Bytes10.{Bytes10}
+use Rattle.standard.specs.declared.Bytes15.{Bytes15}
+use Rattle.standard.specs.declared.Bytes16.{Bytes16}
 use Rattle.standard.specs.declared.Bytes8.{Bytes8}
+use Rattle.standard.specs.declared.Identity.{Identity}
+use Rattle.standard.specs.declared.RingMade.{RingMade}
+use Rattle.standard.specs.declared.Unsealed.{Unsealed}
+use Rattle.standard.specs.declared.UnsealedGroup.{UnsealedGroup}
+use Rattle.standard.specs.declared.UnsealedNumbered.{UnsealedNumbered}
+
+-- ---- the candidate's
+
+-- book longer than 1,024 records' bytes
+abbrev pub bookTooLong : ℕ
+bookTooLong = 1
+
+-- length not a whole number of records
+abbrev pub notWhole : ℕ
+notWhole = 2
+
+-- kind not 1 to 4
+abbrev pub unknownKind : ℕ
+unknownKind = 3
+
+-- a body byte that must be zero isn't
+abbrev pub notZero : ℕ
+notZero = 4
+
+-- kind 2 number above 31; also in a single seal
+abbrev pub numberTooHigh : ℕ
+numberTooHigh = 5
+
+-- flag set while opening a book
+abbrev pub flagSet : ℕ
+flagSet = 6
+
+-- ---- the setter's
+
+-- a mask has the wrong number of ones
+abbrev pub wrongOnes : ℕ
+wrongOnes = 7
+
+-- the masks share a bit
+abbrev pub sharedBit : ℕ
+sharedBit = 8
+
+-- width outside 16 to 32
+abbrev pub wrongWidth : ℕ
+wrongWidth = 9
+
+-- a value too wide for its field
+abbrev pub tooWide : ℕ
+tooWide = 10
 
 -- ---- the host's
 
@@ -14,17 +70,63 @@ use Rattle.standard.specs.declared.Bytes8.{Bytes8}
 abbrev pub wrongLength : ℕ
 wrongLength = 11
 
+-- output shorter than the result
+abbrev pub outputTooShort : ℕ
+outputTooShort = 12
+
+-- ---- tests
+
 -- the string has n bytes
 abbrev pub long : ℕ → List ℕ → Bool
 long n xs = eqb (length xs) n
 
--- ---- answers
+-- the response mask has four ones and the key mask ten; none is shared
+abbrev pub masks : ℕ → ℕ → List (Bool × ℕ)
+masks rm km = (eqb (ones rm) 4 && eqb (ones km) 10, wrongOnes) ∷ (eqb (bitAnd rm km) 0, sharedBit) ∷ []
+
+-- a width of TB1 and TB3
+abbrev pub wide : ℕ → Bool
+wide w = leb 16 w && leb w 32
+
+-- the value has at most w bits
+abbrev pub fits : ℕ → ℕ → Bool
+fits w v = ltb v (2 ^ w)
 
 -- the number of the first test that fails, in the order written; 0 if none does
 abbrev pub first : List (Bool × ℕ) → ℕ
 first [] = 0
 first (t ∷ ts) = choose (t .0) (first ts) (t .1)
 
--- 0 and the value, or a refusal and zeros
+-- ---- answers of single calls: 0 and the values, or a refusal and zeros
+
 abbrev pub answer8 : ℕ → List ℕ → Bytes8
 answer8 r b = record { refusal = r; bytes = choose (eqb r 0) b (zeros 8) }
+
+abbrev pub answer10 : ℕ → List ℕ → Bytes10
+answer10 r b = record { refusal = r; bytes = choose (eqb r 0) b (zeros 10) }
+
+abbrev pub answer15 : ℕ → List ℕ → Bytes15
+answer15 r b = record { refusal = r; bytes = choose (eqb r 0) b (zeros 15) }
+
+abbrev pub answer16 : ℕ → List ℕ → Bytes16
+answer16 r b = record { refusal = r; bytes = choose (eqb r 0) b (zeros 16) }
+
+abbrev pub authentication : ℕ → List ℕ → List ℕ → Authentication
+authentication r s k = record { refusal = r; response = choose (eqb r 0) s (zeros 4); key = choose (eqb r 0) k (zeros 10) }
+
+abbrev pub identity : ℕ → ℕ → Identity
+identity r n = record { refusal = r; identity = choose (eqb r 0) n 0 }
+
+abbrev pub unsealed : ℕ → List ℕ → Bool → Unsealed
+unsealed r k f = record { refusal = r; key = choose (eqb r 0) k (zeros 10); flag = choose (eqb r 0) f false }
+
+abbrev pub unsealedNumbered : ℕ → List ℕ → ℕ → Bool → UnsealedNumbered
+unsealedNumbered r k n f =
+    record { refusal = r; key = choose (eqb r 0) k (zeros 10); number = choose (eqb r 0) n 0; flag = choose (eqb r 0) f false }
+
+abbrev pub unsealedGroup : ℕ → List ℕ → Bool → UnsealedGroup
+unsealedGroup r k f = record { refusal = r; key = choose (eqb r 0) k (zeros 12); flag = choose (eqb r 0) f false }
+
+abbrev pub ringMade : ℕ → List ℕ → List ℕ → List ℕ → RingMade
+ringMade r k s t =
+    record { refusal = r; ring = choose (eqb r 0) k (zeros 36); response1 = choose (eqb r 0) s (zeros 4); response2 = choose (eqb r 0) t (zeros 4) }

@@ -1,7 +1,146 @@
-// What the calls answer with. The first field is 0, or the number of the refusal; on a refusal every other field is zero.
+// What the calls take and answer with. An answer's first field is 0, or the number of the refusal; on a refusal every other field is
+// zero.
+ghost use mathlib.Core.Path.{_≡_};
+ghost use Rattle.standard.specs.Seals.{kindOf, keyLength, highestNumber};
+
+// A version number, which is never taken for a key number.
+#[repr(C)]
+pub struct Version(pub u16);
+
+// A key number, which is never taken for a version number.
+#[repr(C)]
+pub struct KeyNumber(pub u16);
 
 #[repr(C)]
 pub struct Bytes8 {
     pub refusal: u32,
     pub bytes: [u8; 8],
+}
+
+#[repr(C)]
+pub struct Bytes10 {
+    pub refusal: u32,
+    pub bytes: [u8; 10],
+}
+
+#[repr(C)]
+pub struct Bytes15 {
+    pub refusal: u32,
+    pub bytes: [u8; 15],
+}
+
+#[repr(C)]
+pub struct Bytes16 {
+    pub refusal: u32,
+    pub bytes: [u8; 16],
+}
+
+// What TA12 and TA22 answer.
+#[repr(C)]
+pub struct Authentication {
+    pub refusal: u32,
+    pub response: [u8; 4],
+    pub key: [u8; 10],
+}
+
+// What TA61 and its inverse answer.
+#[repr(C)]
+pub struct Identity {
+    pub refusal: u32,
+    pub identity: u32,
+}
+
+// What TA32 answers.
+#[repr(C)]
+pub struct Unsealed {
+    pub refusal: u32,
+    pub key: [u8; 10],
+    pub flag: bool,
+}
+
+// What TA52 and TA82 answer.
+#[repr(C)]
+pub struct UnsealedNumbered {
+    pub refusal: u32,
+    pub key: [u8; 10],
+    pub number: u16,
+    pub flag: bool,
+}
+
+// What TA92 answers.
+#[repr(C)]
+pub struct UnsealedGroup {
+    pub refusal: u32,
+    pub key: [u8; 12],
+    pub flag: bool,
+}
+
+// What the ring recipe answers.
+#[repr(C)]
+pub struct RingMade {
+    pub refusal: u32,
+    pub ring: [u8; 36],
+    pub response1: [u8; 4],
+    pub response2: [u8; 4],
+}
+
+// The kinds of sealed key, named by the algorithm that seals them.
+pub enum Kind {
+    Ta31,
+    Ta51,
+    Ta81,
+    Ta91,
+}
+
+// What a kind byte names.
+pub enum Named {
+    Known(Kind),
+    Unknown,
+}
+
+impl Kind {
+    // The bytes of a cipher key and of a group key.
+    pub const CIPHER_KEY: usize = 10;
+
+    pub const GROUP_KEY: usize = 12;
+
+    // The highest key numbers of five and of sixteen bits.
+    pub const TA51_HIGHEST: u16 = 31;
+
+    pub const TA81_HIGHEST: u16 = 65535;
+
+    pub fn from_byte(b: u8) -> Named
+        ensures { λ r. ⌜ r ≡ kindOf b ⌝ }
+    {
+        match b {
+            1 => Named::Known(Kind::Ta31),
+            2 => Named::Known(Kind::Ta51),
+            3 => Named::Known(Kind::Ta81),
+            4 => Named::Known(Kind::Ta91),
+            _ => Named::Unknown,
+        }
+    }
+
+    pub fn key_length(self) -> usize
+        ensures { λ r. ⌜ r ≡ keyLength self ⌝ }
+    {
+        match self {
+            Kind::Ta31 => Self::CIPHER_KEY,
+            Kind::Ta51 => Self::CIPHER_KEY,
+            Kind::Ta81 => Self::CIPHER_KEY,
+            Kind::Ta91 => Self::GROUP_KEY,
+        }
+    }
+
+    // The highest key number; 0 where the kind has none.
+    pub fn highest_number(self) -> u16
+        ensures { λ r. ⌜ r ≡ highestNumber self ⌝ }
+    {
+        match self {
+            Kind::Ta31 => 0,
+            Kind::Ta51 => Self::TA51_HIGHEST,
+            Kind::Ta81 => Self::TA81_HIGHEST,
+            Kind::Ta91 => 0,
+        }
+    }
 }

@@ -1,0 +1,26 @@
+-- Two maps that are inverse between two properties: f takes what has P to what has Q, g takes it back, and each undoes the other.
+-- Every level of sealing is one: the core, a form, a sealed text, an identity, a record, a book.
+-- Assumes nothing.
+use mathlib.Core.Path.{_≡_, refl, sym, ap, _∙_, subst}
+use mathlib.Core.Logic.{_↔_}
+use mathlib.Core.List.{List}
+use Prim.Native.Nat.{ℕ}
+
+pub record Inverse (P Q : List ℕ → Type 0) (f g : List ℕ → List ℕ) : Type 0 where
+  pub to : (x : List ℕ) → P x → Q (f x)
+  pub from : (y : List ℕ) → Q y → P (g y)
+  pub back : (x : List ℕ) → P x → g (f x) ≡ x
+  pub forth : (y : List ℕ) → Q y → f (g y) ≡ y
+
+module _ {P Q : List ℕ → Type 0} {f g : List ℕ → List ℕ} (m : Inverse P Q f g) where
+  -- what has Q is the image of something that has P ..
+  pub is-image : (y : List ℕ) → Q y ↔ ((x : List ℕ) × P x × (f x ≡ y))
+  is-image y = (λ q. (g y, m .from y q, m .forth y q), λ e. subst Q (e .2) (m .to (e .0) (e .1)))
+
+  -- .. and of that alone
+  pub of-one : (x y : List ℕ) → P x → f x ≡ y → x ≡ g y
+  of-one x y p e = sym (m .back x p) ∙ ap g e
+
+  -- the other way round
+  pub reversed : Inverse Q P g f
+  reversed = record { to = m .from; from = m .to; back = m .forth; forth = m .back }

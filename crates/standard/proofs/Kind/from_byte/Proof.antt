@@ -1,0 +1,31 @@
+-- `standard::Kind::from_byte` meets its contract.
+-- Assumes nothing.
+use borrow.Author.Tests.{ne-eqb}
+use Rattle.standard.specs.Seals.{kindOf}
+use Rattle.standard.proofs.Kind.from_byte.Statement.{statement}
+use Rattle.standard.proofs.Kind.from_byte.Tie as tie
+
+returns : tie.Need-returns
+unfolding kindOf
+returns c = rw (c .match .keys1)
+
+returns-2 : tie.Need-returns-2
+unfolding kindOf
+returns-2 c = rw (c .match .keys2)
+
+returns-3 : tie.Need-returns-3
+unfolding kindOf
+returns-3 c = rw (c .match .keys3)
+
+returns-4 : tie.Need-returns-4
+unfolding kindOf
+returns-4 c = rw (c .match .keys4)
+
+returns-5 : tie.Need-returns-5
+unfolding kindOf
+returns-5 c =
+    let r = c .match .rest in
+    rw (ne-eqb _ _ (r .0 .0 .0 .1), ne-eqb _ _ (r .0 .0 .1), ne-eqb _ _ (r .0 .1), ne-eqb _ _ (r .1))
+
+pub from-byte-spec : {M : Type 1} → statement M
+from-byte-spec = tie.close (tie.spec returns returns-2 returns-3 returns-4 returns-5)

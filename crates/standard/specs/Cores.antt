@@ -1,0 +1,21 @@
+-- The two-block cores (01, Two-block cores; 000, 5.2, 5.3, 4.3.2).
+-- Assumes nothing.
+use mathlib.Core.List.{List, [], _∷_, _++_}
+use Prim.Native.Nat.{ℕ}
+use Rattle.standard.specs.Bytes.{_!_, _⊕_, part, xors}
+use Rattle.standard.specs.Hurdle.{encrypt, decrypt}
+
+-- left output = encrypt(left); right output = encrypt(right ⊕ left output)
+unfoldable pub bl1 : List ℕ → List ℕ → List ℕ
+bl1 k x =
+    let left : List ℕ = encrypt k (part 0 8 x) in
+    let right : List ℕ = encrypt k (xors 8 (part 8 8 x) left) in
+    part 0 8 left ++ part 0 8 right
+
+-- r = decrypt(right input); w is the left block, its last byte ⊕ that of r; left output = decrypt(w);
+-- right output: the first seven bytes of r ⊕ those of the left input. The sixteenth byte is dropped
+unfoldable pub bl2 : List ℕ → List ℕ → List ℕ
+bl2 k y =
+    let r : List ℕ = decrypt k (part 8 8 y) in
+    let w : List ℕ = part 0 7 y ++ (y ! 7 ⊕ r ! 7) ∷ [] in
+    part 0 8 (decrypt k w) ++ xors 7 r (part 0 7 y)

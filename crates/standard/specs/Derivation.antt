@@ -1,0 +1,100 @@
+-- Responses and derived keys (01, Responses and derived keys; 000, 5.6, 5.7, 5.13, 5.18).
+-- Assumes nothing.
+use mathlib.Core.Bool.{Bool, _&&_}
+use mathlib.Core.List.{List, [], _∷_, _++_}
+use Prim.Native.Nat.{ℕ, zero, suc, _+_, _-_}
+use lib.Dec.{eqb}
+use Rattle.standard.specs.Bytes.{_!_, byte, bit, _⊕_, table, part, xors, bytesOf, choose}
+use Rattle.standard.specs.Cores.{bl1}
+use Rattle.standard.specs.Expansions.{exp2, shr3}
+use Rattle.standard.specs.Mixing.{tb4}
+use Rattle.standard.specs.Refusals.{wrongLength, tooWide, long, fits, masks, first, answer10, answer16, authentication, ringMade}
+use Rattle.standard.specs.declared.Authentication.{Authentication}
+use Rattle.standard.specs.declared.Bytes10.{Bytes10}
+use Rattle.standard.specs.declared.Bytes16.{Bytes16}
+use Rattle.standard.specs.declared.RingMade.{RingMade}
+
+-- ---- TA11, TA21, TA41 (5.6)
+
+-- BL1 of EXP2(seed) under a key of 16 bytes
+abbrev pub core : List ℕ → List ℕ → List ℕ
+core k seed = bl1 k (exp2 seed)
+
+abbrev pub ta11 : List ℕ → List ℕ → List ℕ
+ta11 root seed = core root seed
+
+-- the seed's ten bytes reversed first
+abbrev pub ta21 : List ℕ → List ℕ → List ℕ
+ta21 root seed = core root (table 10 (λ i. seed ! (9 - i)))
+
+abbrev pub ta41 : List ℕ → List ℕ → List ℕ
+ta41 root seed = core root seed
+
+-- ---- TA12, TA22 (5.7): the same core under a session key, the challenge not reversed, split by two masks
+
+-- of the bytes B(n−1)..B0 of sixteen, those whose bit is set in the mask, higher bytes first
+abbrev pub chosenOf : ℕ → ℕ → List ℕ → List ℕ
+chosenOf zero m o = []
+chosenOf (suc i) m o = choose (eqb (bit i m) 1) (byte 16 o i ∷ chosenOf i m o) (chosenOf i m o)
+
+unfoldable pub chosen : ℕ → List ℕ → List ℕ
+chosen m o = chosenOf 16 m o
+
+-- ---- TA71 (5.13)
+
+-- A9..A4, A3 ⊕ B9 .. A0 ⊕ B6, B5..B0
+unfoldable pub ta71Key : List ℕ → List ℕ → List ℕ
+ta71Key a b = part 0 6 a ++ table 4 (λ i. a ! (6 + i) ⊕ b ! i) ++ part 4 6 b
+
+unfoldable pub ta71 : List ℕ → List ℕ → List ℕ
+ta71 a b = shr3 (core (ta71Key a b) (xors 10 a b))
+
+-- ---- TA101 (5.18): GCK0 ⊕ three copies of the 24-bit network identity and a zero byte
+
+unfoldable pub int : List ℕ → ℕ → List ℕ
+int gck0 mni = xors 10 gck0 (bytesOf 3 mni ++ bytesOf 3 mni ++ bytesOf 3 mni ++ 0 ∷ [])
+
+abbrev pub ta101 : List ℕ → List ℕ → ℕ → List ℕ
+ta101 ks gck0 mni = core ks (int gck0 mni)
+
+-- ---- the ring recipe: D, O, C, and both responses
+
+-- the outputs of TA12 and TA22 before their split
+abbrev pub output1 : (root rs rand1 : List ℕ) → List ℕ
+output1 root rs rand1 = core (ta11 root rs) rand1
+
+abbrev pub output2 : (root rs rand2 : List ℕ) → List ℕ
+output2 root rs rand2 = core (ta21 root rs) rand2
+
+unfoldable pub ring : (root rs rso rand1 rand2 c : List ℕ) (km : ℕ) → List ℕ
+ring root rs rso rand1 rand2 c km =
+    tb4 (chosen km (output1 root rs rand1)) (chosen km (output2 root rs rand2)) ++ part 0 16 (ta41 root rso) ++ part 0 10 c
+
+-- ---- the calls
+
+unfoldable pub ta11Call : List ℕ → List ℕ → Bytes16
+ta11Call root seed = answer16 (first ((long 16 root && long 10 seed, wrongLength) ∷ [])) (ta11 root seed)
+
+unfoldable pub ta21Call : List ℕ → List ℕ → Bytes16
+ta21Call root seed = answer16 (first ((long 16 root && long 10 seed, wrongLength) ∷ [])) (ta21 root seed)
+
+unfoldable pub ta41Call : List ℕ → List ℕ → Bytes16
+ta41Call root seed = answer16 (first ((long 16 root && long 10 seed, wrongLength) ∷ [])) (ta41 root seed)
+
+-- TA12 and TA22: session key, challenge, response mask, key mask
+unfoldable pub splitCall : List ℕ → List ℕ → ℕ → ℕ → Authentication
+splitCall ks rand rm km =
+    authentication (first ((long 16 ks && long 10 rand, wrongLength) ∷ masks rm km)) (chosen rm (core ks rand)) (chosen km (core ks rand))
+
+unfoldable pub ta71Call : List ℕ → List ℕ → Bytes10
+ta71Call a b = answer10 (first ((long 10 a && long 10 b, wrongLength) ∷ [])) (ta71 a b)
+
+unfoldable pub ta101Call : List ℕ → List ℕ → ℕ → Bytes16
+ta101Call ks gck0 mni =
+    answer16 (first ((long 16 ks && long 10 gck0, wrongLength) ∷ (fits 24 mni, tooWide) ∷ [])) (ta101 ks gck0 mni)
+
+unfoldable pub ringCall : (root rs rso rand1 rand2 c : List ℕ) (rm km : ℕ) → RingMade
+ringCall root rs rso rand1 rand2 c rm km =
+    ringMade
+    (first ((long 16 root && long 10 rs && long 10 rso && long 10 rand1 && long 10 rand2 && long 10 c, wrongLength) ∷ masks rm km))
+    (ring root rs rso rand1 rand2 c km) (chosen rm (output1 root rs rand1)) (chosen rm (output2 root rs rand2))

@@ -1,0 +1,186 @@
+-- Sealing and unsealing (01, Sealing and unsealing; 000, 5.8 to 5.11, 5.14 to 5.17).
+-- A body is the 12 bytes that a plain record has for a key: kind 1 key and two zero bytes; kind 2 key, zero byte, number; kind 3 key
+-- and 16-bit number; kind 4 the group key.
+-- Assumes nothing.
+use mathlib.Core.Bool.{Bool, _&&_, not}
+use mathlib.Core.List.{List, [], _∷_, _++_}
+use Prim.Native.Nat.{ℕ, _+_, _*_, _%_}
+use lib.Dec.{eqb, leb, ltb}
+use Rattle.standard.specs.Bytes.{_!_, table, part, xors, zeros, bytesOf, same, choose}
+use Rattle.standard.specs.Cores.{bl1, bl2}
+use Rattle.standard.specs.Expansions.{ungrouped, inserted, expected, by1, by3, by16, exp1, exp3, exp4, x16, shr1, shr2}
+use Rattle.standard.specs.Refusals.{wrongLength, numberTooHigh, notZero, long, first, answer15, unsealed, unsealedNumbered, unsealedGroup}
+use Rattle.standard.specs.declared.Bytes15.{Bytes15}
+use Rattle.standard.specs.declared.KeyNumber.{KeyNumber}
+use Rattle.standard.specs.declared.Kind.{Kind}
+use Rattle.standard.specs.declared.Kind.the-variants.{Ta31, Ta51, Ta81, Ta91}
+use Rattle.standard.specs.declared.Named.{Named}
+use Rattle.standard.specs.declared.Named.the-variants.{Known, Unknown}
+use Rattle.standard.specs.declared.Unsealed.{Unsealed}
+use Rattle.standard.specs.declared.UnsealedGroup.{UnsealedGroup}
+use Rattle.standard.specs.declared.UnsealedNumbered.{UnsealedNumbered}
+use Rattle.standard.specs.declared.Version.{Version}
+
+-- ---- the kinds
+
+-- the kind that a byte names
+unfoldable pub kindOf : ℕ → Named
+kindOf b =
+    choose (eqb b 1) (Known Ta31) (choose (eqb b 2) (Known Ta51) (choose (eqb b 3) (Known Ta81) (choose (eqb b 4) (Known Ta91) Unknown)))
+
+abbrev pub keyLength : Kind → ℕ
+keyLength Ta31 = 10
+keyLength Ta51 = 10
+keyLength Ta81 = 10
+keyLength Ta91 = 12
+
+abbrev pub highestNumber : Kind → ℕ
+highestNumber Ta31 = 0
+highestNumber Ta51 = 31
+highestNumber Ta81 = 65535
+highestNumber Ta91 = 0
+
+-- ---- the key of the core, from a sealing key and a version of two bytes, the high one first
+
+-- the version written n / 2 times
+abbrev pub repeated : ℕ → List ℕ → List ℕ
+repeated n v = table n (λ i. v ! (i % 2))
+
+-- kind 1 (5.8.2)
+unfoldable pub key10 : List ℕ → List ℕ → List ℕ
+key10 s v = exp4 (xors 10 (repeated 10 v) s)
+
+-- kinds 2 to 4 (5.10.2, 5.14.2, 5.16.2)
+unfoldable pub key16 : List ℕ → List ℕ → List ℕ
+key16 s v = xors 16 (repeated 16 v) s
+
+-- ---- the form of a kind
+
+-- input: a body to BL1's data input, 16 bytes that end in a zero byte. shrink: BL2's output, 15 bytes, to a body. clear: every inserted
+-- ⊕ byte of the 15 is right, and for kind 2 the number byte's top three bits are zero. fault: 0, or the refusal of a body that may not
+-- be sealed. key: sealing key and version to the core's key
+pub record Form : Type 0 where
+  pub input : List ℕ → List ℕ
+  pub shrink : List ℕ → List ℕ
+  pub clear : List ℕ → Bool
+  pub fault : List ℕ → ℕ
+  pub key : List ℕ → List ℕ → List ℕ
+
+-- EXP1 of the key, then a zero byte
+abbrev pub form31 : Form
+form31 = record {
+  input = λ b. exp1 b ++ 0 ∷ [];
+  shrink = λ u. shr1 u ++ 0 ∷ 0 ∷ [];
+  clear = λ u. same (inserted by1 0 u) (expected by1 0 u);
+  fault = λ b. first ((eqb (b ! 10) 0 && eqb (b ! 11) 0, notZero) ∷ []);
+  key = key10;
+}
+
+-- EXP3 of key then number byte, then a zero byte; the number is the low five bits of its byte
+abbrev pub form51 : Form
+form51 = record {
+  input = λ b. exp3 (part 0 10 b ++ b ! 11 ∷ []) ++ 0 ∷ [];
+  shrink = λ u. part 0 10 (shr2 u) ++ 0 ∷ shr2 u ! 10 % 32 ∷ [];
+  clear = λ u. same (inserted by3 0 u) (expected by3 0 u) && ltb (u ! 13) 32;
+  fault = λ b. first ((eqb (b ! 10) 0, notZero) ∷ (leb (b ! 11) (highestNumber Ta51), numberTooHigh) ∷ []);
+  key = key16;
+}
+
+-- X16 of key then number, or of a group key
+abbrev pub form81 : Form
+form81 = record {
+  input = λ b. x16 b;
+  shrink = λ u. ungrouped by16 0 u;
+  clear = λ u. same (inserted by16 0 u) (expected by16 0 u);
+  fault = λ b. 0;
+  key = key16;
+}
+
+abbrev pub form : Kind → Form
+form Ta31 = form31
+form Ta51 = form51
+form Ta81 = form81
+form Ta91 = form81
+
+-- ---- sealing, by a kind's form
+
+-- byte 8 of sixteen, the eighth from the left, is discarded; to unseal, a zero byte is put back there
+abbrev pub without8 : List ℕ → List ℕ
+without8 o = part 0 7 o ++ part 8 8 o
+
+abbrev pub with8 : List ℕ → List ℕ
+with8 t = part 0 7 t ++ 0 ∷ part 7 8 t
+
+-- under the core's key: the sealed text of a body, and what a text opens to before it is shrunk
+unfoldable pub sealed : Form → List ℕ → List ℕ → List ℕ
+sealed F k b = without8 (bl1 k (F .input b))
+
+unfoldable pub opened : List ℕ → List ℕ → List ℕ
+opened k t = bl2 k (with8 t)
+
+-- by a sealing key and a version: the sealed text of a body; the body of a text; whether the text's flag is clear
+unfoldable pub seal : Form → List ℕ → List ℕ → List ℕ → List ℕ
+seal F s v b = sealed F (F .key s v) b
+
+unfoldable pub unseal : Form → List ℕ → List ℕ → List ℕ → List ℕ
+unseal F s v t = F .shrink (opened (F .key s v) t)
+
+unfoldable pub clears : Form → List ℕ → List ℕ → List ℕ → Bool
+clears F s v t = F .clear (opened (F .key s v) t)
+
+-- ---- the bodies of single keys
+
+abbrev pub body31 : List ℕ → List ℕ
+body31 ck = part 0 10 ck ++ zeros 2
+
+abbrev pub body51 : List ℕ → ℕ → List ℕ
+body51 ck n = part 0 10 ck ++ 0 ∷ n ∷ []
+
+abbrev pub body81 : List ℕ → ℕ → List ℕ
+body81 ck n = part 0 10 ck ++ bytesOf 2 n
+
+abbrev pub body91 : List ℕ → List ℕ
+body91 gk = part 0 12 gk
+
+-- the 16-bit number of a body
+abbrev pub number2 : List ℕ → ℕ
+number2 b = 256 * b ! 10 + b ! 11
+
+-- ---- the calls
+
+unfoldable pub ta31Call : List ℕ → Version → List ℕ → Bytes15
+ta31Call ck v s = answer15 (first ((long 10 ck && long 10 s, wrongLength) ∷ [])) (seal form31 s (bytesOf 2 (v .0)) (body31 ck))
+
+unfoldable pub ta32Call : List ℕ → List ℕ → Version → Unsealed
+ta32Call t s v =
+    unsealed (first ((long 15 t && long 10 s, wrongLength) ∷ []))
+    (part 0 10 (unseal form31 s (bytesOf 2 (v .0)) t)) (not (clears form31 s (bytesOf 2 (v .0)) t))
+
+unfoldable pub ta51Call : List ℕ → Version → List ℕ → KeyNumber → Bytes15
+ta51Call ck v s n =
+    answer15 (first ((long 10 ck && long 16 s, wrongLength) ∷ (leb (n .0) (highestNumber Ta51), numberTooHigh) ∷ []))
+    (seal form51 s (bytesOf 2 (v .0)) (body51 ck (n .0)))
+
+unfoldable pub ta52Call : List ℕ → List ℕ → Version → UnsealedNumbered
+ta52Call t s v =
+    unsealedNumbered (first ((long 15 t && long 16 s, wrongLength) ∷ []))
+    (part 0 10 (unseal form51 s (bytesOf 2 (v .0)) t)) (unseal form51 s (bytesOf 2 (v .0)) t ! 11)
+    (not (clears form51 s (bytesOf 2 (v .0)) t))
+
+unfoldable pub ta81Call : List ℕ → Version → List ℕ → KeyNumber → Bytes15
+ta81Call ck v s n =
+    answer15 (first ((long 10 ck && long 16 s, wrongLength) ∷ [])) (seal form81 s (bytesOf 2 (v .0)) (body81 ck (n .0)))
+
+unfoldable pub ta82Call : List ℕ → List ℕ → Version → UnsealedNumbered
+ta82Call t s v =
+    unsealedNumbered (first ((long 15 t && long 16 s, wrongLength) ∷ []))
+    (part 0 10 (unseal form81 s (bytesOf 2 (v .0)) t)) (number2 (unseal form81 s (bytesOf 2 (v .0)) t))
+    (not (clears form81 s (bytesOf 2 (v .0)) t))
+
+unfoldable pub ta91Call : List ℕ → Version → List ℕ → Bytes15
+ta91Call gk v s = answer15 (first ((long 12 gk && long 16 s, wrongLength) ∷ [])) (seal form81 s (bytesOf 2 (v .0)) (body91 gk))
+
+unfoldable pub ta92Call : List ℕ → List ℕ → Version → UnsealedGroup
+ta92Call t s v =
+    unsealedGroup (first ((long 15 t && long 16 s, wrongLength) ∷ []))
+    (unseal form81 s (bytesOf 2 (v .0)) t) (not (clears form81 s (bytesOf 2 (v .0)) t))
