@@ -1,9 +1,8 @@
-// Copies between slices and typed arrays.
+// Strings of any length to typed arrays, and the ⊕ of two.
 ghost use mathlib.Core.List.{_++_};
 ghost use mathlib.Core.Path.{_≡_};
 ghost use lib.ListN.{length, take, drop};
-ghost use Prim.Native.Nat.{_≤_};
-ghost use Rattle.standard.specs.Bytes.{part};
+ghost use Rattle.standard.specs.Bytes.{part, xors};
 ghost use Rattle.arrays.specs.Least.{Least};
 
 fn least(a: usize, b: usize) -> usize
@@ -33,10 +32,62 @@ pub fn array8(s: &[u8]) -> [u8; 8]
     a
 }
 
+pub fn array10(s: &[u8]) -> [u8; 10]
+    ensures { λ r. ⌜ r ≡ part 0 10 (now (s .entry)) ⌝ }
+{
+    let mut a = [0u8; 10];
+    copy(s, &mut a);
+    a
+}
+
+pub fn array12(s: &[u8]) -> [u8; 12]
+    ensures { λ r. ⌜ r ≡ part 0 12 (now (s .entry)) ⌝ }
+{
+    let mut a = [0u8; 12];
+    copy(s, &mut a);
+    a
+}
+
+pub fn array15(s: &[u8]) -> [u8; 15]
+    ensures { λ r. ⌜ r ≡ part 0 15 (now (s .entry)) ⌝ }
+{
+    let mut a = [0u8; 15];
+    copy(s, &mut a);
+    a
+}
+
 pub fn array16(s: &[u8]) -> [u8; 16]
     ensures { λ r. ⌜ r ≡ part 0 16 (now (s .entry)) ⌝ }
 {
     let mut a = [0u8; 16];
     copy(s, &mut a);
     a
+}
+
+// `out` becomes the ⊕ of two strings of its length.
+fn xor_into(a: &[u8], b: &[u8], out: &mut [u8])
+    requires { ⌜ length (now a) ≡ length (now out) ⌝ }
+    requires { ⌜ length (now b) ≡ length (now out) ⌝ }
+    ensures { λ _. ⌜ now (out .exit) ≡ xors (length (now (out .entry))) (now (a .entry)) (now (b .entry)) ⌝ }
+{
+    let n = out.len();
+    for i in 0..n {
+        out[i] = a[i] ^ b[i];
+    }
+}
+
+pub fn xor10(a: [u8; 10], b: [u8; 10]) -> [u8; 10]
+    ensures { λ r. ⌜ r ≡ xors 10 a b ⌝ }
+{
+    let mut out = [0u8; 10];
+    xor_into(&a, &b, &mut out);
+    out
+}
+
+pub fn xor16(a: [u8; 16], b: [u8; 16]) -> [u8; 16]
+    ensures { λ r. ⌜ r ≡ xors 16 a b ⌝ }
+{
+    let mut out = [0u8; 16];
+    xor_into(&a, &b, &mut out);
+    out
 }

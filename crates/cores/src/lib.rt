@@ -1,0 +1,200 @@
+// The two-block cores BL1 and BL2, and the expansions EXP2 and EXP4, on typed arrays.
+use hurdle::decrypt_with;
+use hurdle::encrypt_with;
+use hurdle::schedule;
+use std::num::wrapping_add_u8;
+ghost use mathlib.Core.List.{[], _∷_, _++_};
+ghost use mathlib.Core.Path.{_≡_};
+ghost use Rattle.standard.specs.Bytes.{_!_, _⊕_, _⊞_, part, xors};
+ghost use Rattle.standard.specs.Cores.{bl1 as bl1Of, bl2 as bl2Of};
+ghost use Rattle.standard.specs.Expansions.{exp1, exp2 as exp2Of, exp4 as exp4Of, sumAt, xorOf};
+ghost use Rattle.cores.specs.Steps.{Sums as SumsOf, withSums};
+
+// The byte sum of the ⊕ values of the five pairs.
+fn sum_of_xors(b: [u8; 10]) -> u8
+    ensures { λ r. ⌜ r ≡ xorOf 0 2 b ⊞ xorOf 2 2 b ⊞ xorOf 4 2 b ⊞ xorOf 6 2 b ⊞ xorOf 8 2 b ⌝ }
+{
+    let two = wrapping_add_u8(b[0] ^ b[1], b[2] ^ b[3]);
+    let three = wrapping_add_u8(two, b[4] ^ b[5]);
+    let four = wrapping_add_u8(three, b[6] ^ b[7]);
+    wrapping_add_u8(four, b[8] ^ b[9])
+}
+
+// After each pair its ⊕, and the last byte.
+fn with_xors(b: [u8; 10], last: u8) -> [u8; 16]
+    ensures { λ r. ⌜ r ≡ exp1 b ++ (last ∷ []) ⌝ }
+{
+    [
+        b[0],
+        b[1],
+        b[0] ^ b[1],
+        b[2],
+        b[3],
+        b[2] ^ b[3],
+        b[4],
+        b[5],
+        b[4] ^ b[5],
+        b[6],
+        b[7],
+        b[6] ^ b[7],
+        b[8],
+        b[9],
+        b[8] ^ b[9],
+        last,
+    ]
+}
+
+pub fn exp2(b: [u8; 10]) -> [u8; 16]
+    ensures { λ r. ⌜ r ≡ exp2Of b ⌝ }
+{
+    with_xors(b, sum_of_xors(b))
+}
+
+// The byte sums of the five pairs.
+struct Sums {
+    a: u8,
+    b: u8,
+    c: u8,
+    d: u8,
+    e: u8,
+}
+
+fn pair_sums(x: [u8; 10]) -> Sums
+    ensures { λ s. ⌜ SumsOf x (s .a) (s .b) (s .c) (s .d) (s .e) ⌝ }
+{
+    Sums {
+        a: wrapping_add_u8(x[0], x[1]),
+        b: wrapping_add_u8(x[2], x[3]),
+        c: wrapping_add_u8(x[4], x[5]),
+        d: wrapping_add_u8(x[6], x[7]),
+        e: wrapping_add_u8(x[8], x[9]),
+    }
+}
+
+// Leftmost the ⊕ of the sums, and before each pair its sum.
+fn with_sums(x: [u8; 10], s: Sums) -> [u8; 16]
+    ensures { λ r. ⌜ r ≡ withSums x (s .a) (s .b) (s .c) (s .d) (s .e) ⌝ }
+{
+    [
+        s.a ^ s.b ^ s.c ^ s.d ^ s.e,
+        s.a,
+        x[0],
+        x[1],
+        s.b,
+        x[2],
+        x[3],
+        s.c,
+        x[4],
+        x[5],
+        s.d,
+        x[6],
+        x[7],
+        s.e,
+        x[8],
+        x[9],
+    ]
+}
+
+pub fn exp4(b: [u8; 10]) -> [u8; 16]
+    ensures { λ r. ⌜ r ≡ exp4Of b ⌝ }
+{
+    with_sums(b, pair_sums(b))
+}
+
+fn left(x: [u8; 16]) -> [u8; 8]
+    ensures { λ r. ⌜ r ≡ part 0 8 x ⌝ }
+{
+    [x[0], x[1], x[2], x[3], x[4], x[5], x[6], x[7]]
+}
+
+fn right(x: [u8; 16]) -> [u8; 8]
+    ensures { λ r. ⌜ r ≡ part 8 8 x ⌝ }
+{
+    [x[8], x[9], x[10], x[11], x[12], x[13], x[14], x[15]]
+}
+
+fn xor8(a: [u8; 8], b: [u8; 8]) -> [u8; 8]
+    ensures { λ r. ⌜ r ≡ xors 8 a b ⌝ }
+{
+    [
+        a[0] ^ b[0],
+        a[1] ^ b[1],
+        a[2] ^ b[2],
+        a[3] ^ b[3],
+        a[4] ^ b[4],
+        a[5] ^ b[5],
+        a[6] ^ b[6],
+        a[7] ^ b[7],
+    ]
+}
+
+fn joined(l: [u8; 8], r: [u8; 8]) -> [u8; 16]
+    ensures { λ o. ⌜ o ≡ part 0 8 l ++ part 0 8 r ⌝ }
+{
+    [
+        l[0],
+        l[1],
+        l[2],
+        l[3],
+        l[4],
+        l[5],
+        l[6],
+        l[7],
+        r[0],
+        r[1],
+        r[2],
+        r[3],
+        r[4],
+        r[5],
+        r[6],
+        r[7],
+    ]
+}
+
+pub fn bl1(key: [u8; 16], x: [u8; 16]) -> [u8; 16]
+    ensures { λ r. ⌜ r ≡ bl1Of key x ⌝ }
+{
+    let keys = schedule(key);
+    let l = encrypt_with(&keys, left(x));
+    let r = encrypt_with(&keys, xor8(right(x), l));
+    joined(l, r)
+}
+
+// The left block of y, its last byte ⊕ that of r.
+fn mended(y: [u8; 16], r: [u8; 8]) -> [u8; 8]
+    ensures { λ w. ⌜ w ≡ part 0 7 y ++ ((y ! 7 ⊕ r ! 7) ∷ []) ⌝ }
+{
+    [y[0], y[1], y[2], y[3], y[4], y[5], y[6], y[7] ^ r[7]]
+}
+
+// The left output, and the first seven bytes of r ⊕ those of y.
+fn joined7(l: [u8; 8], r: [u8; 8], y: [u8; 16]) -> [u8; 15]
+    ensures { λ o. ⌜ o ≡ part 0 8 l ++ xors 7 r (part 0 7 y) ⌝ }
+{
+    [
+        l[0],
+        l[1],
+        l[2],
+        l[3],
+        l[4],
+        l[5],
+        l[6],
+        l[7],
+        r[0] ^ y[0],
+        r[1] ^ y[1],
+        r[2] ^ y[2],
+        r[3] ^ y[3],
+        r[4] ^ y[4],
+        r[5] ^ y[5],
+        r[6] ^ y[6],
+    ]
+}
+
+pub fn bl2(key: [u8; 16], y: [u8; 16]) -> [u8; 15]
+    ensures { λ r. ⌜ r ≡ bl2Of key y ⌝ }
+{
+    let keys = schedule(key);
+    let r = decrypt_with(&keys, right(y));
+    let l = decrypt_with(&keys, mended(y, r));
+    joined7(l, r, y)
+}

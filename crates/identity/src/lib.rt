@@ -1,0 +1,190 @@
+// TA61 and its inverse: the K strings, the permutation P, and the calls.
+use arrays::array10;
+use cores::exp4;
+use hurdle::encrypt_block;
+use hurdle::substitute;
+use hurdle::substitute_back;
+use standard::Identity;
+use std::num::wrapping_add_u8;
+use std::num::wrapping_sub_u8;
+ghost use mathlib.Core.List.{[], _∷_};
+ghost use mathlib.Core.Path.{_≡_};
+ghost use Prim.Native.Nat.{_+_, _-_, _*_, _%_};
+ghost use Rattle.standard.specs.Bytes.{_!_, _⊕_, table, xors, bytesOf, number3 as number3Of};
+ghost use Rattle.standard.specs.Identity.{mix as mixOf, unmix as unmixOf, P, P⁻¹, bc as bcOf, K1, K2, K3, hide as hideOf, reveal as revealOf, ta61Call, ta61⁻¹Call};
+
+fn difference(a: u8, b: u8) -> u8
+    ensures { λ r. ⌜ r ≡ (a + 256 - b) % 256 ⌝ }
+{
+    wrapping_sub_u8(a, b)
+}
+
+// 2x + 2y − z, modulo 256.
+fn mix(x: u8, y: u8, z: u8) -> u8
+    ensures { λ r. ⌜ r ≡ mixOf x y z ⌝ }
+{
+    let sum = wrapping_add_u8(wrapping_add_u8(x, x), wrapping_add_u8(y, y));
+    difference(sum, z)
+}
+
+fn unmix(x: u8, y: u8, z: u8) -> u8
+    ensures { λ r. ⌜ r ≡ unmixOf x y z ⌝ }
+{
+    ((57 * (mix(x, y, z) as u16)) % 256) as u8
+}
+
+fn mixed(a: [u8; 3]) -> [u8; 3]
+    ensures { λ r. ⌜ r ≡ mixOf (a ! 0) (a ! 1) (a ! 2) ∷ mixOf (a ! 0) (a ! 2) (a ! 1) ∷ mixOf (a ! 1) (a ! 2) (a ! 0) ∷ [] ⌝ }
+{
+    let x = mix(a[0], a[1], a[2]);
+    let y = mix(a[0], a[2], a[1]);
+    let z = mix(a[1], a[2], a[0]);
+    [x, y, z]
+}
+
+fn unmixed(a: [u8; 3]) -> [u8; 3]
+    ensures { λ r. ⌜ r ≡ unmixOf (a ! 0) (a ! 1) (a ! 2) ∷ unmixOf (a ! 0) (a ! 2) (a ! 1) ∷ unmixOf (a ! 1) (a ! 2) (a ! 0) ∷ [] ⌝ }
+{
+    let x = unmix(a[0], a[1], a[2]);
+    let y = unmix(a[0], a[2], a[1]);
+    let z = unmix(a[1], a[2], a[0]);
+    [x, y, z]
+}
+
+fn permuted(a: [u8; 3]) -> [u8; 3]
+    ensures { λ r. ⌜ r ≡ P a ⌝ }
+{
+    substitute(mixed(a))
+}
+
+fn permuted_back(o: [u8; 3]) -> [u8; 3]
+    ensures { λ r. ⌜ r ≡ P⁻¹ o ⌝ }
+{
+    unmixed(substitute_back(o))
+}
+
+fn xor3(a: [u8; 3], b: [u8; 3]) -> [u8; 3]
+    ensures { λ r. ⌜ r ≡ xors 3 a b ⌝ }
+{
+    [a[0] ^ b[0], a[1] ^ b[1], a[2] ^ b[2]]
+}
+
+fn k1(b: [u8; 8]) -> [u8; 3]
+    ensures { λ r. ⌜ r ≡ K1 b ⌝ }
+{
+    [b[0], b[3], b[6]]
+}
+
+fn k2(b: [u8; 8]) -> [u8; 3]
+    ensures { λ r. ⌜ r ≡ K2 b ⌝ }
+{
+    [b[1], b[4], b[7]]
+}
+
+fn k3(b: [u8; 8]) -> [u8; 3]
+    ensures { λ r. ⌜ r ≡ K3 b ⌝ }
+{
+    [b[2], b[5], b[0]]
+}
+
+// The common key's ten bytes, shrunk to eight.
+fn shrunk(a: [u8; 10]) -> [u8; 8]
+    ensures { λ r. ⌜ r ≡ table 8 (λ i. a ! i ⊕ a ! (i + 2)) ⌝ }
+{
+    [
+        a[0] ^ a[2],
+        a[1] ^ a[3],
+        a[2] ^ a[4],
+        a[3] ^ a[5],
+        a[4] ^ a[6],
+        a[5] ^ a[7],
+        a[6] ^ a[8],
+        a[7] ^ a[9],
+    ]
+}
+
+// The one cipher run under a common key, from which the K strings come.
+pub fn bc(common_key: [u8; 10]) -> [u8; 8]
+    ensures { λ r. ⌜ r ≡ bcOf «common_key» ⌝ }
+{
+    encrypt_block(exp4(common_key), shrunk(common_key))
+}
+
+// Three bytes of identity, encrypted, from the cipher run's output.
+pub fn hide(b: [u8; 8], x: [u8; 3]) -> [u8; 3]
+    ensures { λ r. ⌜ r ≡ hideOf b x ⌝ }
+{
+    let once = permuted(xor3(x, k1(b)));
+    let twice = permuted(xor3(once, k2(b)));
+    xor3(twice, k3(b))
+}
+
+// And recovered.
+pub fn reveal(b: [u8; 8], y: [u8; 3]) -> [u8; 3]
+    ensures { λ r. ⌜ r ≡ revealOf b y ⌝ }
+{
+    let once = permuted_back(xor3(y, k3(b)));
+    let twice = permuted_back(xor3(once, k2(b)));
+    xor3(twice, k1(b))
+}
+
+fn bytes3(n: u64) -> [u8; 3]
+    ensures { λ r. ⌜ r ≡ bytesOf 3 n ⌝ }
+{
+    [
+        (n / 65536 % 256) as u8,
+        (n / 256 % 256) as u8,
+        (n % 256) as u8,
+    ]
+}
+
+fn number(a: u8, b: u8, c: u8) -> u32
+    ensures { λ r. ⌜ r ≡ 65536 * a + 256 * b + c ⌝ }
+{
+    65536 * (a as u32) + 256 * (b as u32) + (c as u32)
+}
+
+fn number3(b: [u8; 3]) -> u32
+    ensures { λ r. ⌜ r ≡ number3Of b ⌝ }
+{
+    number(b[0], b[1], b[2])
+}
+
+fn refused_identity(number: u32) -> Identity
+    ensures { λ r. ⌜ r ≡ record { refusal = number; identity = 0 } ⌝ }
+{
+    Identity {
+        refusal: number,
+        identity: 0,
+    }
+}
+
+pub fn ta61(common_key: &[u8], identity: u64) -> Identity
+    ensures { λ r. ⌜ r ≡ ta61Call (now («common_key» .entry)) identity ⌝ }
+{
+    if common_key.len() != 10 {
+        return refused_identity(11);
+    }
+    if identity >= 16777216 {
+        return refused_identity(10);
+    }
+    Identity {
+        refusal: 0,
+        identity: number3(hide(bc(array10(common_key)), bytes3(identity))),
+    }
+}
+
+pub fn ta61_inverse(common_key: &[u8], encrypted_identity: u64) -> Identity
+    ensures { λ r. ⌜ r ≡ ta61⁻¹Call (now («common_key» .entry)) «encrypted_identity» ⌝ }
+{
+    if common_key.len() != 10 {
+        return refused_identity(11);
+    }
+    if encrypted_identity >= 16777216 {
+        return refused_identity(10);
+    }
+    Identity {
+        refusal: 0,
+        identity: number3(reveal(bc(array10(common_key)), bytes3(encrypted_identity))),
+    }
+}

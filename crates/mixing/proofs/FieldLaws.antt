@@ -1,0 +1,41 @@
+-- What tests tell, and TB5 and TB6 made in two halves of 40 bits.
+-- Assumes nothing.
+use mathlib.Core.Bool.{Bool, true, false, not}
+use mathlib.Core.List.{List, _++_}
+use mathlib.Core.Path.{_≡_, sym, ap, _∙_}
+use Prim.Native.Nat.{ℕ, _+_, _*_, _/_, _%_, _^_, _<_, _≤_}
+use native.Mathlib.Omega.{arith}
+use borrow.Author.Tests.{leb-true, not-true, not-false}
+use Rattle.standard.proofs.BytesLaws.{and-split}
+use Rattle.standard.proofs.MixingLaws.{bytes-cat}
+use Rattle.standard.specs.Bytes.{xors, bytesOf}
+use Rattle.standard.specs.Mixing.{tb5, tb6}
+use Rattle.standard.specs.Refusals.{wide}
+
+-- a test that a call answered
+pub failed : {r t : Bool} → r ≡ t → not r ≡ true → t ≡ false
+failed {r} e h = sym e ∙ not-true r h
+
+pub passed : {r t : Bool} → r ≡ t → not r ≡ false → t ≡ true
+passed {r} e h = sym e ∙ not-false r h
+
+pub wide-split : (w : ℕ) → wide w ≡ true → (16 ≤ w) × (w ≤ 32)
+wide-split w t = let s = and-split _ _ t in (leb-true 16 w (s .0), leb-true w 32 (s .1))
+
+halves : (key : List ℕ) (left right n : ℕ) → right < 2 ^ 40 → left * 2 ^ 40 + right ≡ n
+    → xors 10 key (bytesOf 5 left ++ bytesOf 5 right) ≡ xors 10 key (bytesOf 10 n)
+halves key left right n h e = ap (xors 10 key) (sym (bytes-cat 5 5 left right h) ∙ ap (bytesOf 10) e)
+
+pub cell-halves : (key : List ℕ) (la cn cc : ℕ) → la < 2 ^ 14 → cn < 2 ^ 12 → cc < 2 ^ 6
+    → xors 10 key
+    (bytesOf 5 (((la * 4096 + cn) * 64 + cc) * 256 + cn / 16)
+    ++ bytesOf 5 ((((cn % 16 * 64 + cc) * 4096 + cn) * 64 + cc) * 4096 + cn))
+    ≡ tb5 key la cn cc
+unfolding tb5
+cell-halves key la cn cc a b d = halves key _ _ _ (omega arith) (omega arith)
+
+pub member-halves : (key : List ℕ) (cn ssi : ℕ) → cn < 2 ^ 12 → ssi < 2 ^ 24
+    → xors 10 key (bytesOf 5 ((cn * 16777216 + ssi) * 16 + cn / 256) ++ bytesOf 5 ((cn % 256 * 16777216 + ssi) * 256 + ssi % 256))
+    ≡ tb6 key cn ssi
+unfolding tb6
+member-halves key cn ssi a b = halves key _ _ _ (omega arith) (omega arith)

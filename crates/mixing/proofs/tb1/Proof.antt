@@ -1,0 +1,58 @@
+-- `mixing::tb1` meets its contract.
+-- Assumes nothing.
+use native.Mathlib.Omega.{arith}
+use borrow.Author.Needs.{needs}
+use borrow.Author.Tests.{ltb-true}
+use Rattle.mixing.proofs.FieldLaws.{failed, passed, wide-split}
+use Rattle.standard.specs.Mixing.{tb1Call}
+use Rattle.mixing.proofs.tb1.Statement.{statement}
+use Rattle.mixing.proofs.tb1.Tie as tie
+
+wide-requires : tie.Need-wide-requires
+wide-requires c κs = search needs
+
+refused16-requires : tie.Need-refused16-requires
+refused16-requires c κs = search needs
+
+returns : tie.Need-returns
+unfolding tb1Call
+returns c = rw (c .refused16 .ensures, failed (c .before .before .wide .ensures) (c .before .if1 .taken))
+
+fits-in-requires : tie.Need-fits-in-requires
+fits-in-requires c κs =
+    let x = c .before .before .args in
+    omega (arith, wide-split (x .width) (passed (c .before .wide .ensures) (c .if1 .left)))
+
+refused16-requires-2 : tie.Need-refused16-requires-2
+refused16-requires-2 c κs = search needs
+
+returns-2 : tie.Need-returns-2
+unfolding tb1Call
+returns-2 c =
+    let x = c .before .before .before in
+    rw (c .refused162 .ensures, passed (x .before .wide .ensures) (x .if1 .left), failed (c .before .before .fits-in .ensures) (c .before .if2 .taken))
+
+repeated-requires : tie.Need-repeated-requires
+repeated-requires c κs =
+    let x = c .before .before in
+    let s = wide-split _ (passed (x .before .wide .ensures) (x .if1 .left)) in
+    (s .0, s .1, ltb-true _ _ (passed (c .before .fits-in .ensures) (c .if2 .left)))
+
+returns-3 : tie.Need-returns-3
+unfolding tb1Call
+returns-3 c =
+    let x = c .before .before .before in
+    rw (c .repeated .ensures, passed (x .before .wide .ensures) (x .if1 .left), passed (c .before .before .fits-in .ensures) (c .before .if2 .left))
+
+pub tb1-spec : {M : Type 1} → statement M
+tb1-spec =
+    tie.close
+    (tie.spec
+    wide-requires
+    refused16-requires
+    returns
+    fits-in-requires
+    refused16-requires-2
+    returns-2
+    repeated-requires
+    returns-3)

@@ -1,0 +1,170 @@
+// TB1 to TB7, the mixing algorithms of TAA1 (000, clause 5).
+mod fields;
+
+use crate::fields::cell;
+use crate::fields::fits_in;
+use crate::fields::member;
+use crate::fields::repeated;
+use crate::fields::wide;
+use arrays::array10;
+use arrays::array12;
+use arrays::array16;
+use arrays::xor10;
+use arrays::xor16;
+use standard::Bytes10;
+use standard::Bytes16;
+ghost use mathlib.Core.Path.{_≡_};
+ghost use Rattle.standard.specs.Bytes.{zeros};
+ghost use Rattle.standard.specs.Mixing.{tb4 as tb4Of, tb7 as tb7Of, tb1Call, tb2Call, tb3Call, tb4Call, tb5Call, tb6Call, tb7Call};
+
+// TB4 on typed arrays.
+pub fn mix4(a: [u8; 10], b: [u8; 10]) -> [u8; 10]
+    ensures { λ r. ⌜ r ≡ tb4Of a b ⌝ }
+{
+    xor10(a, b)
+}
+
+// TB7 on a typed array: after each three bytes, their ⊕.
+fn grouped(b: [u8; 12]) -> [u8; 16]
+    ensures { λ r. ⌜ r ≡ tb7Of b ⌝ }
+{
+    [
+        b[0],
+        b[1],
+        b[2],
+        b[0] ^ b[1] ^ b[2],
+        b[3],
+        b[4],
+        b[5],
+        b[3] ^ b[4] ^ b[5],
+        b[6],
+        b[7],
+        b[8],
+        b[6] ^ b[7] ^ b[8],
+        b[9],
+        b[10],
+        b[11],
+        b[9] ^ b[10] ^ b[11],
+    ]
+}
+
+fn refused10(number: u32) -> Bytes10
+    ensures { λ r. ⌜ r ≡ record { refusal = number; bytes = zeros 10 } ⌝ }
+{
+    Bytes10 {
+        refusal: number,
+        bytes: [0; 10],
+    }
+}
+
+fn refused16(number: u32) -> Bytes16
+    ensures { λ r. ⌜ r ≡ record { refusal = number; bytes = zeros 16 } ⌝ }
+{
+    Bytes16 {
+        refusal: number,
+        bytes: [0; 16],
+    }
+}
+
+// The calls, over strings of any length and numbers of any size.
+pub fn tb1(value: u64, width: u64) -> Bytes16
+    ensures { λ r. ⌜ r ≡ tb1Call value width ⌝ }
+{
+    if !wide(width) {
+        return refused16(9);
+    }
+    if !fits_in(value, width) {
+        return refused16(10);
+    }
+    Bytes16 {
+        refusal: 0,
+        bytes: repeated(value, width),
+    }
+}
+
+pub fn tb2(input: &[u8]) -> Bytes16
+    ensures { λ r. ⌜ r ≡ tb2Call (now (input .entry)) ⌝ }
+{
+    if input.len() != 16 {
+        return refused16(11);
+    }
+    Bytes16 {
+        refusal: 0,
+        bytes: array16(input),
+    }
+}
+
+pub fn tb3(input: &[u8], value: u64, width: u64) -> Bytes16
+    ensures { λ r. ⌜ r ≡ tb3Call (now (input .entry)) value width ⌝ }
+{
+    if input.len() != 16 {
+        return refused16(11);
+    }
+    if !wide(width) {
+        return refused16(9);
+    }
+    if !fits_in(value, width) {
+        return refused16(10);
+    }
+    Bytes16 {
+        refusal: 0,
+        bytes: xor16(array16(input), repeated(value, width)),
+    }
+}
+
+pub fn tb4(input1: &[u8], input2: &[u8]) -> Bytes10
+    ensures { λ r. ⌜ r ≡ tb4Call (now (input1 .entry)) (now (input2 .entry)) ⌝ }
+{
+    let long = (input1.len() == 10) & (input2.len() == 10);
+    if !long {
+        return refused10(11);
+    }
+    Bytes10 {
+        refusal: 0,
+        bytes: mix4(array10(input1), array10(input2)),
+    }
+}
+
+pub fn tb5(cipher_key: &[u8], location_area: u64, carrier: u64, colour_code: u64) -> Bytes10
+    ensures { λ r. ⌜ r ≡ tb5Call (now («cipher_key» .entry)) «location_area» carrier «colour_code» ⌝ }
+{
+    if cipher_key.len() != 10 {
+        return refused10(11);
+    }
+    let fit = fits_in(location_area, 14) & fits_in(carrier, 12) & fits_in(colour_code, 6);
+    if !fit {
+        return refused10(10);
+    }
+    Bytes10 {
+        refusal: 0,
+        bytes: cell(array10(cipher_key), location_area, carrier, colour_code),
+    }
+}
+
+pub fn tb6(cipher_key: &[u8], carrier: u64, identity: u64) -> Bytes10
+    ensures { λ r. ⌜ r ≡ tb6Call (now («cipher_key» .entry)) carrier identity ⌝ }
+{
+    if cipher_key.len() != 10 {
+        return refused10(11);
+    }
+    let fit = fits_in(carrier, 12) & fits_in(identity, 24);
+    if !fit {
+        return refused10(10);
+    }
+    Bytes10 {
+        refusal: 0,
+        bytes: member(array10(cipher_key), carrier, identity),
+    }
+}
+
+pub fn tb7(group_key: &[u8]) -> Bytes16
+    ensures { λ r. ⌜ r ≡ tb7Call (now («group_key» .entry)) ⌝ }
+{
+    if group_key.len() != 12 {
+        return refused16(11);
+    }
+    Bytes16 {
+        refusal: 0,
+        bytes: grouped(array12(group_key)),
+    }
+}

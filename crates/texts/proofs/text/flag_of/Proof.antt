@@ -1,0 +1,22 @@
+-- `texts::text::flag_of` meets its contract.
+-- Assumes nothing.
+use borrow.Author.Needs.{needs}
+use Rattle.standard.specs.Seals.{opened}
+use Rattle.texts.proofs.text.flag_of.Statement.{statement}
+use Rattle.texts.proofs.text.flag_of.Tie as tie
+
+with8-requires : tie.Need-with8-requires
+with8-requires c κs = search needs
+
+bl2-requires : tie.Need-bl2-requires
+bl2-requires c κs = search needs
+
+is-clear-requires : tie.Need-is-clear-requires
+is-clear-requires c κs = search needs
+
+returns : tie.Need-returns
+unfolding opened
+returns c = rw (c .is-clear .ensures, c .before .bl2 .ensures, c .before .before .with8 .ensures)
+
+pub flag-of-spec : {M : Type 1} → statement M
+flag-of-spec = tie.close (tie.spec with8-requires bl2-requires is-clear-requires returns)

@@ -1,0 +1,191 @@
+// The forms of the kinds: BL1's data input from a body of 12 bytes, and the check and the body of BL2's 15 bytes.
+use standard::Kind;
+ghost use mathlib.Core.Path.{_≡_};
+ghost use Rattle.standard.specs.Seals.{form, form31, form51, form81};
+
+fn input31(b: [u8; 12]) -> [u8; 16]
+    ensures { λ r. ⌜ r ≡ form31 .input b ⌝ }
+{
+    [
+        b[0],
+        b[1],
+        b[0] ^ b[1],
+        b[2],
+        b[3],
+        b[2] ^ b[3],
+        b[4],
+        b[5],
+        b[4] ^ b[5],
+        b[6],
+        b[7],
+        b[6] ^ b[7],
+        b[8],
+        b[9],
+        b[8] ^ b[9],
+        0,
+    ]
+}
+
+fn input51(b: [u8; 12]) -> [u8; 16]
+    ensures { λ r. ⌜ r ≡ form51 .input b ⌝ }
+{
+    [
+        b[0],
+        b[1],
+        b[0] ^ b[1],
+        b[2],
+        b[3],
+        b[4],
+        b[2] ^ b[3] ^ b[4],
+        b[5],
+        b[6],
+        b[7],
+        b[5] ^ b[6] ^ b[7],
+        b[8],
+        b[9],
+        b[11],
+        b[8] ^ b[9] ^ b[11],
+        0,
+    ]
+}
+
+fn input81(b: [u8; 12]) -> [u8; 16]
+    ensures { λ r. ⌜ r ≡ form81 .input b ⌝ }
+{
+    [
+        b[0],
+        b[1],
+        b[2],
+        b[3],
+        b[0] ^ b[1] ^ b[2] ^ b[3],
+        b[4],
+        b[5],
+        b[6],
+        b[7],
+        b[4] ^ b[5] ^ b[6] ^ b[7],
+        b[8],
+        b[9],
+        b[10],
+        b[11],
+        b[8] ^ b[9] ^ b[10] ^ b[11],
+        0,
+    ]
+}
+
+pub fn input_of(kind: Kind, b: [u8; 12]) -> [u8; 16]
+    ensures { λ r. ⌜ r ≡ form kind .input b ⌝ }
+{
+    match kind {
+        Kind::Ta31 => input31(b),
+        Kind::Ta51 => input51(b),
+        Kind::Ta81 => input81(b),
+        Kind::Ta91 => input81(b),
+    }
+}
+
+fn body31(u: [u8; 15]) -> [u8; 12]
+    ensures { λ r. ⌜ r ≡ form31 .shrink u ⌝ }
+{
+    [
+        u[0],
+        u[1],
+        u[3],
+        u[4],
+        u[6],
+        u[7],
+        u[9],
+        u[10],
+        u[12],
+        u[13],
+        0,
+        0,
+    ]
+}
+
+fn body51(u: [u8; 15]) -> [u8; 12]
+    ensures { λ r. ⌜ r ≡ form51 .shrink u ⌝ }
+{
+    [
+        u[0],
+        u[1],
+        u[3],
+        u[4],
+        u[5],
+        u[7],
+        u[8],
+        u[9],
+        u[11],
+        u[12],
+        0,
+        u[13] % 32,
+    ]
+}
+
+fn body81(u: [u8; 15]) -> [u8; 12]
+    ensures { λ r. ⌜ r ≡ form81 .shrink u ⌝ }
+{
+    [
+        u[0],
+        u[1],
+        u[2],
+        u[3],
+        u[5],
+        u[6],
+        u[7],
+        u[8],
+        u[10],
+        u[11],
+        u[12],
+        u[13],
+    ]
+}
+
+pub fn body_of(kind: Kind, u: [u8; 15]) -> [u8; 12]
+    ensures { λ r. ⌜ r ≡ form kind .shrink u ⌝ }
+{
+    match kind {
+        Kind::Ta31 => body31(u),
+        Kind::Ta51 => body51(u),
+        Kind::Ta81 => body81(u),
+        Kind::Ta91 => body81(u),
+    }
+}
+
+fn clear31(u: [u8; 15]) -> bool
+    ensures { λ r. ⌜ r ≡ form31 .clear u ⌝ }
+{
+    (u[2] == u[0] ^ u[1])
+        & (u[5] == u[3] ^ u[4])
+        & (u[8] == u[6] ^ u[7])
+        & (u[11] == u[9] ^ u[10])
+        & (u[14] == u[12] ^ u[13])
+}
+
+fn clear51(u: [u8; 15]) -> bool
+    ensures { λ r. ⌜ r ≡ form51 .clear u ⌝ }
+{
+    (u[2] == u[0] ^ u[1])
+        & (u[6] == u[3] ^ u[4] ^ u[5])
+        & (u[10] == u[7] ^ u[8] ^ u[9])
+        & (u[14] == u[11] ^ u[12] ^ u[13])
+        & (u[13] < 32)
+}
+
+fn clear81(u: [u8; 15]) -> bool
+    ensures { λ r. ⌜ r ≡ form81 .clear u ⌝ }
+{
+    (u[4] == u[0] ^ u[1] ^ u[2] ^ u[3])
+        & (u[9] == u[5] ^ u[6] ^ u[7] ^ u[8])
+        & (u[14] == u[10] ^ u[11] ^ u[12] ^ u[13])
+}
+
+pub fn is_clear(kind: Kind, u: [u8; 15]) -> bool
+    ensures { λ r. ⌜ r ≡ form kind .clear u ⌝ }
+{
+    match kind {
+        Kind::Ta31 => clear31(u),
+        Kind::Ta51 => clear51(u),
+        Kind::Ta81 => clear81(u),
+        Kind::Ta91 => clear81(u),
+    }
+}

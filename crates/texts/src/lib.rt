@@ -1,0 +1,10 @@
+// Sealed texts on typed arrays: a body of 12 bytes to a text of 15 under the core's key, and back.
+mod forms;
+mod text;
+
+pub use text::Opened;
+pub use text::flag_of;
+pub use text::key10;
+pub use text::key16;
+pub use text::open_text;
+pub use text::seal_body;

@@ -1,0 +1,151 @@
+// A sealed text of a body, and back, under the core's key.
+use crate::forms::body_of;
+use crate::forms::input_of;
+use crate::forms::is_clear;
+use cores::bl1;
+use cores::bl2;
+use cores::exp4;
+use standard::Kind;
+use standard::Version;
+ghost use mathlib.Core.Bool.{not};
+ghost use mathlib.Core.Path.{_≡_};
+ghost use Rattle.standard.specs.Bytes.{bytesOf, xors};
+ghost use Rattle.standard.specs.Seals.{form, sealed as sealedOf, opened as openedOf, key10 as key10Of, key16 as key16Of, repeated, without8 as without8Of, with8 as with8Of};
+ghost use Rattle.texts.specs.Steps.{Opened as OpenedOf};
+
+// The version's two bytes, the high one first.
+fn bytes_of(version: Version) -> [u8; 2]
+    ensures { λ r. ⌜ r ≡ bytesOf 2 (version .0) ⌝ }
+{
+    [(version.0 / 256 % 256) as u8, (version.0 % 256) as u8]
+}
+
+// The version written five times ⊕ the sealing key.
+fn mixed10(s: [u8; 10], v: [u8; 2]) -> [u8; 10]
+    ensures { λ r. ⌜ r ≡ xors 10 (repeated 10 v) s ⌝ }
+{
+    [
+        v[0] ^ s[0],
+        v[1] ^ s[1],
+        v[0] ^ s[2],
+        v[1] ^ s[3],
+        v[0] ^ s[4],
+        v[1] ^ s[5],
+        v[0] ^ s[6],
+        v[1] ^ s[7],
+        v[0] ^ s[8],
+        v[1] ^ s[9],
+    ]
+}
+
+fn mixed16(s: [u8; 16], v: [u8; 2]) -> [u8; 16]
+    ensures { λ r. ⌜ r ≡ xors 16 (repeated 16 v) s ⌝ }
+{
+    [
+        v[0] ^ s[0],
+        v[1] ^ s[1],
+        v[0] ^ s[2],
+        v[1] ^ s[3],
+        v[0] ^ s[4],
+        v[1] ^ s[5],
+        v[0] ^ s[6],
+        v[1] ^ s[7],
+        v[0] ^ s[8],
+        v[1] ^ s[9],
+        v[0] ^ s[10],
+        v[1] ^ s[11],
+        v[0] ^ s[12],
+        v[1] ^ s[13],
+        v[0] ^ s[14],
+        v[1] ^ s[15],
+    ]
+}
+
+// The core's key for kind 1.
+pub fn key10(sealing_key: [u8; 10], version: Version) -> [u8; 16]
+    ensures { λ r. ⌜ r ≡ key10Of «sealing_key» (bytesOf 2 (version .0)) ⌝ }
+{
+    exp4(mixed10(sealing_key, bytes_of(version)))
+}
+
+// The core's key for kinds 2 to 4.
+pub fn key16(sealing_key: [u8; 16], version: Version) -> [u8; 16]
+    ensures { λ r. ⌜ r ≡ key16Of «sealing_key» (bytesOf 2 (version .0)) ⌝ }
+{
+    mixed16(sealing_key, bytes_of(version))
+}
+
+fn without8(o: [u8; 16]) -> [u8; 15]
+    ensures { λ r. ⌜ r ≡ without8Of o ⌝ }
+{
+    [
+        o[0],
+        o[1],
+        o[2],
+        o[3],
+        o[4],
+        o[5],
+        o[6],
+        o[8],
+        o[9],
+        o[10],
+        o[11],
+        o[12],
+        o[13],
+        o[14],
+        o[15],
+    ]
+}
+
+fn with8(t: [u8; 15]) -> [u8; 16]
+    ensures { λ r. ⌜ r ≡ with8Of t ⌝ }
+{
+    [
+        t[0],
+        t[1],
+        t[2],
+        t[3],
+        t[4],
+        t[5],
+        t[6],
+        0,
+        t[7],
+        t[8],
+        t[9],
+        t[10],
+        t[11],
+        t[12],
+        t[13],
+        t[14],
+    ]
+}
+
+// The sealed text of a body.
+pub fn seal_body(kind: Kind, key: [u8; 16], body: [u8; 12]) -> [u8; 15]
+    ensures { λ r. ⌜ r ≡ sealedOf (form kind) key body ⌝ }
+{
+    without8(bl1(key, input_of(kind, body)))
+}
+
+// The body of a sealed text, and its flag.
+pub struct Opened {
+    pub body: [u8; 12],
+    pub flag: bool,
+}
+
+pub fn open_text(kind: Kind, key: [u8; 16], text: [u8; 15]) -> Opened
+    ensures { λ r. ⌜ OpenedOf (form kind) (openedOf key text) (r .body) (r .flag) ⌝ }
+{
+    let u = bl2(key, with8(text));
+    Opened {
+        body: body_of(kind, u),
+        flag: !is_clear(kind, u),
+    }
+}
+
+// The flag alone.
+pub fn flag_of(kind: Kind, key: [u8; 16], text: [u8; 15]) -> bool
+    ensures { λ r. ⌜ r ≡ not (form kind .clear (openedOf key text)) ⌝ }
+{
+    !is_clear(kind, bl2(key, with8(text)))
+}
