@@ -2,6 +2,7 @@ pub mod XorLaws
 pub mod BytesLaws
 pub mod FillLaws
 pub mod MixingLaws
+pub mod DerivationLaws
 pub mod InverseLaws
 pub mod HurdleLaws
 pub mod CoreLaws

@@ -1,0 +1,30 @@
+-- `keys::masks::refusal_of` meets its contract.
+-- Assumes nothing.
+use mathlib.Core.Bool.{true, false, _&&_}
+use mathlib.Core.Path.{_≡_}
+use lib.Count.{ones}
+use lib.Dec.{eqb}
+use borrow.Author.Tests.{eq-eqb, ne-eqb, not-true, not-false}
+use Rattle.keys.proofs.masks.refusal_of.Statement.{statement}
+use Rattle.keys.proofs.masks.refusal_of.Tie as tie
+
+returns : tie.Need-returns
+returns c =
+    let x = c .before .args in
+    let t : eqb (ones (x .response-mask)) 4 && eqb (ones (x .key-mask)) 10 ≡ false = not-true _ (c .if1 .taken) in
+    rw t
+
+returns-2 : tie.Need-returns-2
+returns-2 c =
+    let x = c .before .before .args in
+    let t : eqb (ones (x .response-mask)) 4 && eqb (ones (x .key-mask)) 10 ≡ true = not-false _ (c .before .if1 .left) in
+    rw (t, ne-eqb _ _ (c .if2 .taken))
+
+returns-3 : tie.Need-returns-3
+returns-3 c =
+    let x = c .before .before .args in
+    let t : eqb (ones (x .response-mask)) 4 && eqb (ones (x .key-mask)) 10 ≡ true = not-false _ (c .before .if1 .left) in
+    rw (t, eq-eqb _ _ (c .if2 .left))
+
+pub refusal-of-spec : {M : Type 1} → statement M
+refusal-of-spec = tie.close (tie.spec returns returns-2 returns-3)

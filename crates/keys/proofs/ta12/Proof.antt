@@ -1,0 +1,85 @@
+-- `keys::ta12` meets its contract.
+-- Assumes nothing.
+use mathlib.Core.Bool.{true, false, _&&_}
+use mathlib.Core.Path.{_≡_, sym, _∙_}
+use denote.Ref.{now}
+use borrow.Author.Needs.{needs}
+use borrow.Author.Tests.{ne-eqb, not-true, not-false}
+use Rattle.keys.proofs.LengthLaws.{both-spelled}
+use Rattle.standard.proofs.DerivationLaws.{masks-ones}
+use Rattle.standard.specs.Derivation.{splitCall}
+use Rattle.standard.specs.Refusals.{long, masks, first}
+use Rattle.keys.proofs.ta12.Statement.{statement}
+use Rattle.keys.proofs.ta12.Tie as tie
+
+refused-split-requires : tie.Need-refused-split-requires
+refused-split-requires c κs = search needs
+
+returns : tie.Need-returns
+unfolding splitCall
+returns c =
+    let x = c .before .before .before .before .args in
+    let t : long 16 (now (x .session-key)) && long 10 (now (x .challenge)) ≡ false = not-true _ (c .before .if1 .taken) in
+    rw (c .refused-split .ensures, t)
+
+refusal-of-requires : tie.Need-refusal-of-requires
+refusal-of-requires c κs = search needs
+
+refused-split-requires-2 : tie.Need-refused-split-requires-2
+refused-split-requires-2 c κs = search needs
+
+returns-2 : tie.Need-returns-2
+unfolding splitCall
+returns-2 c =
+    let masked = c .before .before in
+    let tested = masked .before in
+    let x = tested .before .before .before .args in
+    let t : long 16 (now (x .session-key)) && long 10 (now (x .challenge)) ≡ true = not-false _ (tested .if1 .left) in
+    rw (c .refused-split2 .ensures, t, ← masked .refusal-of .ensures, ne-eqb _ _ (c .before .if2 .taken))
+
+array16-requires : tie.Need-array16-requires
+array16-requires c κs = search needs
+
+array10-requires : tie.Need-array10-requires
+array10-requires c κs = search needs
+
+core-requires : tie.Need-core-requires
+core-requires c κs = search needs
+
+chosen4-requires : tie.Need-chosen4-requires
+chosen4-requires c κs =
+    let accepted = c .before .before .before in
+    masks-ones _ _ (sym (accepted .before .refusal-of .ensures) ∙ accepted .if2 .left) .0
+
+chosen10-requires : tie.Need-chosen10-requires
+chosen10-requires c κs =
+    let accepted = c .before .before .before .before in
+    masks-ones _ _ (sym (accepted .before .refusal-of .ensures) ∙ accepted .if2 .left) .1
+
+returns-3 : tie.Need-returns-3
+unfolding splitCall
+returns-3 c =
+    let made = c .before .before in
+    let accepted = made .before .before .before in
+    let tested = accepted .before .before in
+    let x = tested .before .before .before .args in
+    let t : long 16 (now (x .session-key)) && long 10 (now (x .challenge)) ≡ true = not-false _ (tested .if1 .left) in
+    let s = both-spelled 16 10 (now (x .session-key)) (now (x .challenge)) t in
+    let m : first (masks (x .response-mask) (x .key-mask)) ≡ 0 = sym (accepted .before .refusal-of .ensures) ∙ accepted .if2 .left in
+    rw (c .chosen10 .ensures, c .before .chosen4 .ensures, made .core .ensures, made .before .array10 .ensures, made .before .before .array16 .ensures, s .0, s .1, t, m)
+
+pub ta12-spec : {M : Type 1} → statement M
+ta12-spec =
+    tie.close
+    (tie.spec
+    refused-split-requires
+    returns
+    refusal-of-requires
+    refused-split-requires-2
+    returns-2
+    array16-requires
+    array10-requires
+    core-requires
+    chosen4-requires
+    chosen10-requires
+    returns-3)

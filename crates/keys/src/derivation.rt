@@ -1,0 +1,100 @@
+// The derivations on typed arrays.
+use arrays::xor10;
+use cores::bl1;
+use cores::exp2;
+ghost use mathlib.Core.List.{[], _∷_, _++_};
+ghost use mathlib.Core.Path.{_≡_};
+ghost use Prim.Native.Nat.{_+_, _-_};
+ghost use Rattle.standard.specs.Bytes.{_!_, _⊕_, table, part, bytesOf};
+ghost use Rattle.standard.specs.Derivation.{core as coreOf, ta71 as ta71Of, int as intOf};
+
+// BL1 of the expanded seed.
+pub fn core(key: [u8; 16], seed: [u8; 10]) -> [u8; 16]
+    ensures { λ r. ⌜ r ≡ coreOf key seed ⌝ }
+{
+    bl1(key, exp2(seed))
+}
+
+// TA21's seed, its ten bytes from right to left.
+pub fn reversed(seed: [u8; 10]) -> [u8; 10]
+    ensures { λ r. ⌜ r ≡ table 10 (λ i. seed ! (9 - i)) ⌝ }
+{
+    [
+        seed[9],
+        seed[8],
+        seed[7],
+        seed[6],
+        seed[5],
+        seed[4],
+        seed[3],
+        seed[2],
+        seed[1],
+        seed[0],
+    ]
+}
+
+// TA71's key input: A9 to A4, A3 ⊕ B9 to A0 ⊕ B6, B5 to B0.
+fn key_input(a: [u8; 10], b: [u8; 10]) -> [u8; 16]
+    ensures { λ r. ⌜ r ≡ part 0 6 a ++ table 4 (λ i. a ! (6 + i) ⊕ b ! i) ++ part 4 6 b ⌝ }
+{
+    [
+        a[0],
+        a[1],
+        a[2],
+        a[3],
+        a[4],
+        a[5],
+        a[6] ^ b[0],
+        a[7] ^ b[1],
+        a[8] ^ b[2],
+        a[9] ^ b[3],
+        b[4],
+        b[5],
+        b[6],
+        b[7],
+        b[8],
+        b[9],
+    ]
+}
+
+// SHR3: without the three leftmost and the three rightmost bytes.
+fn shr3(o: [u8; 16]) -> [u8; 10]
+    ensures { λ r. ⌜ r ≡ part 3 10 o ⌝ }
+{
+    [
+        o[3],
+        o[4],
+        o[5],
+        o[6],
+        o[7],
+        o[8],
+        o[9],
+        o[10],
+        o[11],
+        o[12],
+    ]
+}
+
+// TA71 on typed arrays.
+pub fn combined(a: [u8; 10], b: [u8; 10]) -> [u8; 10]
+    ensures { λ r. ⌜ r ≡ ta71Of a b ⌝ }
+{
+    shr3(core(key_input(a, b), xor10(a, b)))
+}
+
+// Three copies of the network identity's 24 bits, and a zero byte.
+fn copies(mni: u64) -> [u8; 10]
+    ensures { λ r. ⌜ r ≡ bytesOf 3 mni ++ bytesOf 3 mni ++ bytesOf 3 mni ++ (0 ∷ []) ⌝ }
+{
+    let a = (mni / 65536 % 256) as u8;
+    let b = (mni / 256 % 256) as u8;
+    let c = (mni % 256) as u8;
+    [a, b, c, a, b, c, a, b, c, 0]
+}
+
+// TA101's INT.
+pub fn int(gck0: [u8; 10], mni: u64) -> [u8; 10]
+    ensures { λ r. ⌜ r ≡ intOf gck0 mni ⌝ }
+{
+    xor10(gck0, copies(mni))
+}

@@ -1,0 +1,197 @@
+// Responses and derived keys: TA11, TA12, TA21, TA22, TA41, TA71, TA101, and the ring recipe (000, 5.6, 5.7, 5.13, 5.18).
+mod derivation;
+mod masks;
+mod recipe;
+
+use crate::derivation::combined;
+use crate::derivation::core;
+use crate::derivation::int;
+use crate::derivation::reversed;
+use crate::masks::chosen4;
+use crate::masks::chosen10;
+use crate::masks::refusal_of;
+use crate::recipe::make;
+use arrays::array10;
+use arrays::array16;
+use standard::Authentication;
+use standard::Bytes10;
+use standard::Bytes16;
+use standard::RingMade;
+ghost use mathlib.Core.Path.{_≡_};
+ghost use Rattle.standard.specs.Bytes.{zeros};
+ghost use Rattle.standard.specs.Derivation.{ta11Call, ta21Call, ta41Call, splitCall, ta71Call, ta101Call, ringCall};
+
+fn refused10(number: u32) -> Bytes10
+    ensures { λ r. ⌜ r ≡ record { refusal = number; bytes = zeros 10 } ⌝ }
+{
+    Bytes10 {
+        refusal: number,
+        bytes: [0; 10],
+    }
+}
+
+fn refused16(number: u32) -> Bytes16
+    ensures { λ r. ⌜ r ≡ record { refusal = number; bytes = zeros 16 } ⌝ }
+{
+    Bytes16 {
+        refusal: number,
+        bytes: [0; 16],
+    }
+}
+
+fn refused_split(number: u32) -> Authentication
+    ensures { λ r. ⌜ r ≡ record { refusal = number; response = zeros 4; key = zeros 10 } ⌝ }
+{
+    Authentication {
+        refusal: number,
+        response: [0; 4],
+        key: [0; 10],
+    }
+}
+
+fn refused_ring(number: u32) -> RingMade
+    ensures { λ r. ⌜ r ≡ record { refusal = number; ring = zeros 36; response1 = zeros 4; response2 = zeros 4 } ⌝ }
+{
+    RingMade {
+        refusal: number,
+        ring: [0; 36],
+        response1: [0; 4],
+        response2: [0; 4],
+    }
+}
+
+// The calls, over strings of any length and numbers of any size.
+pub fn ta11(root: &[u8], seed: &[u8]) -> Bytes16
+    ensures { λ r. ⌜ r ≡ ta11Call (now (root .entry)) (now (seed .entry)) ⌝ }
+{
+    let long = (root.len() == 16) & (seed.len() == 10);
+    if !long {
+        return refused16(11);
+    }
+    Bytes16 {
+        refusal: 0,
+        bytes: core(array16(root), array10(seed)),
+    }
+}
+
+pub fn ta21(root: &[u8], seed: &[u8]) -> Bytes16
+    ensures { λ r. ⌜ r ≡ ta21Call (now (root .entry)) (now (seed .entry)) ⌝ }
+{
+    let long = (root.len() == 16) & (seed.len() == 10);
+    if !long {
+        return refused16(11);
+    }
+    Bytes16 {
+        refusal: 0,
+        bytes: core(array16(root), reversed(array10(seed))),
+    }
+}
+
+// TA41 does what TA11 does, with the seed RSO.
+pub fn ta41(root: &[u8], seed: &[u8]) -> Bytes16
+    ensures { λ r. ⌜ r ≡ ta41Call (now (root .entry)) (now (seed .entry)) ⌝ }
+{
+    ta11(root, seed)
+}
+
+pub fn ta12(
+    session_key: &[u8],
+    challenge: &[u8],
+    response_mask: u16,
+    key_mask: u16,
+) -> Authentication
+    ensures { λ r. ⌜ r ≡ splitCall (now («session_key» .entry)) (now (challenge .entry)) «response_mask» «key_mask» ⌝ }
+{
+    let long = (session_key.len() == 16) & (challenge.len() == 10);
+    if !long {
+        return refused_split(11);
+    }
+    let number = refusal_of(response_mask, key_mask);
+    if number != 0 {
+        return refused_split(number);
+    }
+    let output = core(array16(session_key), array10(challenge));
+    Authentication {
+        refusal: 0,
+        response: chosen4(response_mask, output),
+        key: chosen10(key_mask, output),
+    }
+}
+
+// TA22 does what TA12 does, under TA21's session key: its challenge is not reversed.
+pub fn ta22(
+    session_key: &[u8],
+    challenge: &[u8],
+    response_mask: u16,
+    key_mask: u16,
+) -> Authentication
+    ensures { λ r. ⌜ r ≡ splitCall (now («session_key» .entry)) (now (challenge .entry)) «response_mask» «key_mask» ⌝ }
+{
+    ta12(session_key, challenge, response_mask, key_mask)
+}
+
+pub fn ta71(key1: &[u8], key2: &[u8]) -> Bytes10
+    ensures { λ r. ⌜ r ≡ ta71Call (now (key1 .entry)) (now (key2 .entry)) ⌝ }
+{
+    let long = (key1.len() == 10) & (key2.len() == 10);
+    if !long {
+        return refused10(11);
+    }
+    Bytes10 {
+        refusal: 0,
+        bytes: combined(array10(key1), array10(key2)),
+    }
+}
+
+pub fn ta101(ks: &[u8], gck0: &[u8], mni: u64) -> Bytes16
+    ensures { λ r. ⌜ r ≡ ta101Call (now (ks .entry)) (now (gck0 .entry)) mni ⌝ }
+{
+    let long = (ks.len() == 16) & (gck0.len() == 10);
+    if !long {
+        return refused16(11);
+    }
+    if mni >= 16777216 {
+        return refused16(10);
+    }
+    Bytes16 {
+        refusal: 0,
+        bytes: core(array16(ks), int(array10(gck0), mni)),
+    }
+}
+
+pub fn ring(
+    root: &[u8],
+    rs: &[u8],
+    rso: &[u8],
+    rand1: &[u8],
+    rand2: &[u8],
+    c: &[u8],
+    response_mask: u16,
+    key_mask: u16,
+) -> RingMade
+    ensures { λ r. ⌜ r ≡ ringCall (now (root .entry)) (now (rs .entry)) (now (rso .entry)) (now (rand1 .entry)) (now (rand2 .entry)) (now (c .entry)) «response_mask» «key_mask» ⌝ }
+{
+    let long = (root.len() == 16)
+        & (rs.len() == 10)
+        & (rso.len() == 10)
+        & (rand1.len() == 10)
+        & (rand2.len() == 10)
+        & (c.len() == 10);
+    if !long {
+        return refused_ring(11);
+    }
+    let number = refusal_of(response_mask, key_mask);
+    if number != 0 {
+        return refused_ring(number);
+    }
+    make(
+        array16(root),
+        array10(rs),
+        array10(rso),
+        array10(rand1),
+        array10(rand2),
+        array10(c),
+        response_mask,
+        key_mask,
+    )
+}

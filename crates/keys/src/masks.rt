@@ -1,0 +1,56 @@
+// The two masks of TA12 and TA22: their tests, and the bytes that they choose.
+ghost use mathlib.Core.Path.{_≡_};
+ghost use lib.Count.{ones};
+ghost use lib.ListN.{length};
+ghost use Rattle.standard.specs.Derivation.{chosen};
+ghost use Rattle.standard.specs.Refusals.{masks, first};
+
+// The number of the first test that the masks fail; 0 if none.
+pub fn refusal_of(response_mask: u16, key_mask: u16) -> u32
+    ensures { λ r. ⌜ r ≡ first (masks «response_mask» «key_mask») ⌝ }
+{
+    let counted = (u16::count_ones(response_mask) == 4) & (u16::count_ones(key_mask) == 10);
+    if !counted {
+        return 7;
+    }
+    if response_mask & key_mask != 0 {
+        return 8;
+    }
+    0
+}
+
+// Of the bytes B15 to B0, those whose bit is set, higher bytes first. `out` has a place for each one in the mask.
+fn gather(mask: u16, output: &[u8; 16], out: &mut [u8])
+    requires { ⌜ length (now out) ≡ ones mask ⌝ }
+    ensures { λ _. ⌜ now (out .exit) ≡ chosen mask (now (output .entry)) ⌝ }
+{
+    let mut i: usize = 16;
+    let mut k: usize = 0;
+    while i > 0 {
+        i -= 1;
+        if (mask >> i) % 2 == 1 {
+            out[k] = output[15 - i];
+            k += 1;
+        }
+    }
+}
+
+// The response: four bytes, as the mask has four ones.
+pub fn chosen4(mask: u16, output: [u8; 16]) -> [u8; 4]
+    requires { ⌜ ones mask ≡ 4 ⌝ }
+    ensures { λ r. ⌜ r ≡ chosen mask output ⌝ }
+{
+    let mut out = [0u8; 4];
+    gather(mask, &output, &mut out);
+    out
+}
+
+// The key: ten bytes, as the mask has ten ones.
+pub fn chosen10(mask: u16, output: [u8; 16]) -> [u8; 10]
+    requires { ⌜ ones mask ≡ 10 ⌝ }
+    ensures { λ r. ⌜ r ≡ chosen mask output ⌝ }
+{
+    let mut out = [0u8; 10];
+    gather(mask, &output, &mut out);
+    out
+}

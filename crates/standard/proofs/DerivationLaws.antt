@@ -1,0 +1,50 @@
+-- Masks: what their tests tell, and how many bytes they choose.
+-- Assumes nothing.
+use mathlib.Core.Bool.{Bool, true, false, _&&_}
+use mathlib.Core.List.{List, [], _∷_}
+use mathlib.Core.Path.{_≡_, refl, sym, ap, _∙_}
+use Prim.Native.Nat.{ℕ, zero, suc, _+_, _/_, _%_, _^_, _<_}
+use native.Mathlib.Nat.{mod-lt, mod-eq-of-lt, zero-lt-suc, zero-add, mod-one, suc-ne-zero}
+use native.Mathlib.Numerals.{one-add}
+use native.Mathlib.Omega.{arith}
+use lib.Bits.{bitAnd}
+use lib.Count.{ones, onesIn, ones-cat}
+use lib.Dec.{eqb}
+use lib.ListN.{length}
+use lib.Pow.{pow-pos, mod-pow-add}
+use borrow.Author.Tests.{eqb-true}
+use Rattle.standard.specs.Bytes.{byte, bit, choose}
+use Rattle.standard.specs.Derivation.{chosenOf, chosen}
+use Rattle.standard.specs.Refusals.{wrongOnes, sharedBit, masks, first}
+use Rattle.standard.proofs.BytesLaws.{and-split}
+
+first-test : (t u : Bool) → first ((t, wrongOnes) ∷ (u, sharedBit) ∷ []) ≡ 0 → t ≡ true
+first-test true u e = refl
+first-test false u e = absurd (suc-ne-zero 6 e)
+
+-- masks that no test refuses
+pub masks-ones : (rm km : ℕ) → first (masks rm km) ≡ 0 → (ones rm ≡ 4) × (ones km ≡ 10)
+masks-ones rm km e =
+    let s = and-split _ _ (first-test (eqb (ones rm) 4 && eqb (ones km) 10) (eqb (bitAnd rm km) 0) e) in
+    (eqb-true _ _ (s .0), eqb-true _ _ (s .1))
+
+-- ---- a mask chooses as many bytes as it has ones
+
+length-choose : (b x : ℕ) (xs : List ℕ) → b < 2 → length (choose (eqb b 1) (x ∷ xs) xs) ≡ ones b + length xs
+unfolding ones onesIn
+length-choose zero x xs h = rw zero-add
+length-choose (suc zero) x xs h = rw one-add
+length-choose (suc (suc b)) x xs h = omega arith
+
+length-of : (n m : ℕ) (o : List ℕ) → length (chosenOf n m o) ≡ ones (m % 2 ^ n)
+unfolding ones onesIn bit
+length-of zero m o = rw mod-one
+length-of (suc n) m o =
+    length-choose (bit n m) (byte 16 o n) (chosenOf n m o) (mod-lt (m / 2 ^ n) (zero-lt-suc 1))
+    ∙ ap (λ (k : ℕ). ones (bit n m) + k) (length-of n m o)
+    ∙ sym (ones-cat n (bit n m) (m % 2 ^ n) (mod-lt m (pow-pos n)))
+    ∙ ap ones (rw one-add at (sym (mod-pow-add m 1 n)))
+
+pub length-chosen : (m : ℕ) (o : List ℕ) → m < 2 ^ 16 → length (chosen m o) ≡ ones m
+unfolding chosen
+length-chosen m o h = length-of 16 m o ∙ ap ones (mod-eq-of-lt h)
