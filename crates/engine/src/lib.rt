@@ -1,7 +1,25 @@
-// The calls for hosts in other languages (include/taa1.h). A byte string comes as a pointer and a length.
+// The calls for hosts in other languages (include/taa1.h), each with the contract of the library call behind it. A byte string comes
+// as a pointer and a length.
+use standard::Authentication;
+use standard::BookAnswer;
 use standard::Bytes8;
+use standard::Bytes10;
+use standard::Bytes15;
+use standard::Bytes16;
+use standard::Identity;
+use standard::KeyNumber;
+use standard::RingMade;
+use standard::Unsealed;
+use standard::UnsealedGroup;
+use standard::UnsealedNumbered;
+use standard::Version;
 ghost use mathlib.Core.Path.{_≡_};
+ghost use Rattle.standard.specs.Books.{sealBook, openBook, checkPlain};
+ghost use Rattle.standard.specs.Derivation.{ta11Call, ta21Call, ta41Call, splitCall, ta71Call, ta101Call, ringCall};
 ghost use Rattle.standard.specs.Hurdle.{encryptCall, decryptCall};
+ghost use Rattle.standard.specs.Identity.{ta61Call, ta61⁻¹Call};
+ghost use Rattle.standard.specs.Mixing.{tb1Call, tb2Call, tb3Call, tb4Call, tb5Call, tb6Call, tb7Call};
+ghost use Rattle.standard.specs.Seals.{ta31Call, ta32Call, ta51Call, ta52Call, ta81Call, ta82Call, ta91Call, ta92Call};
 
 #[no_mangle]
 pub extern "C" fn taa1_encrypt(key: &[u8], block: &[u8]) -> Bytes8
@@ -15,4 +33,234 @@ pub extern "C" fn taa1_decrypt(key: &[u8], block: &[u8]) -> Bytes8
     ensures { λ r. ⌜ r ≡ decryptCall (now (key .entry)) (now (block .entry)) ⌝ }
 {
     hurdle::decrypt(key, block)
+}
+
+#[no_mangle]
+pub extern "C" fn taa1_ta11(root: &[u8], seed: &[u8]) -> Bytes16
+    ensures { λ r. ⌜ r ≡ ta11Call (now (root .entry)) (now (seed .entry)) ⌝ }
+{
+    keys::ta11(root, seed)
+}
+
+#[no_mangle]
+pub extern "C" fn taa1_ta21(root: &[u8], seed: &[u8]) -> Bytes16
+    ensures { λ r. ⌜ r ≡ ta21Call (now (root .entry)) (now (seed .entry)) ⌝ }
+{
+    keys::ta21(root, seed)
+}
+
+#[no_mangle]
+pub extern "C" fn taa1_ta41(root: &[u8], seed: &[u8]) -> Bytes16
+    ensures { λ r. ⌜ r ≡ ta41Call (now (root .entry)) (now (seed .entry)) ⌝ }
+{
+    keys::ta41(root, seed)
+}
+
+#[no_mangle]
+pub extern "C" fn taa1_ta12(
+    session_key: &[u8],
+    challenge: &[u8],
+    response_mask: u16,
+    key_mask: u16,
+) -> Authentication
+    ensures { λ r. ⌜ r ≡ splitCall (now («session_key» .entry)) (now (challenge .entry)) «response_mask» «key_mask» ⌝ }
+{
+    keys::ta12(session_key, challenge, response_mask, key_mask)
+}
+
+#[no_mangle]
+pub extern "C" fn taa1_ta22(
+    session_key: &[u8],
+    challenge: &[u8],
+    response_mask: u16,
+    key_mask: u16,
+) -> Authentication
+    ensures { λ r. ⌜ r ≡ splitCall (now («session_key» .entry)) (now (challenge .entry)) «response_mask» «key_mask» ⌝ }
+{
+    keys::ta22(session_key, challenge, response_mask, key_mask)
+}
+
+#[no_mangle]
+pub extern "C" fn taa1_ta31(cipher_key: &[u8], version: Version, sealing_key: &[u8]) -> Bytes15
+    ensures { λ r. ⌜ r ≡ ta31Call (now («cipher_key» .entry)) version (now («sealing_key» .entry)) ⌝ }
+{
+    seals::ta31(cipher_key, version, sealing_key)
+}
+
+#[no_mangle]
+pub extern "C" fn taa1_ta32(text: &[u8], sealing_key: &[u8], version: Version) -> Unsealed
+    ensures { λ r. ⌜ r ≡ ta32Call (now (text .entry)) (now («sealing_key» .entry)) version ⌝ }
+{
+    seals::ta32(text, sealing_key, version)
+}
+
+#[no_mangle]
+pub extern "C" fn taa1_ta51(
+    cipher_key: &[u8],
+    version: Version,
+    sealing_key: &[u8],
+    number: KeyNumber,
+) -> Bytes15
+    ensures { λ r. ⌜ r ≡ ta51Call (now («cipher_key» .entry)) version (now («sealing_key» .entry)) number ⌝ }
+{
+    seals::ta51(cipher_key, version, sealing_key, number)
+}
+
+#[no_mangle]
+pub extern "C" fn taa1_ta52(text: &[u8], sealing_key: &[u8], version: Version) -> UnsealedNumbered
+    ensures { λ r. ⌜ r ≡ ta52Call (now (text .entry)) (now («sealing_key» .entry)) version ⌝ }
+{
+    seals::ta52(text, sealing_key, version)
+}
+
+#[no_mangle]
+pub extern "C" fn taa1_ta61(common_key: &[u8], identity: u64) -> Identity
+    ensures { λ r. ⌜ r ≡ ta61Call (now («common_key» .entry)) identity ⌝ }
+{
+    identity::ta61(common_key, identity)
+}
+
+#[no_mangle]
+pub extern "C" fn taa1_ta61_inverse(common_key: &[u8], encrypted_identity: u64) -> Identity
+    ensures { λ r. ⌜ r ≡ ta61⁻¹Call (now («common_key» .entry)) «encrypted_identity» ⌝ }
+{
+    identity::ta61_inverse(common_key, encrypted_identity)
+}
+
+#[no_mangle]
+pub extern "C" fn taa1_ta71(key1: &[u8], key2: &[u8]) -> Bytes10
+    ensures { λ r. ⌜ r ≡ ta71Call (now (key1 .entry)) (now (key2 .entry)) ⌝ }
+{
+    keys::ta71(key1, key2)
+}
+
+#[no_mangle]
+pub extern "C" fn taa1_ta81(
+    cipher_key: &[u8],
+    version: Version,
+    sealing_key: &[u8],
+    number: KeyNumber,
+) -> Bytes15
+    ensures { λ r. ⌜ r ≡ ta81Call (now («cipher_key» .entry)) version (now («sealing_key» .entry)) number ⌝ }
+{
+    seals::ta81(cipher_key, version, sealing_key, number)
+}
+
+#[no_mangle]
+pub extern "C" fn taa1_ta82(text: &[u8], sealing_key: &[u8], version: Version) -> UnsealedNumbered
+    ensures { λ r. ⌜ r ≡ ta82Call (now (text .entry)) (now («sealing_key» .entry)) version ⌝ }
+{
+    seals::ta82(text, sealing_key, version)
+}
+
+#[no_mangle]
+pub extern "C" fn taa1_ta91(group_key: &[u8], version: Version, sealing_key: &[u8]) -> Bytes15
+    ensures { λ r. ⌜ r ≡ ta91Call (now («group_key» .entry)) version (now («sealing_key» .entry)) ⌝ }
+{
+    seals::ta91(group_key, version, sealing_key)
+}
+
+#[no_mangle]
+pub extern "C" fn taa1_ta92(text: &[u8], sealing_key: &[u8], version: Version) -> UnsealedGroup
+    ensures { λ r. ⌜ r ≡ ta92Call (now (text .entry)) (now («sealing_key» .entry)) version ⌝ }
+{
+    seals::ta92(text, sealing_key, version)
+}
+
+#[no_mangle]
+pub extern "C" fn taa1_ta101(ks: &[u8], gck0: &[u8], mni: u64) -> Bytes16
+    ensures { λ r. ⌜ r ≡ ta101Call (now (ks .entry)) (now (gck0 .entry)) mni ⌝ }
+{
+    keys::ta101(ks, gck0, mni)
+}
+
+#[no_mangle]
+pub extern "C" fn taa1_tb1(value: u64, width: u64) -> Bytes16
+    ensures { λ r. ⌜ r ≡ tb1Call value width ⌝ }
+{
+    mixing::tb1(value, width)
+}
+
+#[no_mangle]
+pub extern "C" fn taa1_tb2(input: &[u8]) -> Bytes16
+    ensures { λ r. ⌜ r ≡ tb2Call (now (input .entry)) ⌝ }
+{
+    mixing::tb2(input)
+}
+
+#[no_mangle]
+pub extern "C" fn taa1_tb3(input: &[u8], value: u64, width: u64) -> Bytes16
+    ensures { λ r. ⌜ r ≡ tb3Call (now (input .entry)) value width ⌝ }
+{
+    mixing::tb3(input, value, width)
+}
+
+#[no_mangle]
+pub extern "C" fn taa1_tb4(input1: &[u8], input2: &[u8]) -> Bytes10
+    ensures { λ r. ⌜ r ≡ tb4Call (now (input1 .entry)) (now (input2 .entry)) ⌝ }
+{
+    mixing::tb4(input1, input2)
+}
+
+#[no_mangle]
+pub extern "C" fn taa1_tb5(
+    cipher_key: &[u8],
+    location_area: u64,
+    carrier: u64,
+    colour_code: u64,
+) -> Bytes10
+    ensures { λ r. ⌜ r ≡ tb5Call (now («cipher_key» .entry)) «location_area» carrier «colour_code» ⌝ }
+{
+    mixing::tb5(cipher_key, location_area, carrier, colour_code)
+}
+
+#[no_mangle]
+pub extern "C" fn taa1_tb6(cipher_key: &[u8], carrier: u64, identity: u64) -> Bytes10
+    ensures { λ r. ⌜ r ≡ tb6Call (now («cipher_key» .entry)) carrier identity ⌝ }
+{
+    mixing::tb6(cipher_key, carrier, identity)
+}
+
+#[no_mangle]
+pub extern "C" fn taa1_tb7(group_key: &[u8]) -> Bytes16
+    ensures { λ r. ⌜ r ≡ tb7Call (now («group_key» .entry)) ⌝ }
+{
+    mixing::tb7(group_key)
+}
+
+#[no_mangle]
+pub extern "C" fn taa1_ring(
+    root: &[u8],
+    rs: &[u8],
+    rso: &[u8],
+    rand1: &[u8],
+    rand2: &[u8],
+    c: &[u8],
+    response_mask: u16,
+    key_mask: u16,
+) -> RingMade
+    ensures { λ r. ⌜ r ≡ ringCall (now (root .entry)) (now (rs .entry)) (now (rso .entry)) (now (rand1 .entry)) (now (rand2 .entry)) (now (c .entry)) «response_mask» «key_mask» ⌝ }
+{
+    keys::ring(root, rs, rso, rand1, rand2, c, response_mask, key_mask)
+}
+
+#[no_mangle]
+pub extern "C" fn taa1_seal_book(ring: &[u8], plain: &[u8], out: &mut [u8]) -> BookAnswer
+    ensures { λ r. ⌜ (r, now (out .exit)) ≡ sealBook (now (ring .entry)) (now (plain .entry)) (now (out .entry)) ⌝ }
+{
+    books::seal_book(ring, plain, out)
+}
+
+#[no_mangle]
+pub extern "C" fn taa1_open_book(ring: &[u8], sealed: &[u8], out: &mut [u8]) -> BookAnswer
+    ensures { λ r. ⌜ (r, now (out .exit)) ≡ openBook (now (ring .entry)) (now (sealed .entry)) (now (out .entry)) ⌝ }
+{
+    books::open_book(ring, sealed, out)
+}
+
+#[no_mangle]
+pub extern "C" fn taa1_check_plain(plain: &[u8]) -> BookAnswer
+    ensures { λ r. ⌜ r ≡ checkPlain (now (plain .entry)) ⌝ }
+{
+    books::check_plain(plain)
 }

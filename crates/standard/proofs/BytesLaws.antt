@@ -3,11 +3,12 @@
 use mathlib.Core.Bool.{Bool, true, false, _&&_, true≢false}
 use mathlib.Core.List.{List, [], _∷_, _++_}
 use mathlib.Core.Path.{_≡_, refl, sym, ap, ap₂, _∙_}
-use Prim.Native.Nat.{ℕ, zero, suc, _+_, _<_}
-use native.Mathlib.Nat.{suc-inj, suc-ne-zero, le-of-suc-le-suc, not-suc-le-zero}
+use Prim.Native.Nat.{ℕ, zero, suc, _+_, _<_, _≤_}
+use native.Mathlib.Nat.{suc-inj, suc-ne-zero, le-of-suc-le-suc, not-suc-le-zero, zero-add, add-zero, suc-add, add-suc}
 use native.Mathlib.Omega.{arith}
 use lib.Dec.{eqb}
-use lib.ListN.{length, length-append}
+use lib.ListN.{length, take, drop, length-append, List·getD-append}
+use lib.Seq.{drop-cons, getD-append-add}
 use borrow.Author.Tests.{eqb-true, eq-eqb}
 use Rattle.standard.specs.Bytes.{_!_, _⊕_, table, part, xors, sameOn, same, Bytes}
 use Rattle.standard.specs.Refusals.{long}
@@ -34,6 +35,14 @@ table-same (suc n) f g h =
 pub table-snoc : (n : ℕ) (f : ℕ → ℕ) → table (suc n) f ≡ table n f ++ (f n ∷ [])
 table-snoc zero f = refl
 table-snoc (suc n) f = ap (_∷_ (f zero)) (table-snoc n (λ i. f (suc i)))
+
+pub table-add : (m n : ℕ) (f : ℕ → ℕ) → table (m + n) f ≡ table m f ++ table n (λ i. f (m + i))
+table-add zero n f = rw zero-add (table-same n f (λ i. f (0 + i)) (λ i h. ap f (sym (zero-add i))))
+table-add (suc m) n f =
+    rw suc-add
+    (ap (_∷_ (f zero)) (table-add m n (λ i. f (suc i)))
+    ∙ ap (λ (r : List ℕ). f zero ∷ (table m (λ i. f (suc i)) ++ r))
+    (table-same n (λ i. f (suc (m + i))) (λ i. f (suc m + i)) (λ i h. ap f (sym (suc-add m i)))))
 
 -- a string of n bytes is the table of its bytes
 pub spelled : (n : ℕ) (xs : List ℕ) → length xs ≡ n → table n (λ i. xs ! i) ≡ xs
@@ -90,6 +99,28 @@ bytes-one h = bytes-cons h bytes-nil
 
 pub bytes-zero : Bytes 1 (0 ∷ [])
 bytes-zero = bytes-one (omega arith)
+
+-- ---- parts
+
+-- of the first of two strings, and the second of them
+pub part-left : (a n : ℕ) (xs ys : List ℕ) → a + n ≤ length xs → part a n (xs ++ ys) ≡ part a n xs
+part-left a n xs ys h =
+    table-same n (λ i. (xs ++ ys) ! (a + i)) (λ i. xs ! (a + i)) (λ i k. List·getD-append xs ys 0 (a + i) (omega arith))
+
+pub part-seam : {m n : ℕ} {xs ys : List ℕ} → Bytes m xs → Bytes n ys → part m n (xs ++ ys) ≡ ys
+part-seam {m} {n} {xs} {ys} h k =
+    table-same n (λ i. (xs ++ ys) ! (m + i)) (λ i. ys ! i)
+    (λ i l. ap (λ (z : ℕ). (xs ++ ys) ! (z + i)) (sym (h .len)) ∙ getD-append-add xs ys i 0)
+    ∙ spell k
+
+-- a lent part, `&xs[a..a + n]`, is the part of the definitions
+pub part-lent : (a n : ℕ) (xs : List ℕ) → a + n ≤ length xs → take n (drop a xs) ≡ part a n xs
+part-lent a zero xs h = refl
+part-lent a (suc n) xs h =
+    rw (drop-cons xs a 0 (omega arith))
+    (ap₂ _∷_ (ap (λ (k : ℕ). xs ! k) (sym (add-zero a)))
+    (part-lent (suc a) n xs (omega arith)
+    ∙ table-same n (λ i. xs ! (suc a + i)) (λ i. xs ! (a + suc i)) (λ i k. ap (λ (j : ℕ). xs ! j) (suc-add a i ∙ sym (add-suc a i)))))
 
 -- ---- tests
 

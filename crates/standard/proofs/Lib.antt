@@ -10,4 +10,8 @@ pub mod ExpansionLaws
 pub mod SealLaws
 pub mod IdentityLaws
 pub mod CallLaws
+pub mod RecordLaws
+pub mod BookLaws
+pub mod AnswerLaws
+pub mod Demand3Laws
 pub mod Cases

@@ -4,6 +4,8 @@ pub mod Cores
 pub mod Expansions
 pub mod Seals
 pub mod Identity
+pub mod Books
+pub mod Demand3
 pub mod Derivation
 pub mod Mixing
 pub mod Refusals

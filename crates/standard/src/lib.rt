@@ -84,6 +84,14 @@ pub struct RingMade {
     pub response2: [u8; 4],
 }
 
+// What a book call answers: a refused book has the offending record's index, and nothing written; an accepted one the number of records.
+#[repr(C)]
+pub struct BookAnswer {
+    pub refusal: u32,
+    pub index: usize,
+    pub written: usize,
+}
+
 // The kinds of sealed key, named by the algorithm that seals them.
 pub enum Kind {
     Ta31,

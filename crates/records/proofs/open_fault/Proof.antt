@@ -1,0 +1,109 @@
+-- `records::open_fault` meets its contract.
+-- Assumes nothing.
+use mathlib.Core.Bool.{true, false, not}
+use mathlib.Core.List.{List}
+use mathlib.Core.Path.{_≡_, sym, ap, _∙_}
+use Prim.Native.Nat.{ℕ}
+use denote.Ref.{now}
+use borrow.Author.Needs.{needs}
+use Rattle.records.proofs.StepLaws.{named-by, open-unknown, open-set, open-clear}
+use Rattle.standard.specs.Books.{sealingKey}
+use Rattle.standard.specs.Bytes.{_!_, part}
+use Rattle.standard.specs.Seals.{form, opened}
+use Rattle.records.proofs.open_fault.Statement.{statement}
+use Rattle.records.proofs.open_fault.Tie as tie
+
+array21-requires : tie.Need-array21-requires
+array21-requires c κs = search needs
+
+array-read-from-byte : tie.Need-array-read-from-byte
+array-read-from-byte c = search needs
+
+from-byte-requires : tie.Need-from-byte-requires
+from-byte-requires c κs = search needs
+
+enum-known-kind : tie.Need-enum-known-kind
+enum-known-kind c = search needs
+
+enum-told : tie.Need-enum-told
+enum-told c = search needs
+
+returns : tie.Need-returns
+returns c =
+    let found = c .before .before in
+    let copy = found .before in
+    let x = copy .before .before .args in
+    let t = now (x .rec) in
+    open-unknown (now (x .ring)) t
+    (named-by t (copy .array21 .result) (ap (λ (y : List ℕ). y ! 0) (copy .array21 .ensures)) (found .from-byte .ensures) ∙ c .enum-told .given .1)
+
+array-read-version-of : tie.Need-array-read-version-of
+array-read-version-of c = search needs
+
+array-read-version-of-2 : tie.Need-array-read-version-of-2
+array-read-version-of-2 c = search needs
+
+version-of-requires : tie.Need-version-of-requires
+version-of-requires c κs = search needs
+
+core-key-requires : tie.Need-core-key-requires
+core-key-requires c κs = search needs
+
+text-part-requires : tie.Need-text-part-requires
+text-part-requires c κs = search needs
+
+flag-of-requires : tie.Need-flag-of-requires
+flag-of-requires c κs = search needs
+
+returns-2 : tie.Need-returns-2
+returns-2 c =
+    let flag = c .before in
+    let core = flag .before .before in
+    let known = core .before .before .before in
+    let found = known .before .before in
+    let copy = found .before in
+    let x = copy .before .before .args in
+    let t = now (x .rec) in
+    let k = known .kind .given .0 .0 in
+    let e = named-by t (copy .array21 .result) (ap (λ (y : List ℕ). y ! 0) (copy .array21 .ensures)) (found .from-byte .ensures) ∙ known .kind .given .1 in
+    let q : core .core-key .result ≡ form k .key (sealingKey k (now (x .ring))) (part 4 2 t) =
+    core .core-key .ensures ∙ rw (core .before .version-of .ensures, copy .array21 .ensures) in
+    let f : not (form k .clear (opened (core .core-key .result) (part 6 15 t))) ≡ true =
+    sym (rw (flag .before .text-part .ensures, copy .array21 .ensures) at (flag .flag-of .ensures)) ∙ c .if1 .taken in
+    open-set (now (x .ring)) t k e (core .core-key .result) q f
+
+returns-3 : tie.Need-returns-3
+returns-3 c =
+    let flag = c .before in
+    let core = flag .before .before in
+    let known = core .before .before .before in
+    let found = known .before .before in
+    let copy = found .before in
+    let x = copy .before .before .args in
+    let t = now (x .rec) in
+    let k = known .kind .given .0 .0 in
+    let e = named-by t (copy .array21 .result) (ap (λ (y : List ℕ). y ! 0) (copy .array21 .ensures)) (found .from-byte .ensures) ∙ known .kind .given .1 in
+    let q : core .core-key .result ≡ form k .key (sealingKey k (now (x .ring))) (part 4 2 t) =
+    core .core-key .ensures ∙ rw (core .before .version-of .ensures, copy .array21 .ensures) in
+    let f : not (form k .clear (opened (core .core-key .result) (part 6 15 t))) ≡ false =
+    sym (rw (flag .before .text-part .ensures, copy .array21 .ensures) at (flag .flag-of .ensures)) ∙ c .if1 .left in
+    open-clear (now (x .ring)) t k e (core .core-key .result) q f
+
+pub open-fault-spec : {M : Type 1} → statement M
+open-fault-spec =
+    tie.close
+    (tie.spec
+    array21-requires
+    array-read-from-byte
+    from-byte-requires
+    enum-known-kind
+    enum-told
+    returns
+    array-read-version-of
+    array-read-version-of-2
+    version-of-requires
+    core-key-requires
+    text-part-requires
+    flag-of-requires
+    returns-2
+    returns-3)

@@ -1,0 +1,184 @@
+-- The answers of the book calls: when they are 0, and what they are then.
+-- Assumes nothing.
+use mathlib.Core.Bool.{Bool, true, false}
+use mathlib.Core.List.{List, [], _∷_, _++_}
+use mathlib.Core.Logic.{_⊎_, inl, inr}
+use mathlib.Core.Path.{_≡_, refl, sym, ap, _∙_, subst}
+use Prim.Native.Nat.{ℕ, zero, suc, _+_, _*_, _/_, _%_, _<_, _≤_}
+use native.Mathlib.Nat.{eq-or-lt-of-le, le-of-suc-le-suc, div-add-mod, add-zero, mul-mod-right, mul-le-mul-left, div-le-of-le-mul}
+use native.Mathlib.Numerals.{add-one}
+use native.Mathlib.Omega.{arith}
+use lib.Dec.{ltb, leb, eqb}
+use lib.ListN.{length, drop}
+use borrow.Author.Tests.{ltb-true, ltb-false, eqb-true, eqb-false, leb-true, eq-eqb, ne-eqb, le-leb}
+use Rattle.standard.specs.Books.{recordAt, each, firstFault, refused, answer, lengthTests, Way, bookAnswer, bookCall}
+use Rattle.standard.specs.Bytes.{_!_, choose, Bytes}
+use Rattle.standard.specs.Refusals.{long, first}
+use Rattle.standard.specs.declared.BookAnswer.{BookAnswer}
+use Rattle.standard.proofs.BookLaws.{Book}
+
+-- ---- the first fault
+
+pub record IsFirst (n : ℕ) (g : ℕ → ℕ) (f : ℕ) : Type 0 where
+  pub within : f ≤ n
+  pub below : (j : ℕ) → j < f → g j ≡ 0
+  pub stop : f < n → g f ≡ 0 → ⊥
+
+pub first-fault : (n : ℕ) (g : ℕ → ℕ) → IsFirst n g (firstFault n g)
+first-fault zero g = record { within = omega arith; below = λ j h. omega arith; stop = λ h e. omega arith }
+first-fault (suc n) g = go (first-fault n g) (ltb (firstFault n g) n) refl (eqb (g n) 0) refl
+  where
+    f : ℕ
+    f = firstFault n g
+
+    go : IsFirst n g f → (s : Bool) → ltb f n ≡ s → (u : Bool) → eqb (g n) 0 ≡ u → IsFirst (suc n) g (choose s f (choose u (suc n) n))
+    go p true es u eu = record { within = omega arith; below = p .below; stop = λ h e. p .stop (ltb-true f n es) e }
+    go p false es true eu = record {
+      within = omega arith;
+      below = λ j h. before j (eq-or-lt-of-le (le-of-suc-le-suc h));
+      stop = λ h e. omega arith;
+    }
+      where
+        whole : f ≡ n
+        whole = omega (arith, ltb-false f n es)
+
+        before : (j : ℕ) → (j ≡ n) ⊎ (j < n) → g j ≡ 0
+        before j (inl e) = ap g e ∙ eqb-true (g n) 0 eu
+        before j (inr h) = p .below j (omega (arith, whole))
+    go p false es false eu = record {
+      within = omega arith;
+      below = λ j h. p .below j (omega (arith, ltb-false f n es));
+      stop = λ h e. eqb-false (g n) 0 eu e;
+    }
+
+-- there is one only: what a loop finds is it
+pub first-one : {n : ℕ} {g : ℕ → ℕ} {a b : ℕ} → IsFirst n g a → IsFirst n g b → a ≡ b
+first-one {n} {g} {a} {b} p q = go (ltb a b) refl (ltb b a) refl
+  where
+    go : (s : Bool) → ltb a b ≡ s → (u : Bool) → ltb b a ≡ u → a ≡ b
+    go true es u eu = absurd (p .stop (omega (arith, ltb-true a b es, q .within)) (q .below a (ltb-true a b es)))
+    go false es true eu = absurd (q .stop (omega (arith, ltb-true b a eu, p .within)) (p .below b (ltb-true b a eu)))
+    go false es false eu = omega (arith, ltb-false a b es, ltb-false b a eu)
+
+no-fault : (n : ℕ) (g : ℕ → ℕ) → ((j : ℕ) → j < n → g j ≡ 0) → firstFault n g ≡ n
+no-fault n g h = first-one (first-fault n g) (record { within = omega arith; below = h; stop = λ l e. omega arith })
+
+-- ---- an answer is 0 exactly if no refusal applies
+
+module _ (head n : ℕ) (g : ℕ → ℕ) (written : ℕ) where
+  pub is-accepted : answer head n g written .refusal ≡ 0 → (head ≡ 0) × ((i : ℕ) → i < n → g i ≡ 0)
+  unfolding answer
+  is-accepted e = outer (eqb head 0) refl e
+    where
+      inner : {f : ℕ} → IsFirst n g f → (t : Bool) → eqb f n ≡ t
+          → choose t (record { refusal = 0; index = n; written = written }) (refused (g f) f) .refusal ≡ 0 → (i : ℕ) → i < n → g i ≡ 0
+      inner {f} p true et e i h = p .below i (omega (arith, eqb-true f n et))
+      inner {f} p false et e i h = absurd (p .stop (short (eq-or-lt-of-le (p .within))) e)
+        where
+          short : (f ≡ n) ⊎ (f < n) → f < n
+          short (inl q) = absurd (eqb-false f n et q)
+          short (inr q) = q
+
+      outer : (t : Bool) → eqb head 0 ≡ t
+          → choose t (choose (eqb (firstFault n g) n) (record { refusal = 0; index = n; written = written }) (refused (g (firstFault n g)) (firstFault n g))) (refused head 0) .refusal ≡ 0
+          → (head ≡ 0) × ((i : ℕ) → i < n → g i ≡ 0)
+      outer true et e = (eqb-true head 0 et, inner (first-fault n g) (eqb (firstFault n g) n) refl e)
+      outer false et e = absurd (eqb-false head 0 et e)
+
+  pub accepted : head ≡ 0 → ((i : ℕ) → i < n → g i ≡ 0) → answer head n g written ≡ record { refusal = 0; index = n; written = written }
+  unfolding answer
+  accepted h l = simp (eq-eqb _ _ h, eq-eqb _ _ (no-fault n g l))
+
+  -- a refusal writes nothing
+  pub refusal-writes : (answer head n g written .refusal ≡ 0 → ⊥) → answer head n g written .written ≡ 0
+  unfolding answer
+  refusal-writes r = go (eqb head 0) (eqb (firstFault n g) n) r
+    where
+      go : (s t : Bool)
+          → (choose s (choose t (record { refusal = 0; index = n; written = written }) (refused (g (firstFault n g)) (firstFault n g))) (refused head 0) .refusal ≡ 0 → ⊥)
+          → choose s (choose t (record { refusal = 0; index = n; written = written }) (refused (g (firstFault n g)) (firstFault n g))) (refused head 0) .written ≡ 0
+      go true true r = absurd (r refl)
+      go true false r = refl
+      go false t r = refl
+
+-- ---- the lengths
+
+step : (t : Bool) (n rest : ℕ) → choose t rest (suc n) ≡ 0 → (t ≡ true) × (rest ≡ 0)
+step true n rest e = (refl, e)
+step false n rest e = absurd (omega arith)
+
+-- bytes are a book of records without a fault exactly if refusals 1, 2 and the records' do not apply
+module _ (w : ℕ) (fault : List ℕ → ℕ) (xs : List ℕ) where
+  pub lengths-fine : first (lengthTests w xs) ≡ 0 → (length xs ≤ w * 1024) × (length xs % w ≡ 0)
+  lengths-fine e =
+      let a = step (leb (length xs) (w * 1024)) 0 _ e in
+      let b = step (eqb (length xs % w) 0) 1 _ (a .1) in
+      (leb-true _ _ (a .0), eqb-true _ _ (b .0))
+
+  pub book-of : ((i : ℕ) → xs ! i < 256) → length xs ≤ w * 1024 → length xs % w ≡ 0
+      → ((i : ℕ) → i < length xs / w → fault (recordAt w xs i) ≡ 0) → Book w (λ x. eqb (fault x) 0) xs
+  book-of b few whole good = record {
+    bytes = record { len = sym (div-add-mod (length xs) w) ∙ ap (λ (k : ℕ). w * (length xs / w) + k) whole ∙ add-zero _; bound = b };
+    few = div-le-of-le-mul w few;
+    pass = λ i h. eq-eqb _ 0 (good i h);
+  }
+
+  module _ (b : Book w (λ x. eqb (fault x) 0) xs) where
+    pub few-of : length xs ≤ w * 1024
+    few-of = subst (λ (l : ℕ). l ≤ w * 1024) (sym (b .bytes .len)) (mul-le-mul-left w (b .few))
+
+    pub whole-of : length xs % w ≡ 0
+    whole-of = ap (λ (l : ℕ). l % w) (b .bytes .len) ∙ mul-mod-right w (length xs / w)
+
+    pub good-of : (i : ℕ) → i < length xs / w → fault (recordAt w xs i) ≡ 0
+    good-of i h = eqb-true _ 0 (b .pass i h)
+
+-- ---- the calls, in one direction
+
+-- an accepted call had a ring of 36 bytes and an output long enough
+pub call-lengths : (W : Way) (r xs out : List ℕ) → bookCall W r xs out .0 .refusal ≡ 0
+    → (length r ≡ 36) × (W .to * (length xs / W .size) ≤ length out)
+unfolding bookCall bookAnswer
+call-lengths W r xs out e =
+    let a = is-accepted _ (length xs / W .size) (λ i. W .fault (recordAt (W .size) xs i)) (W .to * (length xs / W .size)) e in
+    let t₁ = step (eqb (length r) 36) 10 _ (a .0) in
+    let t₂ = step (leb (length xs) (W .size * 1024)) 0 _ (t₁ .1) in
+    let t₃ = step (eqb (length xs % W .size) 0) 1 _ (t₂ .1) in
+    let t₄ = step (leb (W .to * (length xs / W .size)) (length out)) 11 _ (t₃ .1) in
+    (eqb-true _ _ (t₁ .0), leb-true _ _ (t₄ .0))
+
+module _ (W : Way) (r xs out : List ℕ) (hr : length r ≡ 36) (b : (i : ℕ) → xs ! i < 256) where
+  abbrev n : ℕ
+  n = length xs / W .size
+
+  abbrev Good : List ℕ → Type 0
+  Good = Book (W .size) (λ x. eqb (W .fault x) 0)
+
+  pub call-book : bookCall W r xs out .0 .refusal ≡ 0 → Good xs
+  unfolding bookCall bookAnswer
+  call-book e =
+      let a = is-accepted _ n (λ i. W .fault (recordAt (W .size) xs i)) (W .to * n) e in
+      let t₁ = step (eqb (length r) 36) 10 _ (a .0) in
+      let t₂ = step (leb (length xs) (W .size * 1024)) 0 _ (t₁ .1) in
+      let t₃ = step (eqb (length xs % W .size) 0) 1 _ (t₂ .1) in
+      book-of (W .size) (W .fault) xs b (leb-true _ _ (t₂ .0)) (eqb-true _ _ (t₃ .0)) (a .1)
+
+  pub call-accepts : W .to * n ≤ length out → Good xs
+      → bookCall W r xs out ≡ (record { refusal = 0; index = n; written = W .to * n }, each n (W .size) (W .convert) xs ++ drop (W .to * n) out)
+  unfolding bookCall bookAnswer
+  call-accepts room g =
+      let head : first ((long 36 r, 11) ∷ lengthTests (W .size) xs ++ (leb (W .to * n) (length out), 12) ∷ []) ≡ 0 =
+      rw (eq-eqb _ _ hr, le-leb _ _ (few-of (W .size) (W .fault) xs g), eq-eqb _ _ (whole-of (W .size) (W .fault) xs g), le-leb _ _ room) in
+      rw (accepted _ n (λ i. W .fault (recordAt (W .size) xs i)) (W .to * n) head (good-of (W .size) (W .fault) xs g))
+
+  pub call-refuses : (bookCall W r xs out .0 .refusal ≡ 0 → ⊥) → (bookCall W r xs out .0 .written ≡ 0) × (bookCall W r xs out .1 ≡ out)
+  unfolding bookCall bookAnswer
+  call-refuses e = (refusal-writes _ _ _ _ e, rw (ne-eqb _ 0 e))
+
+-- what is written fits the output
+pub written-fits : (W : Way) (r xs out : List ℕ) → bookCall W r xs out .0 .refusal ≡ 0 → bookCall W r xs out .0 .written ≤ length out
+unfolding bookCall bookAnswer
+written-fits W r xs out e =
+    let n : ℕ = length xs / W .size in
+    let a = is-accepted _ n (λ i. W .fault (recordAt (W .size) xs i)) (W .to * n) e in
+    rw (accepted _ n (λ i. W .fault (recordAt (W .size) xs i)) (W .to * n) (a .0) (a .1)) (call-lengths W r xs out e .1)

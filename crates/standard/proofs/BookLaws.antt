@@ -1,0 +1,116 @@
+-- Books: what is inverse on records is inverse on books of them, for any record sizes.
+-- Assumes nothing.
+use mathlib.Core.Path.{_≡_, refl, sym, ap, ap₂, _∙_, subst}
+use mathlib.Core.Logic.{_⊎_, inl, inr, _↔_}
+use mathlib.Core.List.{List, [], _∷_, _++_}
+use mathlib.Core.Bool.{Bool, true}
+use Prim.Native.Nat.{ℕ, zero, suc, _+_, _*_, _/_, _<_, _≤_}
+use native.Mathlib.Nat.{mul-suc, mul-zero, mul-div-cancel-left, mul-le-mul-left, eq-or-lt-of-le, le-of-suc-le-suc}
+use native.Mathlib.Omega.{arith}
+use lib.ListN.{length}
+use Rattle.standard.specs.Bytes.{_!_, part, table, Bytes, Passed}
+use Rattle.standard.specs.Books.{recordAt, each}
+use Rattle.standard.proofs.InverseLaws.{Inverse, reversed}
+use Rattle.standard.proofs.BytesLaws.{spelled, bytes-nil, bytes-append, bytes-part, table-add, part-left, part-seam}
+
+-- at most 1,024 whole records of w bytes, each of which passes
+pub record Book (w : ℕ) (ok : List ℕ → Bool) (xs : List ℕ) : Type 0 where
+  pub bytes : Bytes (w * (length xs / w)) xs
+  pub few : length xs / w ≤ 1024
+  pub pass : (i : ℕ) → i < length xs / w → ok (recordAt w xs i) ≡ true
+
+-- ---- a book, record by record
+
+each-same : (n w v : ℕ) (f g : List ℕ → List ℕ) (xs ys : List ℕ)
+    → ((i : ℕ) → i < n → f (part (w * i) w xs) ≡ g (part (v * i) v ys)) → each n w f xs ≡ each n v g ys
+each-same zero w v f g xs ys h = refl
+each-same (suc n) w v f g xs ys h = ap₂ _++_ (each-same n w v f g xs ys (λ i k. h i (omega arith))) (h n (omega arith))
+
+each-table : (n w : ℕ) (xs : List ℕ) → each n w (λ x. x) xs ≡ table (w * n) (λ i. xs ! i)
+each-table zero w xs = rw mul-zero
+each-table (suc n) w xs =
+    ap (λ (r : List ℕ). r ++ part (w * n) w xs) (each-table n w xs)
+    ∙ sym (table-add (w * n) w (λ i. xs ! i)) ∙ ap (λ (k : ℕ). table k (λ i. xs ! i)) (sym (mul-suc w n))
+
+-- the records of a book, as they are
+each-self : (n w : ℕ) (xs : List ℕ) → length xs ≡ w * n → each n w (λ x. x) xs ≡ xs
+each-self n w xs e = each-table n w xs ∙ spelled (w * n) xs e
+
+module _ (w v : ℕ) (f : List ℕ → List ℕ) (xs : List ℕ) where
+  each-bytes : (n : ℕ) → ((i : ℕ) → i < n → Bytes v (f (part (w * i) w xs))) → Bytes (v * n) (each n w f xs)
+  each-bytes zero h = rw mul-zero bytes-nil
+  each-bytes (suc n) h = rw mul-suc (bytes-append (each-bytes n (λ i k. h i (omega arith))) (h n (omega arith)))
+
+  -- record i of what was made is made of record i
+  each-at : (n : ℕ) → ((i : ℕ) → i < n → Bytes v (f (part (w * i) w xs)))
+      → (i : ℕ) → i < n → part (v * i) v (each n w f xs) ≡ f (part (w * i) w xs)
+  each-at zero h i k = absurd (omega arith)
+  each-at (suc n) h i k = go (eq-or-lt-of-le (le-of-suc-le-suc k)) (each-at n h′ i)
+    where
+      h′ : (j : ℕ) → j < n → Bytes v (f (part (w * j) w xs))
+      h′ j l = h j (omega arith)
+
+      go : (i ≡ n) ⊎ (i < n) → (i < n → part (v * i) v (each n w f xs) ≡ f (part (w * i) w xs))
+          → part (v * i) v (each n w f xs ++ f (part (w * n) w xs)) ≡ f (part (w * i) w xs)
+      go (inl e) ih = rw e (part-seam (each-bytes n h′) (h n (omega arith)))
+      go (inr l) ih =
+          part-left (v * i) v (each n w f xs) (f (part (w * n) w xs))
+          (omega (arith, each-bytes n h′ .len, mul-le-mul-left v l, mul-suc v i))
+          ∙ ih l
+
+-- ---- what is inverse on records of w and v bytes is inverse on books of them
+
+abbrev mapped : ℕ → (List ℕ → List ℕ) → List ℕ → List ℕ
+mapped w f xs = each (length xs / w) w f xs
+
+module _ {w v : ℕ} (hw : zero < w) (hv : zero < v) {ok ok′ : List ℕ → Bool} {f g : List ℕ → List ℕ} (m : Inverse (Passed w ok) (Passed v ok′) f g)
+    (p : List ℕ) (b : Book w ok p) where
+  n : ℕ
+  n = length p / w
+
+  passes : (i : ℕ) → i < n → Passed w ok (part (w * i) w p)
+  unfolding n
+  passes i h = record { bytes = bytes-part (w * i) w (b .bytes); passed = b .pass i h }
+
+  made : (i : ℕ) → i < n → Bytes v (f (part (w * i) w p))
+  made i h = m .to (part (w * i) w p) (passes i h) .bytes
+
+  bytes-mapped : Bytes (v * n) (mapped w f p)
+  unfolding n
+  bytes-mapped = each-bytes w v f p n made
+
+  -- as many records
+  count : length (mapped w f p) / v ≡ n
+  count = ap (λ (l : ℕ). l / v) (bytes-mapped .len) ∙ mul-div-cancel-left n hv
+
+  book-to : Book v ok′ (mapped w f p)
+  unfolding n
+  book-to = record {
+    bytes = rw count bytes-mapped;
+    few = rw count (b .few);
+    pass = λ i h.
+        let k : i < n = rw count at h in
+        rw (each-at w v f p n made i k) (m .to (part (w * i) w p) (passes i k) .passed);
+  }
+
+  book-back : mapped v g (mapped w f p) ≡ p
+  unfolding n
+  book-back =
+      rw count
+      (each-same n v w g (λ x. x) (mapped w f p) p
+      (λ i h. ap g (each-at w v f p n made i h) ∙ m .back (part (w * i) w p) (passes i h))
+      ∙ each-self n w p (b .bytes .len))
+
+pub books : {w v : ℕ} → zero < w → zero < v → {ok ok′ : List ℕ → Bool} {f g : List ℕ → List ℕ}
+    → Inverse (Passed w ok) (Passed v ok′) f g → Inverse (Book w ok) (Book v ok′) (mapped w f) (mapped v g)
+books hw hv m = record {
+  to = book-to hw hv m;
+  from = book-to hv hw (reversed m);
+  back = book-back hw hv m;
+  forth = book-back hv hw (reversed m);
+}
+
+pub mapped-length : {w v : ℕ} → zero < w → zero < v → {ok ok′ : List ℕ → Bool} {f g : List ℕ → List ℕ} → Inverse (Passed w ok) (Passed v ok′) f g
+    → (p : List ℕ) → Book w ok p → length (mapped w f p) ≡ v * (length p / w)
+unfolding n
+mapped-length hw hv m p b = bytes-mapped hw hv m p b .len

@@ -1,0 +1,144 @@
+-- Demand 3, proved: for every ring of 36 bytes, all bytes of any length and every output long enough.
+-- Assumes nothing.
+use mathlib.Core.List.{List, _++_}
+use mathlib.Core.Logic.{_↔_}
+use mathlib.Core.Path.{_≡_, refl, sym, ap, _∙_}
+use Prim.Native.Nat.{ℕ, _*_, _/_, _<_, _≤_}
+use native.Mathlib.Omega.{arith}
+use lib.Dec.{eqb}
+use lib.ListN.{length, take, drop}
+use lib.Seq.{take-at}
+use borrow.Author.Tests.{eq-eqb, le-leb}
+use Rattle.standard.specs.Books.{plainFault, sealRecord, openFault, openRecord, each, WellFormed, sealedForm, lengthTests, sealing, opening, bookCall, sealBook, openBook, checkPlain}
+use Rattle.standard.specs.Bytes.{_!_, Bytes}
+use Rattle.standard.specs.Demand3.{Seals, Demand3}
+use Rattle.standard.specs.Refusals.{first}
+use Rattle.standard.specs.declared.BookAnswer.{BookAnswer}
+use Rattle.standard.proofs.AnswerLaws.{is-accepted, accepted, lengths-fine, book-of, few-of, whole-of, good-of, call-lengths, call-book, call-accepts, call-refuses}
+use Rattle.standard.proofs.BookLaws.{Book, books, mapped-length}
+use Rattle.standard.proofs.InverseLaws.{Inverse, is-image, of-one, reversed}
+use Rattle.standard.proofs.RecordLaws.{record-law}
+
+abbrev PlainBook : List ℕ → Type 0
+PlainBook = Book 18 (λ p. eqb (plainFault p) 0)
+
+abbrev SealedBook : List ℕ → List ℕ → Type 0
+SealedBook r = Book 21 (λ t. eqb (openFault r t) 0)
+
+-- a well-formed plain book, in the terms of the laws
+book : {p : List ℕ} → WellFormed p → PlainBook p
+book {p} w = book-of 18 plainFault p (w .bytes) (w .short) (w .whole) (w .legal)
+
+well-formed : {p : List ℕ} → PlainBook p → WellFormed p
+well-formed {p} b = record {
+  bytes = b .bytes .bound;
+  short = few-of 18 plainFault p b;
+  whole = whole-of 18 plainFault p b;
+  legal = good-of 18 plainFault p b;
+}
+
+opening-lengths : (r s plain : List ℕ) → openBook r s plain .0 .refusal ≡ 0 → (length r ≡ 36) × (18 * (length s / 21) ≤ length plain)
+unfolding openBook
+opening-lengths r s plain e = call-lengths (opening r) r s plain e
+
+module _ (r : List ℕ) (hr : Bytes 36 r) where
+  -- the sealed form and what opening writes are inverse
+  book-law : Inverse PlainBook (SealedBook r) (λ p. each (length p / 18) 18 (sealRecord r) p) (λ s. each (length s / 21) 21 (openRecord r) s)
+  book-law = books (omega arith) (omega arith) (record-law r hr)
+
+  module _ (s : List ℕ) (bs : (i : ℕ) → s ! i < 256) where
+    sealed-book : (p : List ℕ) → Seals r p s → SealedBook r s
+    unfolding sealedForm
+    sealed-book p q = is-image book-law s .1 (p, book (q .formed), q .is)
+
+    -- the book is what opening writes
+    opened : (p : List ℕ) → Seals r p s → p ≡ each (length s / 21) 21 (openRecord r) s
+    unfolding sealedForm
+    opened p q = of-one book-law p s (book (q .formed)) (q .is)
+
+    from-sealed : SealedBook r s → (p : List ℕ) × Seals r p s
+    unfolding sealedForm
+    from-sealed b = let i = is-image book-law s .0 b in (i .0, record { formed = well-formed (i .1); is = i .2 })
+
+    plain-length : (p : List ℕ) → Seals r p s → length p ≡ 18 * (length s / 21)
+    plain-length p q = ap length (opened p q) ∙ mapped-length (omega arith) (omega arith) (reversed (record-law r hr)) s (sealed-book p q)
+
+    sealed-length : (p : List ℕ) → Seals r p s → length s ≡ 21 * (length p / 18)
+    unfolding sealedForm
+    sealed-length p q = ap length (sym (q .is)) ∙ mapped-length (omega arith) (omega arith) (record-law r hr) p (book (q .formed))
+
+    module _ (out : List ℕ) (room : 18 * (length s / 21) ≤ length out) where
+      accepts : SealedBook r s
+          → openBook r s out ≡ (record { refusal = 0; index = length s / 21; written = 18 * (length s / 21) }, each (length s / 21) 21 (openRecord r) s ++ drop (18 * (length s / 21)) out)
+      unfolding openBook
+      accepts b = call-accepts (opening r) r s out (hr .len) bs room b
+
+      opens : (openBook r s out .0 .refusal ≡ 0) ↔ ((p : List ℕ) × Seals r p s)
+      unfolding openBook
+      opens = (
+        λ e. from-sealed (call-book (opening r) r s out (hr .len) bs e),
+        λ q. ap (λ (a : BookAnswer × List ℕ). a .0 .refusal) (accepts (sealed-book (q .0) (q .1))),
+      )
+
+      writes : (p : List ℕ) → Seals r p s → openBook r s out ≡ (record { refusal = 0; index = length p / 18; written = length p }, p ++ drop (length p) out)
+      writes p q =
+          let l = plain-length p q in
+          let n : length p / 18 ≡ length s / 21 = omega arith in
+          rw (n, l) (accepts (sealed-book p q) ∙ rw (← opened p q))
+
+      back : (p : List ℕ) → Seals r p s → (out′ : List ℕ) → length s ≤ length out′
+          → sealBook r p out′ ≡ (record { refusal = 0; index = length p / 18; written = length s }, s ++ drop (length s) out′)
+      unfolding sealBook sealedForm
+      back p q out′ h =
+          let l = sealed-length p q in
+          call-accepts (sealing r) r p out′ (hr .len) (q .formed .bytes) (omega arith) (book (q .formed)) ∙ rw (q .is, ← l)
+
+      refuses : (((p : List ℕ) × Seals r p s) → ⊥)
+          → (openBook r s out .0 .refusal ≡ 0 → ⊥) × (openBook r s out .0 .written ≡ 0) × (openBook r s out .1 ≡ out)
+      unfolding openBook
+      refuses none =
+          let shut : openBook r s out .0 .refusal ≡ 0 → ⊥ = λ e. none (opens .0 e) in
+          let k = call-refuses (opening r) r s out (hr .len) bs shut in
+          (shut, k .0, k .1)
+
+      pub demand3 : Demand3 r s out
+      demand3 = record {
+        opens = opens;
+        unique = λ p q hp hq. opened p hp ∙ sym (opened q hq);
+        writes = writes;
+        back = back;
+        refuses = refuses;
+      }
+
+-- ---- a book that opens, sealed again from what opening wrote, comes back byte for byte
+
+pub comes-back : (r s plain out : List ℕ) → ((i : ℕ) → r ! i < 256) → ((i : ℕ) → s ! i < 256) → openBook r s plain .0 .refusal ≡ 0 → length s ≤ length out
+    → sealBook r (take (openBook r s plain .0 .written) (openBook r s plain .1)) out .1 ≡ s ++ drop (length s) out
+comes-back r s plain out br bs e h =
+    let l = opening-lengths r s plain e in
+    let d = demand3 r (record { len = l .0; bound = br }) s bs plain (l .1) in
+    let q = d .opens .0 e in
+    let p = q .0 in
+    rw (d .writes p (q .1), take-at p (drop (length p) plain) (length p) refl, d .back p (q .1) out h)
+
+-- ---- a plain book is well formed exactly if the checks answer 0, and exactly if sealing it into an output long enough does
+
+pub checks-exactly : (p : List ℕ) → ((i : ℕ) → p ! i < 256) → (checkPlain p .refusal ≡ 0) ↔ WellFormed p
+unfolding checkPlain
+checks-exactly p b = (
+  λ e.
+      let a = is-accepted _ _ _ _ e in
+      let l = lengths-fine 18 plainFault p (a .0) in
+      record { bytes = b; short = l .0; whole = l .1; legal = a .1 },
+  λ w.
+      let head : first (lengthTests 18 p) ≡ 0 = rw (le-leb _ _ (w .short), eq-eqb _ _ (w .whole)) in
+      ap (λ (a : BookAnswer). a .refusal) (accepted _ _ _ _ head (w .legal)),
+)
+
+pub seals-exactly : (r p out : List ℕ) → length r ≡ 36 → ((i : ℕ) → p ! i < 256) → 21 * (length p / 18) ≤ length out
+    → (sealBook r p out .0 .refusal ≡ 0) ↔ WellFormed p
+unfolding sealBook
+seals-exactly r p out hr b room = (
+  λ e. well-formed (call-book (sealing r) r p out hr b e),
+  λ w. ap (λ (a : BookAnswer × List ℕ). a .0 .refusal) (call-accepts (sealing r) r p out hr b room (book w)),
+)
