@@ -3,11 +3,13 @@
  *
  * A byte string goes in as a pointer and a length. Any length may be handed
  * in: the call tests it and refuses a wrong one. The pointer may be null where
- * the length is 0. The leftmost byte of a string stands first.
+ * the length is 0. The leftmost byte of a string stands first. A length in
+ * brackets, in the comments below, is the one that the call accepts.
  *
  * Every answer is a struct by value whose first field is 0 or the number of a
- * refusal. On a refusal all its other fields are zero. Compare fields and not
- * whole structs: padding is no part of an answer.
+ * refusal. On a refusal all its other fields are zero, but for the index in a
+ * book's answer. Compare fields and not whole structs: padding is no part of an
+ * answer.
  *
  * A Rust host declares `*const u8, usize` for a byte string and never `&[u8]`,
  * because Rust's slices do not pass this way.
@@ -46,6 +48,16 @@ enum taa1_refusal {
     TAA1_OUTPUT_SHORT = 12  /* the output is shorter than the result */
 };
 
+/* ---- Versions and key numbers: two types, so that none is taken for the other ---- */
+
+typedef struct {
+    uint16_t value;
+} taa1_version;
+
+typedef struct {
+    uint16_t value;
+} taa1_key_number;
+
 /* ---- Answers ---- */
 
 typedef struct {
@@ -53,7 +65,70 @@ typedef struct {
     uint8_t bytes[8];
 } taa1_bytes8;
 
-/* ---- HURDLE-II: one block of 8 bytes under a key of 16 ---- */
+typedef struct {
+    uint32_t refusal;
+    uint8_t bytes[10];
+} taa1_bytes10;
+
+typedef struct {
+    uint32_t refusal;
+    uint8_t bytes[15];
+} taa1_bytes15;
+
+typedef struct {
+    uint32_t refusal;
+    uint8_t bytes[16];
+} taa1_bytes16;
+
+typedef struct {
+    uint32_t refusal;
+    uint8_t response[4];
+    uint8_t key[10];
+} taa1_authentication;
+
+typedef struct {
+    uint32_t refusal;
+    uint32_t identity;
+} taa1_identity;
+
+/* A set flag says that the text is not what sealing gives; it is no refusal. */
+typedef struct {
+    uint32_t refusal;
+    uint8_t key[10];
+    bool flag;
+} taa1_unsealed;
+
+typedef struct {
+    uint32_t refusal;
+    uint8_t key[10];
+    uint16_t number;
+    bool flag;
+} taa1_unsealed_numbered;
+
+typedef struct {
+    uint32_t refusal;
+    uint8_t key[12];
+    bool flag;
+} taa1_unsealed_group;
+
+typedef struct {
+    uint32_t refusal;
+    uint8_t ring[36];
+    uint8_t response1[4];
+    uint8_t response2[4];
+} taa1_ring_made;
+
+/*
+ * The index is that of the first offending record on a refusal (0 for 1, 2, 11
+ * and 12), and the number of records where the book is accepted.
+ */
+typedef struct {
+    uint32_t refusal;
+    size_t index;
+    size_t written;
+} taa1_book_answer;
+
+/* ---- HURDLE-II: a block [8] under a key [16] ---- */
 
 /* The block, encrypted. */
 taa1_bytes8 taa1_encrypt(const uint8_t *key, size_t key_length,
@@ -62,6 +137,184 @@ taa1_bytes8 taa1_encrypt(const uint8_t *key, size_t key_length,
 /* The block, decrypted: undoes taa1_encrypt under the same key. */
 taa1_bytes8 taa1_decrypt(const uint8_t *key, size_t key_length,
                          const uint8_t *block, size_t block_length);
+
+/* ---- TA11, TA21, TA41: a session key from a root [16] and a seed [10] ---- */
+
+/* The session key for TA12. */
+taa1_bytes16 taa1_ta11(const uint8_t *root, size_t root_length,
+                       const uint8_t *seed, size_t seed_length);
+
+/* The session key for TA22: TA11 of the seed's bytes in reverse. */
+taa1_bytes16 taa1_ta21(const uint8_t *root, size_t root_length,
+                       const uint8_t *seed, size_t seed_length);
+
+/* The session key that seals kinds 2 to 4: made as in TA11. */
+taa1_bytes16 taa1_ta41(const uint8_t *root, size_t root_length,
+                       const uint8_t *seed, size_t seed_length);
+
+/*
+ * ---- TA12, TA22: a response and a key from a session key [16] and a challenge [10] ----
+ *
+ * The masks choose from the sixteen bytes that the cipher gives: bit i stands
+ * for byte i, and byte 0 is rightmost. The bytes chosen keep their order. The
+ * response mask has exactly four ones and the key mask exactly ten, none
+ * shared.
+ */
+
+taa1_authentication taa1_ta12(const uint8_t *session_key, size_t session_key_length,
+                              const uint8_t *challenge, size_t challenge_length,
+                              uint16_t response_mask, uint16_t key_mask);
+
+/* As TA12: the challenge is not reversed. */
+taa1_authentication taa1_ta22(const uint8_t *session_key, size_t session_key_length,
+                              const uint8_t *challenge, size_t challenge_length,
+                              uint16_t response_mask, uint16_t key_mask);
+
+/* ---- TA31, TA32: a cipher key [10] under a sealing key [10], kind 1 ---- */
+
+/* The sealed text. */
+taa1_bytes15 taa1_ta31(const uint8_t *cipher_key, size_t cipher_key_length,
+                       taa1_version version,
+                       const uint8_t *sealing_key, size_t sealing_key_length);
+
+/* The cipher key that a text [15] seals. */
+taa1_unsealed taa1_ta32(const uint8_t *text, size_t text_length,
+                        const uint8_t *sealing_key, size_t sealing_key_length,
+                        taa1_version version);
+
+/* ---- TA51, TA52: a cipher key [10] and a number under a sealing key [16], kind 2 ---- */
+
+/* The sealed text. The number is 0 to 31. */
+taa1_bytes15 taa1_ta51(const uint8_t *cipher_key, size_t cipher_key_length,
+                       taa1_version version,
+                       const uint8_t *sealing_key, size_t sealing_key_length,
+                       taa1_key_number number);
+
+/* The cipher key and number that a text [15] seals. The number is never above 31. */
+taa1_unsealed_numbered taa1_ta52(const uint8_t *text, size_t text_length,
+                                 const uint8_t *sealing_key, size_t sealing_key_length,
+                                 taa1_version version);
+
+/* ---- TA61: an identity of 24 bits under a common key [10] ---- */
+
+/* The identity, encrypted. */
+taa1_identity taa1_ta61(const uint8_t *common_key, size_t common_key_length,
+                        uint64_t identity);
+
+/* The identity of an encrypted one: undoes taa1_ta61 under the same key. */
+taa1_identity taa1_ta61_inverse(const uint8_t *common_key, size_t common_key_length,
+                                uint64_t encrypted_identity);
+
+/* ---- TA71: a cipher key from two [10 each]; their order matters ---- */
+
+taa1_bytes10 taa1_ta71(const uint8_t *key1, size_t key1_length,
+                       const uint8_t *key2, size_t key2_length);
+
+/* ---- TA81, TA82: a cipher key [10] and a number under a sealing key [16], kind 3 ---- */
+
+/* The sealed text. The number may be any of sixteen bits. */
+taa1_bytes15 taa1_ta81(const uint8_t *cipher_key, size_t cipher_key_length,
+                       taa1_version version,
+                       const uint8_t *sealing_key, size_t sealing_key_length,
+                       taa1_key_number number);
+
+/* The cipher key and number that a text [15] seals. */
+taa1_unsealed_numbered taa1_ta82(const uint8_t *text, size_t text_length,
+                                 const uint8_t *sealing_key, size_t sealing_key_length,
+                                 taa1_version version);
+
+/* ---- TA91, TA92: a group key [12] under a sealing key [16], kind 4 ---- */
+
+/* The sealed text. */
+taa1_bytes15 taa1_ta91(const uint8_t *group_key, size_t group_key_length,
+                       taa1_version version,
+                       const uint8_t *sealing_key, size_t sealing_key_length);
+
+/* The group key that a text [15] seals. */
+taa1_unsealed_group taa1_ta92(const uint8_t *text, size_t text_length,
+                              const uint8_t *sealing_key, size_t sealing_key_length,
+                              taa1_version version);
+
+/* ---- TA101: a session key for a visited network of 24 bits, from KS [16] and GCK0 [10] ---- */
+
+taa1_bytes16 taa1_ta101(const uint8_t *ks, size_t ks_length,
+                        const uint8_t *gck0, size_t gck0_length,
+                        uint64_t mni);
+
+/* ---- TB1 to TB7: keys mixed without the cipher ---- */
+
+/*
+ * The value, taken with a width of 16 to 32 bits, repeated from the left until
+ * there are 128 bits; the last copy is cut at the right.
+ */
+taa1_bytes16 taa1_tb1(uint64_t value, uint64_t width);
+
+/* The input [16] itself. */
+taa1_bytes16 taa1_tb2(const uint8_t *input, size_t input_length);
+
+/* The input [16], xor TB1 of the value. */
+taa1_bytes16 taa1_tb3(const uint8_t *input, size_t input_length,
+                      uint64_t value, uint64_t width);
+
+/* The xor of two inputs [10 each]. */
+taa1_bytes10 taa1_tb4(const uint8_t *input1, size_t input1_length,
+                      const uint8_t *input2, size_t input2_length);
+
+/* A cipher key [10] for one cell: location area 14 bits, carrier 12, colour code 6. */
+taa1_bytes10 taa1_tb5(const uint8_t *cipher_key, size_t cipher_key_length,
+                      uint64_t location_area, uint64_t carrier, uint64_t colour_code);
+
+/* A cipher key [10] for one identity on a carrier: carrier 12 bits, identity 24. */
+taa1_bytes10 taa1_tb6(const uint8_t *cipher_key, size_t cipher_key_length,
+                      uint64_t carrier, uint64_t identity);
+
+/* A group key [12], with the xor of each three bytes behind them. */
+taa1_bytes16 taa1_tb7(const uint8_t *group_key, size_t group_key_length);
+
+/*
+ * ---- A ring from a root [16], two seeds, two challenges and c [10 each] ----
+ *
+ * The ring is D [10], which seals kind 1, O [16], which seals kinds 2 to 4, and
+ * c, for identities. D is TB4 of the keys from TA12 (rs, rand1) and TA22 (rs,
+ * rand2), and O is TA41 (rso). The masks are those of TA12 and TA22, whose
+ * responses come along.
+ */
+taa1_ring_made taa1_ring(const uint8_t *root, size_t root_length,
+                         const uint8_t *rs, size_t rs_length,
+                         const uint8_t *rso, size_t rso_length,
+                         const uint8_t *rand1, size_t rand1_length,
+                         const uint8_t *rand2, size_t rand2_length,
+                         const uint8_t *c, size_t c_length,
+                         uint16_t response_mask, uint16_t key_mask);
+
+/*
+ * ---- Books: up to 1,024 records under a ring [36], as taa1_ring makes it ----
+ *
+ * A plain record has 18 bytes: kind (1 to 4), identity (3), version (2), body
+ * (12). The body is a key [10] and two zero bytes (kind 1), a key [10], a zero
+ * byte and a number of 0 to 31 (kind 2), a key [10] and a number of two bytes
+ * (kind 3), or a group key [12] (kind 4). Numbers have the high byte first.
+ *
+ * A sealed record has 21 bytes: kind, TA61 of the identity under c, version,
+ * and the sealed text [15] of the kind's call.
+ *
+ * The output must not overlap an input. It may be longer than the result: the
+ * bytes behind those written stay as they are. It may be null where its length
+ * is 0. A refusal leaves it unchanged.
+ */
+
+/* Seals a plain book; writes 21 bytes for each record. */
+taa1_book_answer taa1_seal_book(const uint8_t *ring, size_t ring_length,
+                                const uint8_t *plain, size_t plain_length,
+                                uint8_t *out, size_t out_length);
+
+/* Opens a sealed book, if each record in it does; writes 18 bytes for each. */
+taa1_book_answer taa1_open_book(const uint8_t *ring, size_t ring_length,
+                                const uint8_t *sealed, size_t sealed_length,
+                                uint8_t *out, size_t out_length);
+
+/* The refusals 1 to 5 that taa1_seal_book gives for a plain book; nothing is written. */
+taa1_book_answer taa1_check_plain(const uint8_t *plain, size_t plain_length);
 
 #ifdef __cplusplus
 }

@@ -1,25 +1,43 @@
 //! The time of one operation: the engine, osmo-tetra's C and the Rust of other
 //! hands, in one run on the same inputs.
 
+#[macro_use]
+mod texts;
 #[cfg(peer)]
 mod osmo;
 mod ours;
 mod rust;
 
+use host::both::{self, MOST};
 use host::random::Random;
 use std::time::{Duration, Instant};
 
-const ROWS: [&str; 3] = ["schedule", "block, keys laid out", "schedule and block"];
+#[rustfmt::skip]
+const ROWS: [&str; 14] = [
+    "schedule", "block, keys laid out", "schedule and block",
+    "TA11", "TA31", "TA32", "TA51", "TA52", "TA81", "TA82", "TA91", "TA92",
+    "record sealed", "record opened",
+];
+/// The last rows, whose steps are the records of one book.
+const BOOK_ROWS: usize = 2;
+const RECORDS: usize = MOST;
 const STEPS: usize = 2_000;
 const ROUNDS: usize = 300;
+const VERSION: u16 = 0x0102;
+const NUMBER: u16 = 3;
 
-/// One round of a contender in one row: `STEPS` operations, and the block that
-/// they end with. None where the contender has no such operation.
+/// One round of a contender in one row: all its steps, and a block that depends
+/// on each of them. None where the contender has no such operation.
 type Round<'a> = Option<Box<dyn FnMut() -> [u8; 8] + 'a>>;
+type Rounds<'a> = Vec<Round<'a>>;
 
 struct Inputs {
     keys: Vec<[u8; 16]>,
     block: [u8; 8],
+    text: [u8; 15],
+    ring: [u8; 36],
+    plain: Vec<u8>,
+    sealed: Vec<u8>,
 }
 
 impl Inputs {
@@ -57,21 +75,55 @@ impl Inputs {
             block
         }))
     }
+
+    /// Each step has the next key's index, and its data from the last result.
+    fn texts<'a>(&'a self, mut step: impl FnMut(usize, &mut [u8; 15]) + 'a) -> Round<'a> {
+        Some(Box::new(move || {
+            let mut text = self.text;
+            for i in 0..STEPS {
+                step(i, &mut text);
+            }
+            std::array::from_fn(|i| text[i])
+        }))
+    }
+
+    /// A book into records of this size. Their identities are not compared, for
+    /// osmo-tetra has no TA61.
+    fn book<'a>(&self, size: usize, mut step: impl FnMut(&mut [u8]) + 'a) -> Round<'a> {
+        let mut out = vec![0; size * RECORDS];
+        Some(Box::new(move || {
+            step(&mut out);
+            let mut block = [0; 8];
+            for record in out.chunks_exact(size) {
+                for i in 0..8 {
+                    block[i] ^= record[6 + i].rotate_left(1) ^ record[size - 8 + i];
+                }
+            }
+            block
+        }))
+    }
+}
+
+/// Makes the next text of what an unseal gave.
+fn put(text: &mut [u8; 15], key: &[u8], number: u16, flag: u8) {
+    text[..key.len()].copy_from_slice(key);
+    text[13] ^= number as u8;
+    text[14] ^= flag;
 }
 
 #[cfg(peer)]
-fn osmo_rounds(inputs: &Inputs) -> [Round<'_>; 3] {
+fn osmo_rounds(inputs: &Inputs) -> Rounds<'_> {
     osmo::rounds(inputs)
 }
 
 #[cfg(not(peer))]
-fn osmo_rounds(_: &Inputs) -> [Round<'_>; 3] {
-    [None, None, None]
+fn osmo_rounds(_: &Inputs) -> Rounds<'_> {
+    ROWS.map(|_| None).into()
 }
 
 /// The least time of a step for each contender. They take turns in short
 /// rounds, so that noise hits all alike.
-fn least(row: &str, mut contenders: [&mut Round; 3]) -> [Option<f64>; 3] {
+fn least(row: &str, steps: usize, mut contenders: [&mut Round; 3]) -> [Option<f64>; 3] {
     let mut least = [None::<Duration>; 3];
     let mut wanted = None;
     for _ in 0..ROUNDS {
@@ -85,14 +137,19 @@ fn least(row: &str, mut contenders: [&mut Round; 3]) -> [Option<f64>; 3] {
             *least = Some(least.map_or(time, |least| least.min(time)));
         }
     }
-    least.map(|time| Some(time?.as_secs_f64() * 1e9 / STEPS as f64))
+    least.map(|time| Some(time?.as_secs_f64() * 1e9 / steps as f64))
 }
 
 fn main() {
     let mut random = Random::from_environment();
+    let (ring, plain) = (random.bytes(), random.plain_book(RECORDS));
     let inputs = Inputs {
         keys: (0..STEPS).map(|_| random.bytes()).collect(),
         block: random.bytes(),
+        text: random.bytes(),
+        sealed: both::sealed(&ring, &plain),
+        ring,
+        plain,
     };
     let mut ours = ours::rounds(&inputs);
     let mut osmo = osmo_rounds(&inputs);
@@ -104,7 +161,9 @@ fn main() {
         "", "ours", "osmo-tetra", "Rust", "ours/osmo-tetra", "ours/Rust"
     );
     for (i, row) in ROWS.into_iter().enumerate() {
-        let [a, b, c] = least(row, [&mut ours[i], &mut osmo[i], &mut rust[i]]);
+        let book = i >= ROWS.len() - BOOK_ROWS;
+        let steps = if book { RECORDS } else { STEPS };
+        let [a, b, c] = least(row, steps, [&mut ours[i], &mut osmo[i], &mut rust[i]]);
         let ratio = |x: Option<f64>| Some(a? / x?);
         println!(
             "{row:20} {:>8} {:>12} {:>8} {:>16} {:>10}",

@@ -1,15 +1,17 @@
 //! osmo-tetra's C, at -O3.
 
-use crate::{Inputs, Round};
-use peer::osmo::RoundKeys;
+use crate::{put, Inputs, Round, Rounds, NUMBER, VERSION};
+use host::both::{PLAIN, SEALED};
+use peer::osmo::{self, RoundKeys};
+use std::array::from_fn;
 use std::hint::black_box;
 
-pub fn rounds(inputs: &Inputs) -> [Round<'_>; 3] {
+pub fn rounds(inputs: &Inputs) -> Rounds<'_> {
     let mut laid_out = RoundKeys::default();
     laid_out.set(&inputs.keys[0]);
     let mut keys = RoundKeys::default();
     let mut call_keys = RoundKeys::default();
-    [
+    let cipher = [
         inputs.schedules(move |key| {
             keys.set(key);
             black_box(&keys);
@@ -19,5 +21,110 @@ pub fn rounds(inputs: &Inputs) -> [Round<'_>; 3] {
             call_keys.set(key);
             call_keys.encrypt(block);
         }),
+    ];
+    let calls = cipher.into_iter().chain(texts(inputs));
+    calls.chain(books(inputs)).collect()
+}
+
+fn texts(inputs: &Inputs) -> [Round<'_>; 9] {
+    let keys = &inputs.keys;
+    let version = VERSION.to_be_bytes();
+    let number = NUMBER.to_be_bytes();
+    // EXP4 differs, so kind 1 has keys of its own for the same results.
+    let repaired = |key: &[u8; 16]| osmo::repaired(&start(key), VERSION);
+    let seal_keys: Vec<[u8; 10]> = keys.iter().map(repaired).collect();
+    let unseal_keys = seal_keys.clone();
+    [
+        inputs.texts(|i, text| *text = start(&osmo::ta11_ta41(&keys[i], &start(text)))),
+        inputs.texts(move |i, text| *text = osmo::ta31(&start(text), &version, &seal_keys[i])),
+        inputs.texts(move |i, text| {
+            let (key, [flag]) = osmo::ta32(text, &version, &unseal_keys[i]);
+            put(text, &key, 0, flag);
+        }),
+        inputs.texts(move |i, text| {
+            *text = osmo::ta51(&start(text), &version, &keys[i], &[number[1]]);
+        }),
+        inputs.texts(move |i, text| {
+            let (key, [flag], [byte]) = osmo::ta52(text, &keys[i], &version);
+            put(text, &key, u16::from(byte % 32), flag);
+        }),
+        inputs.texts(move |i, text| {
+            *text = osmo::ta81(&start(text), &version, &number, &keys[i]);
+        }),
+        inputs.texts(move |i, text| {
+            let (key, [flag], number) = osmo::ta82(text, &version, &keys[i]);
+            put(text, &key, u16::from_be_bytes(number), flag);
+        }),
+        inputs.texts(move |i, text| *text = osmo::ta91(&start(text), &version, &keys[i])),
+        inputs.texts(move |i, text| {
+            let (key, [flag]) = osmo::ta92(text, &version, &keys[i]);
+            put(text, &key, 0, flag);
+        }),
     ]
+}
+
+/// The same seals and unseals, one for each record, and identities as they are.
+fn books(inputs: &Inputs) -> [Round<'_>; 2] {
+    let o = start(&inputs.ring[10..]);
+    // Again kind 1 has keys of its own, here for each record's version.
+    let repaired = |record: &[u8]| {
+        let version = u16::from_be_bytes(start(&record[4..]));
+        osmo::repaired(&start(&inputs.ring), version)
+    };
+    let seal_keys: Vec<[u8; 10]> = inputs.plain.chunks(PLAIN).map(repaired).collect();
+    let open_keys = seal_keys.clone();
+    [
+        inputs.book(SEALED, move |out| {
+            let records = inputs.plain.chunks(PLAIN).zip(&seal_keys);
+            for ((record, d), out) in records.zip(out.chunks_mut(SEALED)) {
+                out[..6].copy_from_slice(&record[..6]);
+                out[6..].copy_from_slice(&sealed(record, d, &o));
+            }
+        }),
+        inputs.book(PLAIN, move |out| {
+            let records = inputs.sealed.chunks(SEALED).zip(&open_keys);
+            for ((record, d), out) in records.zip(out.chunks_mut(PLAIN)) {
+                out[..6].copy_from_slice(&record[..6]);
+                out[6..].copy_from_slice(&opened(record, d, &o));
+            }
+        }),
+    ]
+}
+
+fn sealed(record: &[u8], d: &[u8; 10], o: &[u8; 16]) -> [u8; 15] {
+    let (version, body) = (start(&record[4..]), &record[6..]);
+    match record[0] {
+        1 => osmo::ta31(&start(body), &version, d),
+        2 => osmo::ta51(&start(body), &version, o, &start(&body[11..])),
+        3 => osmo::ta81(&start(body), &version, &start(&body[10..]), o),
+        _ => osmo::ta91(&start(body), &version, o),
+    }
+}
+
+fn opened(record: &[u8], d: &[u8; 10], o: &[u8; 16]) -> [u8; 12] {
+    let (version, text) = (start(&record[4..]), start(&record[6..]));
+    let (key, number, flag) = match record[0] {
+        1 => {
+            let (key, [flag]) = osmo::ta32(&text, &version, d);
+            (key, [0, 0], flag)
+        }
+        2 => {
+            let (key, [flag], [number]) = osmo::ta52(&text, o, &version);
+            (key, [0, number], flag)
+        }
+        3 => {
+            let (key, [flag], number) = osmo::ta82(&text, &version, o);
+            (key, number, flag)
+        }
+        _ => {
+            let (key, [flag]) = osmo::ta92(&text, &version, o);
+            (start(&key), start(&key[10..]), flag)
+        }
+    };
+    assert_eq!(flag, 0);
+    from_fn(|i| if i < 10 { key[i] } else { number[i - 10] })
+}
+
+fn start<const N: usize>(bytes: &[u8]) -> [u8; N] {
+    from_fn(|i| bytes[i])
 }

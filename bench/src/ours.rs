@@ -1,12 +1,23 @@
-//! The engine. The call is its own; the steps are another archive's.
+//! The engine. The calls are its own; the steps are another archive's.
 
-use crate::{Inputs, Round};
+use crate::{Inputs, Round, Rounds};
+use host::both::{PLAIN, SEALED};
 use host::engine;
 
-pub fn rounds(inputs: &Inputs) -> [Round<'_>; 3] {
+pub fn rounds(inputs: &Inputs) -> Rounds<'_> {
     let [schedule, block] = steps(inputs);
     let call = inputs.calls(|key, block| *block = engine::encrypt(key, block).bytes);
-    [schedule, block, call]
+    let cipher = [schedule, block, call];
+    let books = [
+        inputs.book(SEALED, |out| {
+            engine::seal_book(&inputs.ring, &inputs.plain, out);
+        }),
+        inputs.book(PLAIN, |out| {
+            engine::open_book(&inputs.ring, &inputs.sealed, out);
+        }),
+    ];
+    let calls = cipher.into_iter().chain(texts!(inputs, engine));
+    calls.chain(books).collect()
 }
 
 #[cfg(steps)]

@@ -1,7 +1,11 @@
 //! What the programs around the engine share: its calls, an implementation by
-//! other hands, random inputs and the counting of comparisons.
+//! other hands, random and damaged inputs, and the counting of comparisons.
 
+pub mod books;
+pub mod both;
+pub mod damaged;
 pub mod engine;
 pub mod hurdle;
 pub mod random;
+pub mod taa1;
 pub mod tally;

@@ -1,7 +1,15 @@
 //! Compares the engine, called as a host calls it, with an implementation by
 //! other hands. One module for each family of calls.
 
+mod book_calls;
 mod cipher;
+mod derivation;
+mod edges;
+mod identity;
+mod masks;
+mod mixing;
+mod ring;
+mod seals;
 
 use host::random::Random;
 use host::tally::Tally;
@@ -9,7 +17,13 @@ use std::process::ExitCode;
 
 fn main() -> ExitCode {
     let mut random = Random::from_environment();
-    let mut tally = Tally::default();
+    let mut tally = Tally::from_environment();
     cipher::run(&mut tally, &mut random);
+    derivation::run(&mut tally, &mut random);
+    seals::run(&mut tally, &mut random);
+    identity::run(&mut tally, &mut random);
+    mixing::run(&mut tally, &mut random);
+    ring::run(&mut tally, &mut random);
+    book_calls::run(&mut tally, &mut random);
     tally.finish()
 }

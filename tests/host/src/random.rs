@@ -38,4 +38,55 @@ impl Random {
         self.fill(&mut bytes);
         bytes
     }
+
+    /// A number from 0 up to and without the limit.
+    pub fn below(&mut self, limit: usize) -> usize {
+        (self.number() % limit as u64) as usize
+    }
+
+    pub fn vec(&mut self, length: usize) -> Vec<u8> {
+        let mut bytes = vec![0; length];
+        self.fill(&mut bytes);
+        bytes
+    }
+
+    /// A well-formed plain record of this kind.
+    pub fn record(&mut self, kind: u8) -> [u8; 18] {
+        let mut record = self.bytes();
+        record[0] = kind;
+        match kind {
+            1 => record[16..].fill(0),
+            2 => (record[16], record[17]) = (0, record[17] % 32),
+            _ => {}
+        }
+        record
+    }
+
+    /// A well-formed plain book of random kinds.
+    pub fn plain_book(&mut self, records: usize) -> Vec<u8> {
+        let record = |_| {
+            let kind = 1 + self.below(4) as u8;
+            self.record(kind)
+        };
+        (0..records).flat_map(record).collect()
+    }
+
+    /// A mask with so many ones.
+    pub fn mask(&mut self, ones: u32) -> u16 {
+        self.grown(0, ones)
+    }
+
+    /// A response mask and a key mask: four ones and ten, none shared.
+    pub fn masks(&mut self) -> (u16, u16) {
+        let key_mask = self.mask(10);
+        let both = self.grown(key_mask, 14);
+        (both ^ key_mask, key_mask)
+    }
+
+    fn grown(&mut self, mut mask: u16, ones: u32) -> u16 {
+        while mask.count_ones() < ones {
+            mask |= 1 << (self.number() % 16);
+        }
+        mask
+    }
 }

@@ -1,8 +1,23 @@
 //! Compares the engine and the implementation by other hands with osmo-tetra.
 //! One module for each family of calls.
 
+/// The engine with what osmo-tetra gives, and with the other hands.
+#[cfg(peer)]
+macro_rules! compare_three {
+    ($group:ident, $call:ident $inputs:tt, $wanted:expr) => {
+        host::compare!($group, $call $inputs, $wanted);
+        host::compare!($group, $call $inputs);
+    };
+}
+
 #[cfg(peer)]
 mod cipher;
+#[cfg(peer)]
+mod derivation;
+#[cfg(peer)]
+mod mixing;
+#[cfg(peer)]
+mod seals;
 
 use host::tally::Tally;
 use std::process::ExitCode;
@@ -11,6 +26,9 @@ use std::process::ExitCode;
 fn run(tally: &mut Tally) {
     let mut random = host::random::Random::from_environment();
     cipher::run(tally, &mut random);
+    derivation::run(tally, &mut random);
+    seals::run(tally, &mut random);
+    mixing::run(tally, &mut random);
 }
 
 #[cfg(not(peer))]
@@ -19,7 +37,7 @@ fn run(_: &mut Tally) {
 }
 
 fn main() -> ExitCode {
-    let mut tally = Tally::default();
+    let mut tally = Tally::from_environment();
     run(&mut tally);
     tally.finish()
 }

@@ -1,0 +1,114 @@
+//! Compares the single calls on random inputs ten million times, or as many as
+//! the argument says.
+
+use host::compare;
+use host::engine;
+use host::random::Random;
+use host::tally::{Group, Tally};
+use std::process::ExitCode;
+
+fn main() -> ExitCode {
+    let times = std::env::args().nth(1).map_or(10_000_000, |text| {
+        text.parse().expect("the argument must be a number")
+    });
+    let mut random = Random::from_environment();
+    let mut tally = Tally::from_environment();
+    tally.group("single calls", |group| {
+        while group.made() < times {
+            cipher(group, &mut random);
+            seals(group, &mut random);
+            mixing(group, &mut random);
+        }
+    });
+    tally.finish()
+}
+
+/// Bytes of a right length; now and then of another.
+fn string(random: &mut Random, length: usize) -> Vec<u8> {
+    match random.below(64) {
+        0 => {
+            let length = random.below(40);
+            random.vec(length)
+        }
+        _ => random.vec(length),
+    }
+}
+
+/// A value for so many bits; now and then one or two bits wider.
+fn value(random: &mut Random, bits: u64) -> u64 {
+    match random.below(16) {
+        0 => random.number() >> (62 - bits),
+        _ => random.number() >> (64 - bits),
+    }
+}
+
+/// Mostly a right pair.
+fn masks(random: &mut Random) -> (u16, u16) {
+    match random.below(16) {
+        0 => (random.mask(4), random.mask(10)),
+        1 => (random.number() as u16, random.number() as u16),
+        _ => random.masks(),
+    }
+}
+
+fn cipher(group: &mut Group, random: &mut Random) {
+    let (key, block, seed) = (string(random, 16), string(random, 8), string(random, 10));
+    compare!(group, encrypt([key], [block]));
+    compare!(group, decrypt([key], [block]));
+    compare!(group, ta11([key], [seed]));
+    compare!(group, ta21([key], [seed]));
+    compare!(group, ta41([key], [seed]));
+    let (response_mask, key_mask) = masks(random);
+    compare!(group, ta12([key], [seed], response_mask, key_mask));
+    compare!(group, ta22([key], [seed], response_mask, key_mask));
+    let [rs, rso, rand1, rand2, c] = [(); 5].map(|_| string(random, 10));
+    #[rustfmt::skip]
+    compare!(group, ring([key], [rs], [rso], [rand1], [rand2], [c], response_mask, key_mask));
+}
+
+/// Unseals of right texts, and of texts with a bit flipped.
+fn seals(group: &mut Group, random: &mut Random) {
+    let (key, group_key) = (string(random, 10), string(random, 12));
+    let (d, o) = (string(random, 10), string(random, 16));
+    let (version, number) = (random.number() as u16, random.number() as u16);
+    let small = value(random, 5) as u16;
+    compare!(group, ta31([key], version, [d]));
+    compare!(group, ta51([key], version, [o], small));
+    compare!(group, ta81([key], version, [o], number));
+    compare!(group, ta91([group_key], version, [o]));
+    let flip = random.below(2) as u8;
+    let at = random.below(15);
+    let damaged = |mut text: [u8; 15]| {
+        text[at] ^= flip;
+        text
+    };
+    let text = damaged(engine::ta31(&key, version.into(), &d).bytes);
+    compare!(group, ta32([text], [d], version));
+    let text = damaged(engine::ta51(&key, version.into(), &o, small.into()).bytes);
+    compare!(group, ta52([text], [o], version));
+    let text = damaged(engine::ta81(&key, version.into(), &o, number.into()).bytes);
+    compare!(group, ta82([text], [o], version));
+    let text = damaged(engine::ta91(&group_key, version.into(), &o).bytes);
+    compare!(group, ta92([text], [o], version));
+}
+
+fn mixing(group: &mut Group, random: &mut Random) {
+    let (key1, key2) = (string(random, 10), string(random, 10));
+    let (input, group_key) = (string(random, 16), string(random, 12));
+    let identity = value(random, 24);
+    compare!(group, ta61([key1], identity));
+    compare!(group, ta61_inverse([key1], identity));
+    compare!(group, ta71([key1], [key2]));
+    compare!(group, ta101([input], [key1], identity));
+    let width = 15 + random.number() % 19;
+    let repeated = value(random, width);
+    compare!(group, tb1(repeated, width));
+    compare!(group, tb2([input]));
+    compare!(group, tb3([input], repeated, width));
+    compare!(group, tb4([key1], [key2]));
+    let (location_area, carrier) = (value(random, 14), value(random, 12));
+    let colour_code = value(random, 6);
+    compare!(group, tb5([key1], location_area, carrier, colour_code));
+    compare!(group, tb6([key1], carrier, identity));
+    compare!(group, tb7([group_key]));
+}

@@ -1,0 +1,419 @@
+//! Books: sealing, opening, and the check of a plain book.
+
+use crate::edges;
+use host::both::{check_plain, sealed, Call, MOST, OPEN, PLAIN, SEAL, SEALED};
+use host::damaged::{self, flipped, under_version};
+use host::engine::null;
+use host::random::Random;
+use host::taa1::{exp1, exp3, exp4, x16};
+use host::tally::{Group, Tally};
+use std::array::from_fn;
+
+const KINDS: [u8; 4] = [1, 2, 3, 4];
+
+/// Kinds with the last two bytes of their bodies: four right ones, wrong kinds,
+/// bytes that must be zero and are not, and numbers above 31.
+const ENDS: [(u8, [u8; 2]); 14] = [
+    (1, [0, 0]),
+    (2, [0, 31]),
+    (3, [255, 255]),
+    (4, [1, 32]),
+    (0, [0, 0]),
+    (5, [0, 32]),
+    (255, [1, 32]),
+    (1, [0, 1]),
+    (1, [1, 0]),
+    (1, [1, 32]),
+    (2, [0, 32]),
+    (2, [0, 255]),
+    (2, [1, 0]),
+    (2, [1, 32]),
+];
+
+/// A ring, a plain book and its sealed form.
+struct Book {
+    ring: [u8; 36],
+    plain: Vec<u8>,
+    sealed: Vec<u8>,
+}
+
+impl Book {
+    fn new(ring: [u8; 36], plain: Vec<u8>) -> Self {
+        let sealed = sealed(&ring, &plain);
+        Book {
+            ring,
+            plain,
+            sealed,
+        }
+    }
+
+    fn random(random: &mut Random, records: usize) -> Self {
+        Book::new(random.bytes(), random.plain_book(records))
+    }
+
+    /// One record of each kind.
+    fn of_each_kind(random: &mut Random) -> Self {
+        let plain = KINDS.into_iter().flat_map(|kind| random.record(kind));
+        let plain = plain.collect();
+        Book::new(random.bytes(), plain)
+    }
+
+    /// Both forms, each with the call that takes it.
+    fn forms(&self) -> [(&'static Call, &[u8]); 2] {
+        [(&SEAL, &self.plain), (&OPEN, &self.sealed)]
+    }
+}
+
+pub fn run(tally: &mut Tally, random: &mut Random) {
+    tally.group("books (random)", |group| {
+        for _ in 0..10_000 {
+            let records = random.below(9);
+            let book = Book::random(random, records);
+            for (call, bytes) in book.forms() {
+                let room = (call.room(bytes) + random.below(40)).saturating_sub(2);
+                call.compare(group, &book.ring, bytes, room);
+            }
+            check_plain(group, &book.plain);
+        }
+    });
+    tally.group("books (there and back)", |group| {
+        for _ in 0..5_000 {
+            let records = random.below(9);
+            let Book {
+                ring,
+                plain,
+                sealed,
+            } = Book::random(random, records);
+            SEAL.want(group, &ring, &plain, &sealed);
+            OPEN.want(group, &ring, &sealed, &plain);
+            OPEN.there_and_back(group, &ring, &sealed);
+        }
+    });
+    tally.group("books (numbers of records and outputs)", |group| {
+        for records in [0, 1, 2, 17, MOST - 1, MOST, MOST + 1] {
+            let book = Book::random(random, records);
+            for (call, bytes) in book.forms() {
+                for room in rooms(call.room(bytes)) {
+                    call.compare(group, &book.ring, bytes, room);
+                }
+            }
+            check_plain(group, &book.plain);
+        }
+    });
+    tally.group("books (lengths)", |group| lengths(group, random));
+    tally.group("books (rings, lengths and outputs at once)", |group| {
+        orders(group, random);
+    });
+    tally.group("books (three records, faults in any)", |group| {
+        faults(group, random);
+    });
+    tally.group("books (faults in a long book)", |group| {
+        for _ in 0..2 {
+            long_faults(group, random);
+        }
+    });
+    record_groups(tally, random);
+    damage_groups(tally, random);
+    tally.group("books (zeros, ones, single bits)", |group| {
+        let book = Book::of_each_kind(random);
+        for ring in edges::strings::<36>() {
+            for (call, bytes) in book.forms() {
+                call.there_and_back(group, &ring, bytes);
+            }
+        }
+        for mut record in edges::strings::<PLAIN>() {
+            for kind in KINDS {
+                record[0] = kind;
+                plain(group, &book.ring, &record);
+            }
+        }
+        for mut record in edges::strings::<SEALED>() {
+            for kind in KINDS {
+                record[0] = kind;
+                OPEN.there_and_back(group, &book.ring, &record);
+            }
+        }
+    });
+    tally.group("books (garbage)", |group| {
+        for i in 0..20_000 {
+            let (ring, length) = (random.bytes::<36>(), random.below(130));
+            let mut bytes = random.vec(length);
+            if i % 2 == 0 {
+                // The kinds at least are right, wherever a record may start.
+                for byte in bytes.iter_mut().step_by(3) {
+                    *byte = 1 + *byte % 4;
+                }
+            }
+            for call in [&SEAL, &OPEN] {
+                call.there_and_back(group, &ring, &bytes);
+                call.there_and_back(group, &ring, &bytes[..length - length % call.from]);
+            }
+            check_plain(group, &bytes);
+            check_plain(group, &bytes[..length - length % PLAIN]);
+        }
+    });
+}
+
+/// None, one byte short, exact, one byte longer, and much longer.
+fn rooms(need: usize) -> [usize; 5] {
+    [0, need.saturating_sub(1), need, need + 1, need + 50]
+}
+
+/// Every comparison of a plain book but those of short outputs.
+fn plain(group: &mut Group, ring: &[u8], plain: &[u8]) {
+    SEAL.there_and_back(group, ring, plain);
+    check_plain(group, plain);
+}
+
+fn lengths(group: &mut Group, random: &mut Random) {
+    let book = Book::random(random, MOST + 3);
+    let around = |length| length - 30..length + 50;
+    let some = (0..=64)
+        .chain(around(PLAIN * MOST))
+        .chain(around(SEALED * MOST));
+    for length in some {
+        for (call, bytes) in book.forms() {
+            if let Some(bytes) = bytes.get(..length) {
+                for room in rooms(call.room(bytes)) {
+                    call.compare(group, &book.ring, bytes, room);
+                }
+            }
+        }
+        if let Some(plain) = book.plain.get(..length) {
+            check_plain(group, plain);
+        }
+    }
+    // Lengths whose low bits would be right.
+    let zeros = vec![0; (1 << 24) + PLAIN * SEALED];
+    for bits in [15, 16, 20, 24] {
+        for length in [0, PLAIN, SEALED, PLAIN * SEALED] {
+            let bytes = &zeros[..(1 << bits) + length];
+            for call in [&SEAL, &OPEN] {
+                for room in [0, 1 << 15] {
+                    call.compare(group, &book.ring, bytes, room);
+                }
+            }
+            check_plain(group, bytes);
+        }
+    }
+}
+
+/// Refusals 11, 1, 2, 12 and 3, alone and together.
+fn orders(group: &mut Group, random: &mut Random) {
+    let mut book = Book::random(random, MOST + 1);
+    let bytes = random.bytes::<{ 256 + 36 }>();
+    let rings = [0, 1, 35, 36, 37, 72, 256 + 36].map(|length| &bytes[..length]);
+    for round in 0..2 {
+        for ring in rings.into_iter().chain([null(), &book.ring]) {
+            for (call, bytes) in book.forms() {
+                let long = MOST * call.from;
+                for length in [
+                    0,
+                    1,
+                    call.from,
+                    call.from + 1,
+                    long - 1,
+                    long,
+                    long + 1,
+                    long + call.from,
+                ] {
+                    for room in rooms(call.room(&bytes[..length])) {
+                        call.compare(group, ring, &bytes[..length], room);
+                    }
+                }
+                for room in [0, 1] {
+                    call.compare(group, ring, null(), room);
+                }
+            }
+        }
+        check_plain(group, null());
+        if round == 0 {
+            book.plain[0] = 0;
+            book.sealed[0] = 0;
+        }
+    }
+}
+
+fn with_end(random: &mut Random, (kind, end): (u8, [u8; 2])) -> [u8; PLAIN] {
+    let mut record = random.bytes();
+    record[0] = kind;
+    record[16..].copy_from_slice(&end);
+    record
+}
+
+/// The first record with a fault decides, and in it 3 comes before 4 and 5 or 6.
+fn faults(group: &mut Group, random: &mut Random) {
+    let ring = random.bytes::<36>();
+    for all in 0..ENDS.len().pow(3) {
+        let ends = from_fn::<_, 3, _>(|i| ENDS[all / ENDS.len().pow(i as u32) % ENDS.len()]);
+        let book = ends.map(|end| with_end(random, end)).concat();
+        plain(group, &ring, &book);
+    }
+    let records = sealed_records(random, &ring);
+    for first in &records {
+        for second in &records {
+            for third in &records {
+                OPEN.there_and_back(group, &ring, &[*first, *second, *third].concat());
+            }
+        }
+    }
+}
+
+/// A right sealed record of each kind; the same with a wrong text, a wrong
+/// version and the next kind; wrong kinds with right and with wrong texts.
+fn sealed_records(random: &mut Random, ring: &[u8; 36]) -> Vec<[u8; SEALED]> {
+    let right = KINDS.map(|kind| {
+        let sealed = sealed(ring, &random.record(kind));
+        from_fn::<u8, SEALED, _>(|i| sealed[i])
+    });
+    let mut records = right.to_vec();
+    for record in right {
+        records.push(flipped(record, 8 * SEALED - 1));
+    }
+    for (at, byte) in [(5, 1), (0, 2), (0, 0), (0, 5)] {
+        let mut record = right[0];
+        record[at] = byte;
+        records.push(record);
+    }
+    let mut record = random.bytes();
+    record[0] = 255;
+    records.push(record);
+    records
+}
+
+fn long_faults(group: &mut Group, random: &mut Random) {
+    let book = Book::random(random, MOST);
+    let places = [0, 1, MOST / 2, MOST - 2, MOST - 1];
+    for first in places {
+        for end in &ENDS[4..] {
+            let mut bytes = book.plain.clone();
+            bytes[PLAIN * first..][..PLAIN].copy_from_slice(&with_end(random, *end));
+            // A second fault, of a lower number, in another record.
+            bytes[PLAIN * places[random.below(5)]] = 0;
+            plain(group, &book.ring, &bytes);
+        }
+        for second in places {
+            let mut bytes = book.sealed.clone();
+            bytes[SEALED * first + 6 + random.below(15)] ^= 1;
+            OPEN.there_and_back(group, &book.ring, &bytes);
+            bytes[SEALED * second] = 9;
+            OPEN.there_and_back(group, &book.ring, &bytes);
+        }
+    }
+}
+
+fn record_groups(tally: &mut Tally, random: &mut Random) {
+    tally.group("books (every kind byte)", |group| {
+        let book = Book::random(random, 3);
+        for kind in 0..=255 {
+            for i in 0..3 {
+                for (call, bytes) in book.forms() {
+                    let mut bytes = bytes.to_vec();
+                    bytes[call.from * i] = kind;
+                    call.there_and_back(group, &book.ring, &bytes);
+                }
+                let mut bytes = book.plain.clone();
+                bytes[PLAIN * i] = kind;
+                check_plain(group, &bytes);
+            }
+        }
+    });
+    tally.group("books (every end of a body)", |group| {
+        let ring = random.bytes::<36>();
+        for kind in KINDS {
+            for byte in 0..=255 {
+                for other in [0, 1, 31, 32, 255] {
+                    for end in [[byte, other], [other, byte]] {
+                        let records = [(3, [0, 0]), (kind, end)];
+                        let book = records.map(|end| with_end(random, end)).concat();
+                        plain(group, &ring, &book);
+                    }
+                }
+            }
+        }
+    });
+    tally.group("books (every sealed number byte)", |group| {
+        for _ in 0..20 {
+            let (ring, record) = (random.bytes(), random.record(2));
+            for byte in 0..=255 {
+                let (key, mut bytes) = expanded(&ring, &record);
+                bytes[14] ^= bytes[13] ^ byte; // its check byte stays right
+                bytes[13] = byte;
+                OPEN.there_and_back(group, &ring, &resealed(&record, &key, bytes));
+            }
+        }
+    });
+}
+
+fn damage_groups(tally: &mut Tally, random: &mut Random) {
+    tally.group("books (each byte changed to every other)", |group| {
+        let book = Book::of_each_kind(random);
+        for (call, bytes) in book.forms() {
+            for at in 0..bytes.len() {
+                for change in 1..=255 {
+                    let mut bytes = bytes.to_vec();
+                    bytes[at] ^= change;
+                    call.there_and_back(group, &book.ring, &bytes);
+                    if call.from == PLAIN {
+                        check_plain(group, &bytes);
+                    }
+                }
+            }
+        }
+    });
+    tally.group("books (each bit of a sealed record flipped)", |group| {
+        for _ in 0..20 {
+            let ring = random.bytes();
+            for record in &sealed_records(random, &ring)[..4] {
+                for bit in 0..8 * SEALED {
+                    OPEN.there_and_back(group, &ring, &flipped(*record, bit));
+                }
+            }
+        }
+    });
+    tally.group("books (each bit flipped before sealing)", |group| {
+        for _ in 0..20 {
+            let ring = random.bytes();
+            for kind in KINDS {
+                let record = random.record(kind);
+                let (key, bytes) = expanded(&ring, &record);
+                for bit in 0..8 * 15 {
+                    let record = resealed(&record, &key, flipped(bytes, bit));
+                    OPEN.there_and_back(group, &ring, &record);
+                }
+            }
+        }
+    });
+    tally.group("books (each bit of the ring flipped)", |group| {
+        let book = Book::of_each_kind(random);
+        for bit in 0..8 * 36 {
+            let ring = flipped(book.ring, bit);
+            for (call, bytes) in book.forms() {
+                for record in bytes.chunks(call.from) {
+                    call.there_and_back(group, &ring, record);
+                }
+            }
+        }
+    });
+}
+
+/// What the cipher gets for a well-formed record: its key, and the record's key
+/// and number with their check bytes.
+fn expanded(ring: &[u8; 36], record: &[u8; PLAIN]) -> ([u8; 16], [u8; 15]) {
+    let version = u16::from_be_bytes([record[4], record[5]]);
+    let body: [u8; 12] = from_fn(|i| record[6 + i]);
+    let d = under_version(from_fn(|i| ring[i]), version);
+    let o = under_version(from_fn(|i| ring[10 + i]), version);
+    match record[0] {
+        1 => (exp4(&d), exp1(&from_fn(|i| body[i]))),
+        2 => (o, exp3(&from_fn(|i| body[if i < 10 { i } else { 11 }]))),
+        _ => (o, from_fn(|i| x16(&body)[i])),
+    }
+}
+
+/// A sealed record of these bytes, whether their check bytes are right or not.
+/// The identity needs no care: any three bytes are some identity's.
+fn resealed(record: &[u8; PLAIN], key: &[u8; 16], bytes: [u8; 15]) -> [u8; SEALED] {
+    let text = damaged::sealed(key, bytes);
+    from_fn(|i| if i < 6 { record[i] } else { text[i - 6] })
+}

@@ -1,0 +1,479 @@
+//! Books of sealed keys and their listing, from document 01.
+
+use crate::taa1;
+use std::fmt::Write;
+
+/// Most records in a book.
+const MOST: usize = 1024;
+/// Bytes of a plain record.
+const PLAIN: usize = 18;
+/// Bytes of a sealed record.
+const SEALED: usize = 21;
+
+/// Answer of a book call. `index` is the offending record's on a refusal,
+/// the number of records otherwise.
+#[derive(Debug, Clone, Copy, PartialEq, Eq)]
+pub struct BookAnswer {
+    pub refusal: u32,
+    pub index: usize,
+    pub written: usize,
+}
+
+/// A refusal number and a record's index.
+type Refusal = (u32, usize);
+
+/// The three keys of a ring.
+struct Ring<'a> {
+    d: &'a [u8],
+    o: &'a [u8],
+    c: &'a [u8],
+}
+
+impl<'a> Ring<'a> {
+    fn of(ring: &'a [u8]) -> Result<Ring<'a>, Refusal> {
+        if ring.len() != 36 {
+            return Err((11, 0));
+        }
+        let (d, rest) = ring.split_at(10);
+        let (o, c) = rest.split_at(16);
+        Ok(Ring { d, o, c })
+    }
+}
+
+/// One plain record.
+struct Record {
+    kind: u8,
+    identity: u64,
+    version: u16,
+    body: [u8; 12],
+}
+
+impl Record {
+    fn read(bytes: &[u8]) -> Record {
+        let mut body = [0; 12];
+        body.copy_from_slice(&bytes[6..PLAIN]);
+        let (identity, version) = head(bytes);
+        Record {
+            kind: bytes[0],
+            identity,
+            version,
+            body,
+        }
+    }
+
+    fn write(&self) -> Vec<u8> {
+        joined(self.kind, self.identity, self.version, &self.body)
+    }
+
+    /// The last two bytes of the body as a number.
+    fn number(&self) -> u16 {
+        u16::from_be_bytes([self.body[10], self.body[11]])
+    }
+
+    /// The key's bytes.
+    fn key(&self) -> &[u8] {
+        &self.body[..if self.kind == 4 { 12 } else { 10 }]
+    }
+
+    /// Refusals 3, 4 and 5.
+    fn check(&self) -> Result<(), u32> {
+        let [high, low] = self.number().to_be_bytes();
+        match self.kind {
+            1 if (high, low) != (0, 0) => Err(4),
+            2 if high != 0 => Err(4),
+            2 if low > 31 => Err(5),
+            1..=4 => Ok(()),
+            _ => Err(3),
+        }
+    }
+
+    /// The sealed record of a record without fault.
+    fn seal(&self, ring: &Ring) -> Vec<u8> {
+        let text = match self.kind {
+            1 => taa1::ta31(self.key(), self.version, ring.d),
+            2 => taa1::ta51(self.key(), self.version, ring.o, self.number()),
+            3 => taa1::ta81(self.key(), self.version, ring.o, self.number()),
+            _ => taa1::ta91(self.key(), self.version, ring.o),
+        };
+        let identity = taa1::ta61(ring.c, self.identity).identity;
+        joined(self.kind, identity.into(), self.version, &text.bytes)
+    }
+
+    /// Opens a sealed record; refusals 3 and 6.
+    fn open(sealed: &[u8], ring: &Ring) -> Result<Record, u32> {
+        let kind = sealed[0];
+        let (hidden, version) = head(sealed);
+        let text = &sealed[6..];
+        let (key, number, flag) = match kind {
+            1 => {
+                let opened = taa1::ta32(text, ring.d, version);
+                (
+                    opened.key.to_vec(),
+                    0u16.to_be_bytes().to_vec(),
+                    opened.flag,
+                )
+            }
+            2 | 3 => {
+                let unseal = if kind == 2 { taa1::ta52 } else { taa1::ta82 };
+                let opened = unseal(text, ring.o, version);
+                (
+                    opened.key.to_vec(),
+                    opened.number.to_be_bytes().to_vec(),
+                    opened.flag,
+                )
+            }
+            4 => {
+                let opened = taa1::ta92(text, ring.o, version);
+                (opened.key.to_vec(), Vec::new(), opened.flag)
+            }
+            _ => return Err(3),
+        };
+        if flag {
+            return Err(6);
+        }
+        let identity = taa1::ta61_inverse(ring.c, hidden).identity.into();
+        let mut body = [0; 12];
+        body.copy_from_slice(&[key, number].concat());
+        Ok(Record {
+            kind,
+            identity,
+            version,
+            body,
+        })
+    }
+}
+
+/// Identity and version, which stand alike in both forms.
+fn head(record: &[u8]) -> (u64, u16) {
+    let identity = record[1..4].iter().fold(0, |n, &b| n << 8 | u64::from(b));
+    (identity, u16::from_be_bytes([record[4], record[5]]))
+}
+
+/// The bytes of a record of either form.
+fn joined(kind: u8, identity: u64, version: u16, rest: &[u8]) -> Vec<u8> {
+    [
+        &[kind],
+        &identity.to_be_bytes()[5..],
+        &version.to_be_bytes(),
+        rest,
+    ]
+    .concat()
+}
+
+/// The number of records; refusals 1 and 2.
+fn count(length: usize, size: usize) -> Result<usize, Refusal> {
+    let (records, rest) = (length / size, length % size);
+    if length > MOST * size {
+        Err((1, 0))
+    } else if rest > 0 {
+        Err((2, 0))
+    } else {
+        Ok(records)
+    }
+}
+
+/// Turns each record over and puts the new book into `out`, or refuses
+/// and leaves `out` alone. Refusal 12 is given before any record is read.
+fn turn(
+    book: &[u8],
+    from: usize,
+    to: usize,
+    out: &mut [u8],
+    record: impl Fn(&[u8]) -> Result<Vec<u8>, u32>,
+) -> Result<(usize, usize), Refusal> {
+    let records = count(book.len(), from)?;
+    let written = records * to;
+    if out.len() < written {
+        return Err((12, 0));
+    }
+    let mut made = Vec::new();
+    for (index, bytes) in book.chunks_exact(from).enumerate() {
+        made.extend(record(bytes).map_err(|refusal| (refusal, index))?);
+    }
+    out[..written].copy_from_slice(&made);
+    Ok((records, written))
+}
+
+fn answer(outcome: Result<(usize, usize), Refusal>) -> BookAnswer {
+    match outcome {
+        Ok((index, written)) => BookAnswer {
+            refusal: 0,
+            index,
+            written,
+        },
+        Err((refusal, index)) => BookAnswer {
+            refusal,
+            index,
+            written: 0,
+        },
+    }
+}
+
+/// The records of a well-formed plain book.
+fn records(plain: &[u8]) -> Result<Vec<Record>, Refusal> {
+    count(plain.len(), PLAIN)?;
+    let one = |(index, bytes)| {
+        let record = Record::read(bytes);
+        record.check().map_err(|refusal| (refusal, index))?;
+        Ok(record)
+    };
+    plain.chunks_exact(PLAIN).enumerate().map(one).collect()
+}
+
+/// Seals a plain book.
+pub fn seal_book(ring: &[u8], plain: &[u8], out: &mut [u8]) -> BookAnswer {
+    answer(Ring::of(ring).and_then(|ring| {
+        turn(plain, PLAIN, SEALED, out, |bytes| {
+            let record = Record::read(bytes);
+            record.check()?;
+            Ok(record.seal(&ring))
+        })
+    }))
+}
+
+/// Opens a sealed book.
+pub fn open_book(ring: &[u8], sealed: &[u8], out: &mut [u8]) -> BookAnswer {
+    answer(Ring::of(ring).and_then(|ring| {
+        turn(sealed, SEALED, PLAIN, out, |bytes| {
+            Ok(Record::open(bytes, &ring)?.write())
+        })
+    }))
+}
+
+/// The refusals 1 to 5 of a plain book.
+pub fn check_plain(plain: &[u8]) -> BookAnswer {
+    answer(records(plain).map(|records| (records.len(), 0)))
+}
+
+/// What program plainlist prints for a plain book.
+pub fn listing(plain: &[u8]) -> Vec<u8> {
+    let mut text = String::new();
+    match records(plain) {
+        Err((refusal, index)) => writeln!(text, "refused {refusal} at {index}").unwrap(),
+        Ok(records) => {
+            for (index, record) in records.iter().enumerate() {
+                let Record {
+                    kind,
+                    identity,
+                    version,
+                    ..
+                } = record;
+                let key: String = record.key().iter().map(|b| format!("{b:02x}")).collect();
+                let number = match kind {
+                    2 | 3 => record.number().to_string(),
+                    _ => "-".to_string(),
+                };
+                writeln!(
+                    text,
+                    "entry {index} kind {kind} identity {identity:06x} version {version} \
+                     key {key} number {number}"
+                )
+                .unwrap();
+            }
+            writeln!(text, "entries {}", records.len()).unwrap();
+        }
+    }
+    text.into_bytes()
+}
+
+#[cfg(test)]
+mod tests {
+    use super::*;
+
+    /// A small generator of test inputs (xorshift64).
+    struct Random(u64);
+
+    impl Random {
+        fn next(&mut self) -> u64 {
+            self.0 ^= self.0 << 13;
+            self.0 ^= self.0 >> 7;
+            self.0 ^= self.0 << 17;
+            self.0 >> 16
+        }
+
+        fn bytes(&mut self, length: usize) -> Vec<u8> {
+            (0..length).map(|_| self.next() as u8).collect()
+        }
+
+        /// A well-formed plain book.
+        fn plain(&mut self, records: usize) -> Vec<u8> {
+            let mut book = self.bytes(PLAIN * records);
+            for record in book.chunks_exact_mut(PLAIN) {
+                record[0] = 1 + record[0] % 4;
+                match record[0] {
+                    1 => record[16..].fill(0),
+                    2 => {
+                        record[16] = 0;
+                        record[17] %= 32;
+                    }
+                    _ => {}
+                }
+            }
+            book
+        }
+    }
+
+    fn refused(refusal: u32, index: usize) -> BookAnswer {
+        BookAnswer {
+            refusal,
+            index,
+            written: 0,
+        }
+    }
+
+    #[test]
+    fn sealed_books_open() {
+        let mut random = Random(7);
+        for records in [0, 1, 2, 3, 4, 5, 40] {
+            let (ring, plain) = (random.bytes(36), random.plain(records));
+            assert_eq!(
+                check_plain(&plain),
+                BookAnswer {
+                    refusal: 0,
+                    index: records,
+                    written: 0
+                }
+            );
+            let mut sealed = vec![0x55; SEALED * records + 3];
+            let answer = BookAnswer {
+                refusal: 0,
+                index: records,
+                written: SEALED * records,
+            };
+            assert_eq!(seal_book(&ring, &plain, &mut sealed), answer);
+            assert_eq!(sealed[SEALED * records..], [0x55; 3]);
+            let mut opened = vec![0x55; PLAIN * records + 3];
+            let answer = BookAnswer {
+                refusal: 0,
+                index: records,
+                written: PLAIN * records,
+            };
+            assert_eq!(
+                open_book(&ring, &sealed[..SEALED * records], &mut opened),
+                answer
+            );
+            assert_eq!(opened[..PLAIN * records], plain);
+            assert_eq!(opened[PLAIN * records..], [0x55; 3]);
+        }
+    }
+
+    /// A sealed record holds the single calls' results.
+    #[test]
+    fn record_by_hand() {
+        let ring: Vec<u8> = (0..36).collect();
+        let plain = [
+            3, 0x12, 0x34, 0x56, 1, 2, 9, 8, 7, 6, 5, 4, 3, 2, 1, 0, 0xab, 0xcd,
+        ];
+        let mut sealed = [0; SEALED];
+        assert_eq!(seal_book(&ring, &plain, &mut sealed).refusal, 0);
+        let identity = taa1::ta61(&ring[26..], 0x123456).identity.to_be_bytes();
+        let text = taa1::ta81(&plain[6..16], 0x0102, &ring[10..26], 0xabcd).bytes;
+        assert_eq!(sealed[0], 3);
+        assert_eq!(sealed[1..4], identity[1..]);
+        assert_eq!(sealed[4..6], [1, 2]);
+        assert_eq!(sealed[6..], text);
+    }
+
+    #[test]
+    fn refusals_in_order() {
+        let mut random = Random(8);
+        let (ring, plain) = (random.bytes(36), random.plain(6));
+        let mut good = vec![0; 6 * SEALED];
+        assert_eq!(seal_book(&ring, &plain, &mut good).refusal, 0);
+
+        let mut out = [0x77; 6 * SEALED];
+        let mut seal = |ring: &[u8], plain: &[u8], room: usize| {
+            let answer = seal_book(ring, plain, &mut out[..room]);
+            assert_eq!(out, [0x77; 6 * SEALED]);
+            answer
+        };
+        let long = vec![9; PLAIN * MOST + 1];
+        assert_eq!(seal(&ring[1..], &long, 0), refused(11, 0));
+        assert_eq!(seal(&ring, &long, 0), refused(1, 0));
+        assert_eq!(seal(&ring, &[9; 17], 0), refused(2, 0));
+        assert_eq!(seal(&ring, &[9; 36], 41), refused(12, 0));
+        let mut faulty = plain.clone();
+        faulty[5 * PLAIN] = 5;
+        assert_eq!(seal(&ring, &faulty, 126), refused(3, 5));
+        faulty[4 * PLAIN] = 2;
+        faulty[4 * PLAIN + 16] = 0;
+        faulty[4 * PLAIN + 17] = 32;
+        assert_eq!(seal(&ring, &faulty, 126), refused(5, 4));
+        faulty[4 * PLAIN + 16] = 1;
+        assert_eq!(seal(&ring, &faulty, 126), refused(4, 4));
+        faulty[3 * PLAIN] = 1;
+        faulty[3 * PLAIN + 16] = 0;
+        faulty[3 * PLAIN + 17] = 1;
+        assert_eq!(seal(&ring, &faulty, 126), refused(4, 3));
+        assert_eq!(check_plain(&faulty), refused(4, 3));
+        assert_eq!(listing(&faulty), b"refused 4 at 3\n");
+        faulty[0] = 0;
+        assert_eq!(seal(&ring, &faulty, 126), refused(3, 0));
+
+        let mut out = [0x77; 6 * PLAIN];
+        let mut open = |ring: &[u8], sealed: &[u8], room: usize| {
+            let answer = open_book(ring, sealed, &mut out[..room]);
+            assert_eq!(out, [0x77; 6 * PLAIN]);
+            answer
+        };
+        let long = vec![9; SEALED * MOST + 1];
+        assert_eq!(open(&[0; 37], &long, 0), refused(11, 0));
+        assert_eq!(open(&ring, &long, 0), refused(1, 0));
+        assert_eq!(open(&ring, &good[1..], 0), refused(2, 0));
+        assert_eq!(open(&ring, &good, 107), refused(12, 0));
+        let mut faulty = good.clone();
+        faulty[5 * SEALED] = 0;
+        assert_eq!(open(&ring, &faulty, 108), refused(3, 5));
+        faulty[2 * SEALED + 20] ^= 1;
+        assert_eq!(open(&ring, &faulty, 108), refused(6, 2));
+        faulty[SEALED] = 255;
+        assert_eq!(open(&ring, &faulty, 108), refused(3, 1));
+    }
+
+    #[test]
+    fn most_records() {
+        let mut random = Random(9);
+        let (ring, plain) = (random.bytes(36), random.plain(MOST + 1));
+        let mut sealed = vec![0; SEALED * (MOST + 1)];
+        assert_eq!(seal_book(&ring, &plain, &mut sealed), refused(1, 0));
+        assert_eq!(check_plain(&plain), refused(1, 0));
+        assert_eq!(listing(&plain), b"refused 1 at 0\n");
+        let plain = &plain[..PLAIN * MOST];
+        let sealed = &mut sealed[..SEALED * MOST];
+        let answer = BookAnswer {
+            refusal: 0,
+            index: MOST,
+            written: SEALED * MOST,
+        };
+        assert_eq!(seal_book(&ring, plain, sealed), answer);
+        let mut opened = vec![0; PLAIN * MOST];
+        let answer = BookAnswer {
+            refusal: 0,
+            index: MOST,
+            written: PLAIN * MOST,
+        };
+        assert_eq!(open_book(&ring, sealed, &mut opened), answer);
+        assert_eq!(opened, plain);
+        let last = "\nentries 1024\n".as_bytes();
+        assert!(listing(plain).ends_with(last));
+    }
+
+    #[test]
+    fn listings() {
+        let two = [
+            2, 0x12, 0x34, 0x56, 0, 7, 1, 2, 3, 4, 5, 6, 7, 8, 9, 10, 0, 3,
+        ];
+        let line = "entry 0 kind 2 identity 123456 version 7 key 0102030405060708090a number 3\n";
+        assert_eq!(listing(&two), format!("{line}entries 1\n").into_bytes());
+        assert_eq!(listing(&[]), b"entries 0\n");
+        assert_eq!(listing(&two[1..]), b"refused 2 at 0\n");
+        let one = [1, 0, 0, 1, 0xff, 0xff, 1, 2, 3, 4, 5, 6, 7, 8, 9, 10, 0, 0];
+        let four = [4, 0xab, 0, 0, 1, 0, 1, 2, 3, 4, 5, 6, 7, 8, 9, 10, 11, 0xff];
+        let three = [3, 0, 0, 0, 0, 0, 0, 0, 0, 0, 0, 0, 0, 0, 0, 0, 0x12, 0x34];
+        let text = "entry 0 kind 1 identity 000001 version 65535 key 0102030405060708090a number -\n\
+                    entry 1 kind 4 identity ab0000 version 256 key 0102030405060708090a0bff number -\n\
+                    entry 2 kind 3 identity 000000 version 0 key 00000000000000000000 number 4660\n\
+                    entries 3\n";
+        assert_eq!(listing(&[one, four, three].concat()), text.as_bytes());
+    }
+}

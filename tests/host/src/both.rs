@@ -1,0 +1,161 @@
+//! Book calls made on both sides: through the engine and by the other hands.
+
+use crate::books;
+use crate::engine::{self, null_out, BookAnswer};
+use crate::tally::Group;
+use std::fmt::{Debug, Formatter, Result};
+
+/// Bytes of a plain record, and of a sealed one.
+pub const PLAIN: usize = 18;
+pub const SEALED: usize = 21;
+
+/// The most records of a book.
+pub const MOST: usize = 1024;
+
+/// Bytes on either side of an output, which no call may touch.
+const MARGIN: usize = 64;
+
+/// Sealing or opening.
+pub struct Call {
+    name: &'static str,
+    engine: fn(&[u8], &[u8], &mut [u8]) -> BookAnswer,
+    hands: fn(&[u8], &[u8], &mut [u8]) -> books::BookAnswer,
+    /// Bytes of a record handed in, and of a record written.
+    pub from: usize,
+    pub to: usize,
+    back: &'static Call,
+}
+
+pub static SEAL: Call = Call {
+    name: "seal_book",
+    engine: engine::seal_book,
+    hands: books::seal_book,
+    from: PLAIN,
+    to: SEALED,
+    back: &OPEN,
+};
+
+pub static OPEN: Call = Call {
+    name: "open_book",
+    engine: engine::open_book,
+    hands: books::open_book,
+    from: SEALED,
+    to: PLAIN,
+    back: &SEAL,
+};
+
+impl Call {
+    /// The room that the book's whole records need.
+    pub fn room(&self, book: &[u8]) -> usize {
+        book.len() / self.from * self.to
+    }
+
+    /// What the engine answers.
+    pub fn refusal(&self, ring: &[u8], book: &[u8], room: usize) -> u32 {
+        let (answer, _) = lent(room, |out| (self.engine)(ring, book, out));
+        answer.refusal
+    }
+
+    /// Compares with the other hands. An output without room is null too.
+    pub fn compare(&self, group: &mut Group, ring: &[u8], book: &[u8], room: usize) {
+        if group.turn() {
+            self.same(group, ring, book, room, |out| {
+                (self.hands)(ring, book, out).into()
+            });
+            if room == 0 {
+                group.same(
+                    self.name,
+                    &[("ring", &ring), ("book", &Start(book))],
+                    (self.engine)(ring, book, null_out()),
+                    (self.hands)(ring, book, &mut []),
+                );
+            }
+        }
+    }
+
+    /// Wants the book accepted and these bytes written, also without asking the
+    /// other hands.
+    pub fn want(&self, group: &mut Group, ring: &[u8], book: &[u8], wanted: &[u8]) {
+        if group.turn() {
+            self.same(group, ring, book, wanted.len(), |out| {
+                out.copy_from_slice(wanted);
+                BookAnswer {
+                    refusal: 0,
+                    index: book.len() / self.from,
+                    written: wanted.len(),
+                }
+            });
+        }
+    }
+
+    /// Compares, and wants what is accepted to come back by the other call.
+    pub fn there_and_back(&self, group: &mut Group, ring: &[u8], book: &[u8]) {
+        let room = self.room(book);
+        self.compare(group, ring, book, room + 1);
+        let (answer, bytes) = lent(room, |out| (self.engine)(ring, book, out));
+        if answer.refusal == 0 {
+            self.back.want(group, ring, &bytes[MARGIN..][..room], book);
+        }
+    }
+
+    /// Compares the answer, and the whole output with the bytes around it.
+    fn same(
+        &self,
+        group: &mut Group,
+        ring: &[u8],
+        book: &[u8],
+        room: usize,
+        wanted: impl FnOnce(&mut [u8]) -> BookAnswer,
+    ) {
+        let (answer, got) = lent(room, |out| (self.engine)(ring, book, out));
+        let (wanted_answer, wanted) = lent(room, wanted);
+        let at = (0..got.len()).find(|&i| got[i] != wanted[i]);
+        let difference = at.map(|i| (i as isize - MARGIN as isize, got[i], wanted[i]));
+        group.same(
+            self.name,
+            &[("ring", &ring), ("book", &Start(book)), ("room", &room)],
+            (answer, difference),
+            (wanted_answer, None),
+        );
+    }
+}
+
+/// A call with an output in the middle of bytes that stay as they are.
+fn lent(room: usize, call: impl FnOnce(&mut [u8]) -> BookAnswer) -> (BookAnswer, Vec<u8>) {
+    let mut bytes: Vec<u8> = (1..=MARGIN + room + MARGIN)
+        .map(|i| (i * 77) as u8)
+        .collect();
+    let answer = call(&mut bytes[MARGIN..][..room]);
+    (answer, bytes)
+}
+
+pub fn check_plain(group: &mut Group, plain: &[u8]) {
+    if group.turn() {
+        group.same(
+            "check_plain",
+            &[("plain", &Start(plain))],
+            engine::check_plain(plain),
+            books::check_plain(plain),
+        );
+    }
+}
+
+/// Each record sealed as a book of its own, however many there are.
+pub fn sealed(ring: &[u8], plain: &[u8]) -> Vec<u8> {
+    let seal = |record| {
+        let mut sealed = [0; SEALED];
+        engine::seal_book(ring, record, &mut sealed);
+        sealed
+    };
+    plain.chunks_exact(PLAIN).flat_map(seal).collect()
+}
+
+/// Shows the first records of a book; the seed of the run gives the others.
+struct Start<'a>(&'a [u8]);
+
+impl Debug for Start<'_> {
+    fn fmt(&self, f: &mut Formatter) -> Result {
+        write!(f, "({} bytes) ", self.0.len())?;
+        self.0[..self.0.len().min(4 * SEALED)].fmt(f)
+    }
+}
