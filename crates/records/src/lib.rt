@@ -107,7 +107,7 @@ pub fn open_fault(ring: &[u8; 36], rec: &[u8]) -> u32
 }
 
 // The kind of a record that was not refused.
-fn kind_of(b: u8) -> Kind
+pub fn kind_of(b: u8) -> Kind
     ensures { λ k. ⌜ k ≡ named (kindOf b) ⌝ }
 {
     match Kind::from_byte(b) {

@@ -14,4 +14,5 @@ pub mod RecordLaws
 pub mod BookLaws
 pub mod AnswerLaws
 pub mod Demand3Laws
+pub mod ListingLaws
 pub mod Cases

@@ -5,6 +5,7 @@ pub mod Expansions
 pub mod Seals
 pub mod Identity
 pub mod Books
+pub mod Listing
 pub mod Demand3
 pub mod Derivation
 pub mod Mixing

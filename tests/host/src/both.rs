@@ -59,42 +59,46 @@ impl Call {
     /// Compares with the other hands. An output without room is null too.
     pub fn compare(&self, group: &mut Group, ring: &[u8], book: &[u8], room: usize) {
         if group.turn() {
-            self.same(group, ring, book, room, |out| {
-                (self.hands)(ring, book, out).into()
-            });
-            if room == 0 {
-                group.same(
-                    self.name,
-                    &[("ring", &ring), ("book", &Start(book))],
-                    (self.engine)(ring, book, null_out()),
-                    (self.hands)(ring, book, &mut []),
-                );
-            }
+            self.same_as_hands(group, ring, book, room);
         }
     }
 
-    /// Wants the book accepted and these bytes written, also without asking the
-    /// other hands.
+    /// Wants the book accepted and these bytes written, whatever the other hands
+    /// do.
     pub fn want(&self, group: &mut Group, ring: &[u8], book: &[u8], wanted: &[u8]) {
-        if group.turn() {
-            self.same(group, ring, book, wanted.len(), |out| {
-                out.copy_from_slice(wanted);
-                BookAnswer {
-                    refusal: 0,
-                    index: book.len() / self.from,
-                    written: wanted.len(),
-                }
-            });
-        }
+        self.same(group, ring, book, wanted.len(), |out| {
+            out.copy_from_slice(wanted);
+            BookAnswer {
+                refusal: 0,
+                index: book.len() / self.from,
+                written: wanted.len(),
+            }
+        });
     }
 
     /// Compares, and wants what is accepted to come back by the other call.
     pub fn there_and_back(&self, group: &mut Group, ring: &[u8], book: &[u8]) {
-        let room = self.room(book);
-        self.compare(group, ring, book, room + 1);
-        let (answer, bytes) = lent(room, |out| (self.engine)(ring, book, out));
-        if answer.refusal == 0 {
-            self.back.want(group, ring, &bytes[MARGIN..][..room], book);
+        if group.turn() {
+            let room = self.room(book);
+            self.same_as_hands(group, ring, book, room + 1);
+            let (answer, bytes) = lent(room, |out| (self.engine)(ring, book, out));
+            if answer.refusal == 0 {
+                self.back.want(group, ring, &bytes[MARGIN..][..room], book);
+            }
+        }
+    }
+
+    fn same_as_hands(&self, group: &mut Group, ring: &[u8], book: &[u8], room: usize) {
+        self.same(group, ring, book, room, |out| {
+            (self.hands)(ring, book, out).into()
+        });
+        if room == 0 {
+            group.same(
+                self.name,
+                &[("ring", &ring), ("book", &Start(book))],
+                (self.engine)(ring, book, null_out()),
+                (self.hands)(ring, book, &mut []),
+            );
         }
     }
 
