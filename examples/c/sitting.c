@@ -1,0 +1,148 @@
+/*
+ * Plays a sitting: makes the ring, seals the model book, opens it and seals it
+ * again, then opens the candidate's book.
+ *
+ *     sitting [FOLDER]    the folder with the three files; samples by default
+ */
+#include <stdio.h>
+#include <stdlib.h>
+#include <string.h>
+
+#include "taa1.h"
+
+enum { SITTING = 70, PLAIN = 18, SEALED = 21, LONGEST = 1024 * SEALED };
+
+/* A file's bytes. One more than the longest book has, so that the engine sees
+ * that a book is too long. */
+typedef struct {
+    size_t length;
+    uint8_t bytes[LONGEST + 1];
+} contents;
+
+static const char *const names[] = {
+    [TAA1_BOOK_TOO_LONG] = "book longer than 1,024 records",
+    [TAA1_BOOK_NOT_WHOLE] = "book not a whole number of records",
+    [TAA1_WRONG_KIND] = "kind not 1 to 4",
+    [TAA1_NOT_ZERO] = "body byte not zero",
+    [TAA1_WRONG_NUMBER] = "kind 2 number above 31",
+    [TAA1_FLAG_SET] = "flag set while opening a book",
+    [TAA1_WRONG_MASK] = "mask with a wrong number of ones",
+    [TAA1_SHARED_BIT] = "masks that share a bit",
+    [TAA1_WRONG_WIDTH] = "width not 16 to 32",
+    [TAA1_VALUE_WIDE] = "value too wide for its field",
+    [TAA1_WRONG_LENGTH] = "input of a wrong length",
+    [TAA1_OUTPUT_SHORT] = "output shorter than the result",
+};
+
+static void fail(const char *what, const char *why) {
+    fprintf(stderr, "sitting: %s%s\n", what, why);
+    exit(EXIT_FAILURE);
+}
+
+static void read_file(const char *folder, const char *name, contents *file) {
+    char path[4096];
+    int length = snprintf(path, sizeof path, "%s/%s", folder, name);
+    if (length < 0 || (size_t)length >= sizeof path) {
+        fail(folder, " is too long a name");
+    }
+    FILE *stream = fopen(path, "rb");
+    if (stream == NULL) {
+        fail(path, " cannot be read");
+    }
+    file->length = fread(file->bytes, 1, sizeof file->bytes, stream);
+    if (ferror(stream)) {
+        fail(path, " cannot be read");
+    }
+    fclose(stream);
+}
+
+static void print_hex(const char *name, const uint8_t *bytes, size_t length) {
+    printf("%s ", name);
+    for (size_t i = 0; i < length; i++) {
+        printf("%02x", bytes[i]);
+    }
+    putchar('\n');
+}
+
+static void print_refusal(FILE *stream, taa1_book_answer answer) {
+    fprintf(stream, "refused %u at %zu (%s)\n", (unsigned)answer.refusal, answer.index,
+            names[answer.refusal]);
+}
+
+/* Ends the program if a book that the engine must accept is refused. */
+static void must_accept(const char *book, taa1_book_answer answer) {
+    if (answer.refusal != TAA1_ACCEPTED) {
+        fprintf(stderr, "sitting: %s: ", book);
+        print_refusal(stderr, answer);
+        exit(EXIT_FAILURE);
+    }
+}
+
+static taa1_ring_made make_ring(const contents *sitting) {
+    if (sitting->length != SITTING) {
+        fail("sitting.bin", " does not have 70 bytes");
+    }
+    const uint8_t *at = sitting->bytes;
+    uint16_t response_mask = (uint16_t)(at[66] << 8 | at[67]);
+    uint16_t key_mask = (uint16_t)(at[68] << 8 | at[69]);
+    taa1_ring_made made = taa1_ring(at, 16, at + 16, 10, at + 26, 10, at + 36, 10, at + 46, 10,
+                                    at + 56, 10, response_mask, key_mask);
+    if (made.refusal != TAA1_ACCEPTED) {
+        fprintf(stderr, "sitting: sitting.bin: refused %u (%s)\n", (unsigned)made.refusal,
+                names[made.refusal]);
+        exit(EXIT_FAILURE);
+    }
+    return made;
+}
+
+int main(int argc, char **argv) {
+    static contents sitting, plain, candidate;
+    static uint8_t sealed[LONGEST], opened[LONGEST], again[LONGEST];
+    const char *folder = argc > 1 ? argv[1] : "samples";
+    read_file(folder, "sitting.bin", &sitting);
+    read_file(folder, "plain.book", &plain);
+    read_file(folder, "candidate.book", &candidate);
+
+    taa1_ring_made made = make_ring(&sitting);
+    const uint8_t *ring = made.ring;
+    const size_t ring_length = sizeof made.ring;
+    print_hex("ring", ring, ring_length);
+    print_hex("response 1", made.response1, sizeof made.response1);
+    print_hex("response 2", made.response2, sizeof made.response2);
+
+    taa1_book_answer answer =
+        taa1_seal_book(ring, ring_length, plain.bytes, plain.length, sealed, sizeof sealed);
+    must_accept("plain.book", answer);
+    const size_t sealed_length = answer.written;
+    printf("sealed %zu records, %zu bytes\n", answer.index, sealed_length);
+    for (size_t at = 0; at < sealed_length; at += SEALED) {
+        print_hex("sealed", sealed + at, SEALED);
+    }
+
+    answer = taa1_open_book(ring, ring_length, sealed, sealed_length, opened, sizeof opened);
+    must_accept("the sealed book", answer);
+    if (answer.written != plain.length || memcmp(opened, plain.bytes, plain.length) != 0) {
+        fail("the opened book", " is not the plain book");
+    }
+    printf("opened %zu records, %zu bytes: the plain book\n", answer.index, answer.written);
+
+    answer = taa1_seal_book(ring, ring_length, opened, answer.written, again, sizeof again);
+    must_accept("the opened book", answer);
+    if (answer.written != sealed_length || memcmp(again, sealed, sealed_length) != 0) {
+        fail("the book sealed again", " is another");
+    }
+    printf("sealed again %zu records, %zu bytes: the same bytes\n", answer.index, answer.written);
+
+    answer = taa1_open_book(ring, ring_length, candidate.bytes, candidate.length, opened,
+                            sizeof opened);
+    if (answer.refusal != TAA1_ACCEPTED) {
+        print_refusal(stdout, answer);
+    } else {
+        printf("accepted %zu records, %zu bytes\n", answer.index, answer.written);
+    }
+
+    if (fflush(stdout) != 0 || ferror(stdout)) {
+        fail("standard output", " cannot be written");
+    }
+    return EXIT_SUCCESS;
+}

@@ -1,0 +1,106 @@
+"""Plays a sitting: makes the ring, seals the model book, opens it and seals it
+again, then opens the candidate's book.
+
+    sitting.py LIBRARY [FOLDER]
+
+LIBRARY is the engine's shared object; FOLDER has the three files (samples by
+default).
+"""
+
+from __future__ import annotations
+
+import os
+import sys
+
+import taa1
+
+
+def read(folder: str, name: str) -> bytes:
+    """A file's bytes; ends the program if it cannot be read."""
+    path = f"{folder}/{name}"
+    try:
+        with open(path, "rb") as file:
+            return file.read()
+    except OSError:
+        sys.exit(f"sitting: {path} cannot be read")
+
+
+def parse(data: bytes) -> taa1.Sitting:
+    """The sitting in the bytes of sitting.bin."""
+    if len(data) != 70:
+        sys.exit("sitting: sitting.bin does not have 70 bytes")
+    return taa1.Sitting(
+        root=data[:16],
+        rs=data[16:26],
+        rso=data[26:36],
+        rand1=data[36:46],
+        rand2=data[46:56],
+        c=data[56:66],
+        response_mask=int.from_bytes(data[66:68], "big"),
+        key_mask=int.from_bytes(data[68:70], "big"),
+    )
+
+
+def play(engine: taa1.Engine, folder: str) -> None:
+    """Plays the sitting of a folder."""
+    sitting = read(folder, "sitting.bin")
+    plain = read(folder, "plain.book")
+    candidate = read(folder, "candidate.book")
+
+    try:
+        ring, response1, response2 = engine.ring(parse(sitting))
+    except taa1.Refused as refused:
+        sys.exit(f"sitting: sitting.bin: {refused}")
+    print("ring", ring.hex())
+    print("response 1", response1.hex())
+    print("response 2", response2.hex())
+
+    try:
+        records, sealed = engine.seal_book(ring, plain)
+    except taa1.Refused as refused:
+        sys.exit(f"sitting: plain.book: {refused}")
+    print(f"sealed {records} records, {len(sealed)} bytes")
+    for at in range(0, len(sealed), taa1.SEALED_RECORD):
+        print("sealed", sealed[at : at + taa1.SEALED_RECORD].hex())
+
+    try:
+        records, opened = engine.open_book(ring, sealed)
+    except taa1.Refused as refused:
+        sys.exit(f"sitting: the sealed book: {refused}")
+    if opened != plain:
+        sys.exit("sitting: the opened book is not the plain book")
+    print(f"opened {records} records, {len(opened)} bytes: the plain book")
+
+    try:
+        records, again = engine.seal_book(ring, opened)
+    except taa1.Refused as refused:
+        sys.exit(f"sitting: the opened book: {refused}")
+    if again != sealed:
+        sys.exit("sitting: the book sealed again is another")
+    print(f"sealed again {records} records, {len(again)} bytes: the same bytes")
+
+    try:
+        records, opened = engine.open_book(ring, candidate)
+        print(f"accepted {records} records, {len(opened)} bytes")
+    except taa1.Refused as refused:
+        print(refused)
+
+
+def main() -> None:
+    if len(sys.argv) < 2:
+        sys.exit("usage: sitting.py LIBRARY [FOLDER]")
+    try:
+        engine = taa1.Engine(os.path.abspath(sys.argv[1]))
+    except OSError:
+        sys.exit(f"sitting: {sys.argv[1]} cannot be loaded")
+    try:
+        play(engine, sys.argv[2] if len(sys.argv) > 2 else "samples")
+        sys.stdout.flush()
+    except OSError:
+        # What is still buffered would fail again at exit.
+        os.dup2(os.open(os.devnull, os.O_WRONLY), sys.stdout.fileno())
+        sys.exit("sitting: standard output cannot be written")
+
+
+if __name__ == "__main__":
+    main()

@@ -1,0 +1,108 @@
+//! Plays a sitting: makes the ring, seals the model book, opens it and seals it
+//! again, then opens the candidate's book.
+//!
+//!     sitting [FOLDER]    the folder with the three files; samples by default
+
+use std::io::{self, Write};
+use std::process::ExitCode;
+use std::{env, fs};
+
+use taa1::{Sitting, SEALED_RECORD};
+
+fn read(folder: &str, name: &str) -> Result<Vec<u8>, String> {
+    let path = format!("{folder}/{name}");
+    fs::read(&path).map_err(|_| format!("{path} cannot be read"))
+}
+
+/// The sitting in the bytes of sitting.bin.
+fn parse(bytes: &[u8]) -> Option<Sitting<'_>> {
+    if bytes.len() != 70 {
+        return None;
+    }
+    Some(Sitting {
+        root: &bytes[..16],
+        rs: &bytes[16..26],
+        rso: &bytes[26..36],
+        rand1: &bytes[36..46],
+        rand2: &bytes[46..56],
+        c: &bytes[56..66],
+        response_mask: u16::from_be_bytes([bytes[66], bytes[67]]),
+        key_mask: u16::from_be_bytes([bytes[68], bytes[69]]),
+    })
+}
+
+fn hex(bytes: &[u8]) -> String {
+    bytes.iter().map(|byte| format!("{byte:02x}")).collect()
+}
+
+/// The lines of a sitting, as far as it goes, into `lines`.
+fn play(folder: &str, lines: &mut Vec<String>) -> Result<(), String> {
+    let sitting = read(folder, "sitting.bin")?;
+    let plain = read(folder, "plain.book")?;
+    let candidate = read(folder, "candidate.book")?;
+
+    let sitting = parse(&sitting).ok_or("sitting.bin does not have 70 bytes")?;
+    let made = taa1::ring(&sitting).map_err(|e| format!("sitting.bin: {e}"))?;
+    lines.push(format!("ring {}", hex(&made.ring)));
+    lines.push(format!("response 1 {}", hex(&made.response1)));
+    lines.push(format!("response 2 {}", hex(&made.response2)));
+
+    let sealed = taa1::seal_book(&made.ring, &plain).map_err(|e| format!("plain.book: {e}"))?;
+    let (records, length) = (sealed.records, sealed.bytes.len());
+    lines.push(format!("sealed {records} records, {length} bytes"));
+    for record in sealed.bytes.chunks(SEALED_RECORD) {
+        lines.push(format!("sealed {}", hex(record)));
+    }
+
+    let opened =
+        taa1::open_book(&made.ring, &sealed.bytes).map_err(|e| format!("the sealed book: {e}"))?;
+    if opened.bytes != plain {
+        return Err("the opened book is not the plain book".into());
+    }
+    let (records, length) = (opened.records, opened.bytes.len());
+    lines.push(format!(
+        "opened {records} records, {length} bytes: the plain book"
+    ));
+
+    let again =
+        taa1::seal_book(&made.ring, &opened.bytes).map_err(|e| format!("the opened book: {e}"))?;
+    if again != sealed {
+        return Err("the book sealed again is another".into());
+    }
+    let (records, length) = (again.records, again.bytes.len());
+    lines.push(format!(
+        "sealed again {records} records, {length} bytes: the same bytes"
+    ));
+
+    lines.push(match taa1::open_book(&made.ring, &candidate) {
+        Ok(book) => format!(
+            "accepted {} records, {} bytes",
+            book.records,
+            book.bytes.len()
+        ),
+        Err(refusal) => refusal.to_string(),
+    });
+    Ok(())
+}
+
+fn print(lines: &[String]) -> io::Result<()> {
+    let mut out = io::stdout().lock();
+    for line in lines {
+        writeln!(out, "{line}")?;
+    }
+    out.flush()
+}
+
+fn main() -> ExitCode {
+    let folder = env::args().nth(1).unwrap_or_else(|| "samples".into());
+    let mut lines = Vec::new();
+    let played = play(&folder, &mut lines);
+    let printed = print(&lines).map_err(|_| "standard output cannot be written".into());
+    match played.and(printed) {
+        Ok(()) => ExitCode::SUCCESS,
+        Err(why) => {
+            eprintln!("sitting: {why}");
+            ExitCode::FAILURE
+        }
+    }
+}

@@ -1,0 +1,243 @@
+//! The TAA1 engine for Rust hosts: safe functions over `libengine.a`.
+//!
+//! A byte string may have any length: the engine refuses a wrong one.
+
+mod raw;
+mod refusal;
+
+pub use refusal::{BookRefusal, Refusal};
+
+/// Bytes of a plain record.
+pub const PLAIN_RECORD: usize = 18;
+/// Bytes of a sealed record.
+pub const SEALED_RECORD: usize = 21;
+
+#[repr(C)]
+#[derive(Clone, Copy, Debug, PartialEq, Eq)]
+pub struct Version(pub u16);
+
+#[repr(C)]
+#[derive(Clone, Copy, Debug, PartialEq, Eq)]
+pub struct KeyNumber(pub u16);
+
+/// What a ring is made from: a root of 16 bytes, five strings of 10, two masks.
+#[derive(Clone, Copy, Debug)]
+pub struct Sitting<'a> {
+    pub root: &'a [u8],
+    pub rs: &'a [u8],
+    pub rso: &'a [u8],
+    pub rand1: &'a [u8],
+    pub rand2: &'a [u8],
+    pub c: &'a [u8],
+    pub response_mask: u16,
+    pub key_mask: u16,
+}
+
+/// A ring and both responses.
+#[derive(Clone, Copy, Debug, PartialEq, Eq)]
+pub struct RingMade {
+    pub ring: [u8; 36],
+    pub response1: [u8; 4],
+    pub response2: [u8; 4],
+}
+
+#[derive(Clone, Copy, Debug, PartialEq, Eq)]
+pub struct Authentication {
+    pub response: [u8; 4],
+    pub key: [u8; 10],
+}
+
+/// A set flag says that the text is not what sealing gives.
+#[derive(Clone, Copy, Debug, PartialEq, Eq)]
+pub struct UnsealedNumbered {
+    pub key: [u8; 10],
+    pub number: KeyNumber,
+    pub flag: bool,
+}
+
+/// A book that the engine wrote, and the number of its records.
+#[derive(Clone, Debug, PartialEq, Eq)]
+pub struct Book {
+    pub records: usize,
+    pub bytes: Vec<u8>,
+}
+
+/// Calls the engine: `[name]` is a byte string and `{name}` an output.
+macro_rules! call {
+    ($call:ident($($([$bytes:ident])? $({$out:ident})? $($value:ident)?),*)) => {
+        // SAFETY: each pointer is that of a slice, with the slice's length, and
+        // an output is borrowed alone.
+        unsafe {
+            raw::$call($(
+                $($bytes.as_ptr(), $bytes.len(),)?
+                $($out.as_mut_ptr(), $out.len(),)?
+                $($value,)?
+            )*)
+        }
+    };
+}
+
+/// HURDLE-II: a block of 8 bytes, encrypted under a key of 16.
+pub fn encrypt(key: &[u8], block: &[u8]) -> Result<[u8; 8], Refusal> {
+    bytes(call!(encrypt([key], [block])))
+}
+
+/// Undoes [`encrypt`] under the same key.
+pub fn decrypt(key: &[u8], block: &[u8]) -> Result<[u8; 8], Refusal> {
+    bytes(call!(decrypt([key], [block])))
+}
+
+/// The session key for [`ta12`], from a root of 16 bytes and a seed of 10.
+pub fn ta11(root: &[u8], seed: &[u8]) -> Result<[u8; 16], Refusal> {
+    bytes(call!(ta11([root], [seed])))
+}
+
+/// The session key for [`ta22`].
+pub fn ta21(root: &[u8], seed: &[u8]) -> Result<[u8; 16], Refusal> {
+    bytes(call!(ta21([root], [seed])))
+}
+
+/// The response to a challenge of 10 bytes, and the key.
+pub fn ta12(
+    session_key: &[u8],
+    challenge: &[u8],
+    response_mask: u16,
+    key_mask: u16,
+) -> Result<Authentication, Refusal> {
+    authentication(call!(ta12(
+        [session_key],
+        [challenge],
+        response_mask,
+        key_mask
+    )))
+}
+
+/// As [`ta12`], for a session key from [`ta21`].
+pub fn ta22(
+    session_key: &[u8],
+    challenge: &[u8],
+    response_mask: u16,
+    key_mask: u16,
+) -> Result<Authentication, Refusal> {
+    authentication(call!(ta22(
+        [session_key],
+        [challenge],
+        response_mask,
+        key_mask
+    )))
+}
+
+/// A cipher key of 10 bytes and a number of 0 to 31, sealed.
+pub fn ta51(
+    cipher_key: &[u8],
+    version: Version,
+    sealing_key: &[u8],
+    number: KeyNumber,
+) -> Result<[u8; 15], Refusal> {
+    bytes(call!(ta51([cipher_key], version, [sealing_key], number)))
+}
+
+/// The cipher key and number that a text of 15 bytes seals.
+pub fn ta52(
+    text: &[u8],
+    sealing_key: &[u8],
+    version: Version,
+) -> Result<UnsealedNumbered, Refusal> {
+    let answer = call!(ta52([text], [sealing_key], version));
+    Refusal::test(answer.refusal)?;
+    Ok(UnsealedNumbered {
+        key: answer.key,
+        number: KeyNumber(answer.number),
+        flag: answer.flag,
+    })
+}
+
+/// An identity of 24 bits, encrypted under a key of 10 bytes.
+pub fn ta61(common_key: &[u8], identity: u64) -> Result<u32, Refusal> {
+    let answer = call!(ta61([common_key], identity));
+    Refusal::test(answer.refusal)?;
+    Ok(answer.identity)
+}
+
+/// Undoes [`ta61`] under the same key.
+pub fn ta61_inverse(common_key: &[u8], encrypted_identity: u64) -> Result<u32, Refusal> {
+    let answer = call!(ta61_inverse([common_key], encrypted_identity));
+    Refusal::test(answer.refusal)?;
+    Ok(answer.identity)
+}
+
+/// The ring of a sitting, and both responses.
+pub fn ring(sitting: &Sitting) -> Result<RingMade, Refusal> {
+    let Sitting {
+        root,
+        rs,
+        rso,
+        rand1,
+        rand2,
+        c,
+        response_mask,
+        key_mask,
+    } = *sitting;
+    let answer = call!(ring(
+        [root],
+        [rs],
+        [rso],
+        [rand1],
+        [rand2],
+        [c],
+        response_mask,
+        key_mask
+    ));
+    Refusal::test(answer.refusal)?;
+    Ok(RingMade {
+        ring: answer.ring,
+        response1: answer.response1,
+        response2: answer.response2,
+    })
+}
+
+/// A plain book, sealed under a ring of 36 bytes.
+pub fn seal_book(ring: &[u8], plain: &[u8]) -> Result<Book, BookRefusal> {
+    let mut out = vec![0; plain.len() / PLAIN_RECORD * SEALED_RECORD];
+    let answer = call!(seal_book([ring], [plain], { out }));
+    book(answer, out)
+}
+
+/// The plain book of a sealed one.
+pub fn open_book(ring: &[u8], sealed: &[u8]) -> Result<Book, BookRefusal> {
+    let mut out = vec![0; sealed.len() / SEALED_RECORD * PLAIN_RECORD];
+    let answer = call!(open_book([ring], [sealed], { out }));
+    book(answer, out)
+}
+
+/// The number of records of a well-formed plain book.
+pub fn check_plain(plain: &[u8]) -> Result<usize, BookRefusal> {
+    records(&call!(check_plain([plain])))
+}
+
+fn bytes<const N: usize>(answer: raw::Bytes<N>) -> Result<[u8; N], Refusal> {
+    Refusal::test(answer.refusal)?;
+    Ok(answer.bytes)
+}
+
+fn authentication(answer: raw::Authentication) -> Result<Authentication, Refusal> {
+    Refusal::test(answer.refusal)?;
+    Ok(Authentication {
+        response: answer.response,
+        key: answer.key,
+    })
+}
+
+fn records(answer: &raw::BookAnswer) -> Result<usize, BookRefusal> {
+    let index = answer.index;
+    match Refusal::test(answer.refusal) {
+        Ok(()) => Ok(index),
+        Err(refusal) => Err(BookRefusal { refusal, index }),
+    }
+}
+
+fn book(answer: raw::BookAnswer, mut bytes: Vec<u8>) -> Result<Book, BookRefusal> {
+    let records = records(&answer)?;
+    bytes.truncate(answer.written);
+    Ok(Book { records, bytes })
+}

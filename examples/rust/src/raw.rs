@@ -1,0 +1,83 @@
+//! The calls as `include/taa1.h` declares them. A byte string is a pointer and
+//! a length, never `&[u8]`: Rust's slices do not pass this way.
+
+use crate::{KeyNumber, Version};
+
+#[repr(C)]
+pub struct Bytes<const N: usize> {
+    pub refusal: u32,
+    pub bytes: [u8; N],
+}
+
+#[repr(C)]
+pub struct Authentication {
+    pub refusal: u32,
+    pub response: [u8; 4],
+    pub key: [u8; 10],
+}
+
+#[repr(C)]
+pub struct Identity {
+    pub refusal: u32,
+    pub identity: u32,
+}
+
+#[repr(C)]
+pub struct UnsealedNumbered {
+    pub refusal: u32,
+    pub key: [u8; 10],
+    pub number: u16,
+    pub flag: bool,
+}
+
+#[repr(C)]
+pub struct RingMade {
+    pub refusal: u32,
+    pub ring: [u8; 36],
+    pub response1: [u8; 4],
+    pub response2: [u8; 4],
+}
+
+#[repr(C)]
+pub struct BookAnswer {
+    pub refusal: u32,
+    pub index: usize,
+    pub written: usize,
+}
+
+/// Declares calls: `[name]` is a byte string and `{name}` an output.
+macro_rules! declare {
+    ($($call:ident(
+        $($([$bytes:ident])? $({$out:ident})? $($value:ident: $type:ty)?),*
+    ) -> $answer:ty;)*) => {
+        extern "C" {$(
+            #[link_name = concat!("taa1_", stringify!($call))]
+            pub fn $call(
+                $(
+                    $($bytes: *const u8, _: usize,)?
+                    $($out: *mut u8, _: usize,)?
+                    $($value: $type,)?
+                )*
+            ) -> $answer;
+        )*}
+    };
+}
+
+declare! {
+    encrypt([key], [block]) -> Bytes<8>;
+    decrypt([key], [block]) -> Bytes<8>;
+    ta11([root], [seed]) -> Bytes<16>;
+    ta21([root], [seed]) -> Bytes<16>;
+    ta12([session_key], [challenge], response_mask: u16, key_mask: u16) -> Authentication;
+    ta22([session_key], [challenge], response_mask: u16, key_mask: u16) -> Authentication;
+    ta51([cipher_key], version: Version, [sealing_key], number: KeyNumber) -> Bytes<15>;
+    ta52([text], [sealing_key], version: Version) -> UnsealedNumbered;
+    ta61([common_key], identity: u64) -> Identity;
+    ta61_inverse([common_key], encrypted_identity: u64) -> Identity;
+    ring(
+        [root], [rs], [rso], [rand1], [rand2], [c], response_mask: u16, key_mask: u16
+    ) -> RingMade;
+    seal_book([ring], [plain], {out}) -> BookAnswer;
+    open_book([ring], [sealed], {out}) -> BookAnswer;
+    check_plain([plain]) -> BookAnswer;
+}

@@ -1,0 +1,98 @@
+//! The twelve refusals.
+
+use std::error::Error;
+use std::fmt;
+
+/// Why the engine refuses a call.
+#[derive(Clone, Copy, Debug, PartialEq, Eq)]
+pub enum Refusal {
+    BookTooLong = 1,
+    BookNotWhole = 2,
+    WrongKind = 3,
+    NotZero = 4,
+    WrongNumber = 5,
+    FlagSet = 6,
+    WrongMask = 7,
+    SharedBit = 8,
+    WrongWidth = 9,
+    ValueWide = 10,
+    WrongLength = 11,
+    OutputShort = 12,
+}
+
+impl Refusal {
+    pub const ALL: [Refusal; 12] = [
+        Refusal::BookTooLong,
+        Refusal::BookNotWhole,
+        Refusal::WrongKind,
+        Refusal::NotZero,
+        Refusal::WrongNumber,
+        Refusal::FlagSet,
+        Refusal::WrongMask,
+        Refusal::SharedBit,
+        Refusal::WrongWidth,
+        Refusal::ValueWide,
+        Refusal::WrongLength,
+        Refusal::OutputShort,
+    ];
+
+    pub fn number(self) -> u32 {
+        self as u32
+    }
+
+    pub fn name(self) -> &'static str {
+        match self {
+            Refusal::BookTooLong => "book longer than 1,024 records",
+            Refusal::BookNotWhole => "book not a whole number of records",
+            Refusal::WrongKind => "kind not 1 to 4",
+            Refusal::NotZero => "body byte not zero",
+            Refusal::WrongNumber => "kind 2 number above 31",
+            Refusal::FlagSet => "flag set while opening a book",
+            Refusal::WrongMask => "mask with a wrong number of ones",
+            Refusal::SharedBit => "masks that share a bit",
+            Refusal::WrongWidth => "width not 16 to 32",
+            Refusal::ValueWide => "value too wide for its field",
+            Refusal::WrongLength => "input of a wrong length",
+            Refusal::OutputShort => "output shorter than the result",
+        }
+    }
+
+    /// The refusal in an answer's first field, where 0 is none.
+    pub(crate) fn test(number: u32) -> Result<(), Refusal> {
+        match number {
+            0 => Ok(()),
+            1..=12 => Err(Refusal::ALL[number as usize - 1]),
+            _ => unreachable!("the engine has no refusal {number}"),
+        }
+    }
+}
+
+impl fmt::Display for Refusal {
+    fn fmt(&self, f: &mut fmt::Formatter) -> fmt::Result {
+        write!(f, "refused {} ({})", self.number(), self.name())
+    }
+}
+
+impl Error for Refusal {}
+
+/// Why the engine refuses a book, and the first offending record (0 where the
+/// refusal is of no one record).
+#[derive(Clone, Copy, Debug, PartialEq, Eq)]
+pub struct BookRefusal {
+    pub refusal: Refusal,
+    pub index: usize,
+}
+
+impl fmt::Display for BookRefusal {
+    fn fmt(&self, f: &mut fmt::Formatter) -> fmt::Result {
+        let BookRefusal { refusal, index } = self;
+        write!(
+            f,
+            "refused {} at {index} ({})",
+            refusal.number(),
+            refusal.name()
+        )
+    }
+}
+
+impl Error for BookRefusal {}
