@@ -113,8 +113,12 @@ impl Call {
     ) {
         let (answer, got) = lent(room, |out| (self.engine)(ring, book, out));
         let (wanted_answer, wanted) = lent(room, wanted);
-        let at = (0..got.len()).find(|&i| got[i] != wanted[i]);
-        let difference = at.map(|i| (i as isize - MARGIN as isize, got[i], wanted[i]));
+        let place = (0..got.len()).find(|&i| got[i] != wanted[i]);
+        let difference = place.map(|i| Difference {
+            place: i as isize - MARGIN as isize,
+            got: got[i],
+            wanted: wanted[i],
+        });
         group.same(
             self.name,
             &[("ring", &ring), ("book", &Start(book)), ("room", &room)],
@@ -122,6 +126,14 @@ impl Call {
             (wanted_answer, None),
         );
     }
+}
+
+/// The first byte that is not as wanted, counted from the output's start.
+#[derive(Debug, PartialEq)]
+struct Difference {
+    place: isize,
+    got: u8,
+    wanted: u8,
 }
 
 /// A call with an output in the middle of bytes that stay as they are.

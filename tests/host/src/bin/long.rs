@@ -71,7 +71,10 @@ fn seals(group: &mut Group, random: &mut Random) {
     let (key, group_key) = (string(random, 10), string(random, 12));
     let (d, o) = (string(random, 10), string(random, 16));
     let (version, number) = (random.number() as u16, random.number() as u16);
-    let small = value(random, 5) as u16;
+    let small = match random.below(16) {
+        0 => number,
+        _ => number % 32,
+    };
     compare!(group, ta31([key], version, [d]));
     compare!(group, ta51([key], version, [o], small));
     compare!(group, ta81([key], version, [o], number));

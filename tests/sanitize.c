@@ -1,0 +1,247 @@
+/*
+ * Plays the calls through the header as a careful host would. Each byte string
+ * lies against a page that may not be touched, once with its end and once with
+ * its start, and inputs may not be written to; so a step beside a string, or
+ * into an input, ends the program. The engine itself is not instrumented, so
+ * the sanitizers alone would not see one.
+ */
+#define _DEFAULT_SOURCE
+#include "taa1.h"
+
+#include <stdio.h>
+#include <stdlib.h>
+#include <string.h>
+#include <sys/mman.h>
+#include <unistd.h>
+
+static size_t checks, failures;
+
+#define CHECK(right) check((right), #right, __LINE__)
+
+static void check(bool right, const char *text, int line)
+{
+    checks++;
+    if (!right) {
+        failures++;
+        fprintf(stderr, "line %d: %s does not hold\n", line, text);
+    }
+}
+
+/* ---- Byte strings ---- */
+
+typedef struct {
+    uint8_t *bytes;
+    size_t length;
+    uint8_t *map;
+    size_t mapped; /* with the two pages that may not be touched */
+} string;
+
+static size_t page(void)
+{
+    return (size_t)sysconf(_SC_PAGESIZE);
+}
+
+static void protect(string s, int protection)
+{
+    if (mprotect(s.map + page(), s.mapped - 2 * page(), protection) != 0) {
+        perror("mprotect");
+        exit(1);
+    }
+}
+
+static string writable(size_t length, bool at_end)
+{
+    string s;
+    size_t inside = (length / page() + 1) * page();
+    s.length = length;
+    s.mapped = inside + 2 * page();
+    s.map = mmap(NULL, s.mapped, PROT_NONE, MAP_PRIVATE | MAP_ANONYMOUS, -1, 0);
+    if (s.map == MAP_FAILED) {
+        perror("mmap");
+        exit(1);
+    }
+    protect(s, PROT_READ | PROT_WRITE);
+    s.bytes = s.map + page() + (at_end ? inside - length : 0);
+    for (size_t i = 0; i < length; i++)
+        s.bytes[i] = (uint8_t)(rand() >> 7);
+    return s;
+}
+
+static string input(size_t length, bool at_end)
+{
+    string s = writable(length, at_end);
+    protect(s, PROT_READ);
+    return s;
+}
+
+static void give_back(string s)
+{
+    munmap(s.map, s.mapped);
+}
+
+/* A string as two arguments. */
+#define S(s) (s).bytes, (s).length
+
+/* ---- Single calls, all strings so many bytes longer than they should be ---- */
+
+static void single_calls(bool at_end, int longer)
+{
+    string block = input((size_t)(8 + longer), at_end);
+    string key = input((size_t)(10 + longer), at_end);
+    string key2 = input((size_t)(10 + longer), at_end);
+    string group_key = input((size_t)(12 + longer), at_end);
+    string text = input((size_t)(15 + longer), at_end);
+    string root = input((size_t)(16 + longer), at_end);
+    uint16_t response_mask = 0x000f, key_mask = 0xffc0;
+    taa1_version version = {0x0102};
+    taa1_key_number number = {3};
+    uint32_t wanted = longer == 0 ? TAA1_ACCEPTED : TAA1_WRONG_LENGTH;
+
+    CHECK(taa1_encrypt(S(root), S(block)).refusal == wanted);
+    CHECK(taa1_decrypt(S(root), S(block)).refusal == wanted);
+    CHECK(taa1_ta11(S(root), S(key)).refusal == wanted);
+    CHECK(taa1_ta21(S(root), S(key)).refusal == wanted);
+    CHECK(taa1_ta41(S(root), S(key)).refusal == wanted);
+    CHECK(taa1_ta12(S(root), S(key), response_mask, key_mask).refusal == wanted);
+    CHECK(taa1_ta22(S(root), S(key), response_mask, key_mask).refusal == wanted);
+    CHECK(taa1_ta31(S(key), version, S(key2)).refusal == wanted);
+    CHECK(taa1_ta51(S(key), version, S(root), number).refusal == wanted);
+    CHECK(taa1_ta81(S(key), version, S(root), number).refusal == wanted);
+    CHECK(taa1_ta91(S(group_key), version, S(root)).refusal == wanted);
+    CHECK(taa1_ta61(S(key), 0x123456).refusal == wanted);
+    CHECK(taa1_ta61_inverse(S(key), 0x123456).refusal == wanted);
+    CHECK(taa1_ta71(S(key), S(key2)).refusal == wanted);
+    CHECK(taa1_ta101(S(root), S(key), 0x123456).refusal == wanted);
+    CHECK(taa1_tb1(0x12345, 20).refusal == TAA1_ACCEPTED);
+    CHECK(taa1_tb2(S(root)).refusal == wanted);
+    CHECK(taa1_tb3(S(root), 0x12345, 20).refusal == wanted);
+    CHECK(taa1_tb4(S(key), S(key2)).refusal == wanted);
+    CHECK(taa1_tb5(S(key), 1, 2, 3).refusal == wanted);
+    CHECK(taa1_tb6(S(key), 1, 2).refusal == wanted);
+    CHECK(taa1_tb7(S(group_key)).refusal == wanted);
+    CHECK(taa1_ring(S(root), S(key), S(key2), S(key), S(key2), S(key),
+                    response_mask, key_mask).refusal == wanted);
+
+    /* A random text has its flag set, or the answer is zero. */
+    taa1_unsealed kind1 = taa1_ta32(S(text), S(key), version);
+    taa1_unsealed_numbered kind2 = taa1_ta52(S(text), S(root), version);
+    taa1_unsealed_numbered kind3 = taa1_ta82(S(text), S(root), version);
+    taa1_unsealed_group kind4 = taa1_ta92(S(text), S(root), version);
+    CHECK(kind1.refusal == wanted && kind1.flag == (longer == 0));
+    CHECK(kind2.refusal == wanted && kind2.flag == (longer == 0));
+    CHECK(kind3.refusal == wanted && kind3.flag == (longer == 0));
+    CHECK(kind4.refusal == wanted && kind4.flag == (longer == 0));
+
+    give_back(block);
+    give_back(key);
+    give_back(key2);
+    give_back(group_key);
+    give_back(text);
+    give_back(root);
+}
+
+/* ---- Books ---- */
+
+static bool is(taa1_book_answer answer, uint32_t refusal, size_t index, size_t written)
+{
+    return answer.refusal == refusal && answer.index == index && answer.written == written;
+}
+
+static string plain_book(size_t records, bool at_end)
+{
+    string plain = writable(18 * records, at_end);
+    for (size_t i = 0; i < records; i++) {
+        uint8_t *record = plain.bytes + 18 * i;
+        record[0] = (uint8_t)(1 + i % 4);
+        if (record[0] == 1)
+            record[16] = record[17] = 0;
+        if (record[0] == 2) {
+            record[16] = 0;
+            record[17] %= 32;
+        }
+    }
+    protect(plain, PROT_READ);
+    return plain;
+}
+
+static void books(bool at_end, size_t records)
+{
+    string ring = input(36, at_end);
+    string plain = plain_book(records, at_end);
+    string sealed = writable(21 * records, at_end);
+    string opened = writable(18 * records, at_end);
+
+    CHECK(is(taa1_check_plain(S(plain)), TAA1_ACCEPTED, records, 0));
+    CHECK(is(taa1_seal_book(S(ring), S(plain), S(sealed)), TAA1_ACCEPTED, records, 21 * records));
+    protect(sealed, PROT_READ);
+    CHECK(is(taa1_open_book(S(ring), S(sealed), S(opened)), TAA1_ACCEPTED, records, 18 * records));
+    CHECK(memcmp(opened.bytes, plain.bytes, plain.length) == 0);
+
+    if (records > 0) {
+        /* What is refused must not be written, not even where it could be. */
+        protect(opened, PROT_READ);
+        CHECK(is(taa1_seal_book(S(ring), S(plain), sealed.bytes, sealed.length - 1),
+                 TAA1_OUTPUT_SHORT, 0, 0));
+        CHECK(is(taa1_open_book(S(ring), S(sealed), opened.bytes, opened.length - 1),
+                 TAA1_OUTPUT_SHORT, 0, 0));
+        CHECK(is(taa1_open_book(S(ring), sealed.bytes, sealed.length - 1, S(opened)),
+                 TAA1_BOOK_NOT_WHOLE, 0, 0));
+        CHECK(is(taa1_open_book(ring.bytes, ring.length - 1, S(sealed), S(opened)),
+                 TAA1_WRONG_LENGTH, 0, 0));
+        protect(sealed, PROT_READ | PROT_WRITE);
+        sealed.bytes[sealed.length - 1] ^= 1;
+        CHECK(is(taa1_open_book(S(ring), S(sealed), S(opened)), TAA1_FLAG_SET, records - 1, 0));
+        sealed.bytes[sealed.length - 21] = 0;
+        CHECK(is(taa1_open_book(S(ring), S(sealed), S(opened)), TAA1_WRONG_KIND, records - 1, 0));
+        protect(plain, PROT_READ | PROT_WRITE);
+        plain.bytes[plain.length - 18] = 5;
+        protect(sealed, PROT_READ);
+        CHECK(is(taa1_seal_book(S(ring), S(plain), S(sealed)), TAA1_WRONG_KIND, records - 1, 0));
+        CHECK(is(taa1_check_plain(S(plain)), TAA1_WRONG_KIND, records - 1, 0));
+    }
+
+    give_back(ring);
+    give_back(plain);
+    give_back(sealed);
+    give_back(opened);
+}
+
+static void too_long(bool at_end)
+{
+    string ring = input(36, at_end);
+    string plain = plain_book(1025, at_end);
+    string out = input(21 * 1025, at_end);
+    CHECK(is(taa1_check_plain(S(plain)), TAA1_BOOK_TOO_LONG, 0, 0));
+    CHECK(is(taa1_seal_book(S(ring), S(plain), S(out)), TAA1_BOOK_TOO_LONG, 0, 0));
+    CHECK(is(taa1_open_book(S(ring), S(out), S(plain)), TAA1_BOOK_TOO_LONG, 0, 0));
+    give_back(ring);
+    give_back(plain);
+    give_back(out);
+}
+
+static void nulls(void)
+{
+    string ring = input(36, true);
+    CHECK(taa1_encrypt(NULL, 0, NULL, 0).refusal == TAA1_WRONG_LENGTH);
+    CHECK(is(taa1_check_plain(NULL, 0), TAA1_ACCEPTED, 0, 0));
+    CHECK(is(taa1_seal_book(S(ring), NULL, 0, NULL, 0), TAA1_ACCEPTED, 0, 0));
+    CHECK(is(taa1_open_book(S(ring), NULL, 0, NULL, 0), TAA1_ACCEPTED, 0, 0));
+    CHECK(is(taa1_seal_book(NULL, 0, NULL, 0, NULL, 0), TAA1_WRONG_LENGTH, 0, 0));
+    give_back(ring);
+}
+
+int main(void)
+{
+    static const size_t records[] = {0, 1, 2, 3, 4, 5, 17, 1023, 1024};
+    srand(1);
+    for (int at_end = 0; at_end < 2; at_end++) {
+        for (int longer = -8; longer <= 8; longer++)
+            single_calls(at_end, longer);
+        for (size_t i = 0; i < sizeof records / sizeof *records; i++)
+            books(at_end, records[i]);
+        too_long(at_end);
+    }
+    nulls();
+    printf("%zu checks between guard pages, %zu failed\n", checks, failures);
+    return failures != 0;
+}
