@@ -1,0 +1,195 @@
+//! Reads the crates' sources: each function that another crate can call has an
+//! `ensures` and no `requires`, and docs/READING.md has the table of them all.
+//!
+//!     contracts          checks; the last line: N passed, M failed
+//!     contracts table    prints the table
+
+use std::fs;
+use std::path::Path;
+use std::process::ExitCode;
+
+const HEADING: &str = "## Functions that other crates can call\n";
+
+/// A public function's path and contract.
+struct Function {
+    name: String,
+    requires: Vec<String>,
+    ensures: Vec<String>,
+}
+
+fn read(path: &Path) -> String {
+    fs::read_to_string(path).unwrap_or_else(|error| panic!("{}: {error}", path.display()))
+}
+
+/// The word after `before`, up to what cannot stand in a name.
+fn name_after<'a>(line: &'a str, before: &str) -> Option<&'a str> {
+    let rest = line.trim_start().strip_prefix(before)?;
+    let end = rest.find(|c: char| !c.is_alphanumeric() && c != '_');
+    Some(&rest[..end.unwrap_or(rest.len())])
+}
+
+fn function_name(line: &str) -> Option<&str> {
+    ["pub fn ", "pub const fn ", "pub extern \"C\" fn "]
+        .iter()
+        .find_map(|before| name_after(line, before))
+}
+
+/// The words of `text` with what stands between them, in order.
+fn words(text: &str) -> Vec<&str> {
+    let mut found = Vec::new();
+    let mut start = 0;
+    for (at, c) in text.char_indices() {
+        if " (){},;".contains(c) {
+            found.push(&text[start..at]);
+            found.push(&text[at..at + 1]);
+            start = at + 1;
+        }
+    }
+    found.push(&text[start..]);
+    found
+}
+
+/// `name as alias` in a file's imports: the pairs of alias and name.
+fn aliases(source: &str) -> Vec<(&str, &str)> {
+    let imports = source.lines().filter(|line| line.starts_with("ghost use "));
+    imports
+        .flat_map(|line| line.split(['{', '}', ',']))
+        .filter_map(|item| item.trim().split_once(" as "))
+        .map(|(name, alias)| (alias, name))
+        .collect()
+}
+
+/// A contract's statement as a reader would say it: the values at entry by the
+/// arguments' names, those at exit marked, each definition by its own name.
+fn statement(clause: &str, aliases: &[(&str, &str)]) -> String {
+    let inner = clause
+        .split_once('⌜')
+        .and_then(|(_, rest)| rest.rsplit_once('⌝'));
+    let mut text = inner.unwrap_or(("", "")).0.trim().replace(['«', '»'], "");
+    for (moment, mark) in [(" .entry)", ""), (" .exit)", "′")] {
+        while let Some(end) = text.find(moment) {
+            let Some(start) = text[..end].rfind("now (") else {
+                break;
+            };
+            let plain = format!("{}{mark}", &text[start + "now (".len()..end]);
+            text.replace_range(start..end + moment.len(), &plain);
+        }
+    }
+    let mut said = String::new();
+    for word in words(&text) {
+        let own = aliases.iter().find(|(alias, _)| *alias == word);
+        said.push_str(own.map_or(word, |(_, name)| name));
+    }
+    for word in words(&said.clone()) {
+        said = said.replace(&format!("({word})"), word);
+    }
+    said
+}
+
+/// Adds the functions of one file that `exported` lets out of the crate.
+fn functions(path: &str, source: &str, exported: &dyn Fn(&str) -> bool, all: &mut Vec<Function>) {
+    let aliases = aliases(source);
+    let mut owner = None;
+    let mut lines = source.lines().peekable();
+    while let Some(line) = lines.next() {
+        if line == "}" {
+            owner = None;
+        }
+        owner = name_after(line, "impl ").or(owner);
+        let Some(name) = function_name(line) else {
+            continue;
+        };
+        let mut clauses: Vec<String> = Vec::new();
+        let mut last = line;
+        while !(last.ends_with('{') || last.ends_with('}') && function_name(last).is_some()) {
+            last = lines.next().expect("a function has a body").trim();
+            if last.starts_with("requires") || last.starts_with("ensures") {
+                clauses.push(last.to_string());
+            } else if let Some(clause) = clauses.last_mut() {
+                *clause = format!("{clause} {last}");
+            }
+        }
+        if !exported(owner.unwrap_or(name)) {
+            continue;
+        }
+        let said = |word: &str| {
+            let of_word = clauses.iter().filter(|clause| clause.starts_with(word));
+            of_word.map(|clause| statement(clause, &aliases)).collect()
+        };
+        let owner = owner.map_or(String::new(), |owner| format!("{owner}::"));
+        all.push(Function {
+            name: format!("{path}::{owner}{name}"),
+            requires: said("requires"),
+            ensures: said("ensures"),
+        });
+    }
+}
+
+/// The public functions of a library, in the order of its files.
+fn of_crate(name: &str, folder: &Path, all: &mut Vec<Function>) {
+    let main = read(&folder.join("lib.rt"));
+    functions(name, &main, &|_| true, all);
+    for line in main.lines() {
+        let open = name_after(line, "pub mod ");
+        let Some(module) = open.or(name_after(line, "mod ")) else {
+            continue;
+        };
+        let path = open.map_or(name.to_string(), |module| format!("{name}::{module}"));
+        let source = read(&folder.join(format!("{module}.rt")));
+        let exported = |item: &str| {
+            open.is_some()
+                || main
+                    .lines()
+                    .any(|line| line == format!("pub use {module}::{item};"))
+        };
+        functions(&path, &source, &exported, all);
+    }
+}
+
+fn table(all: &[Function]) -> String {
+    let mut text = String::from("| function | what holds (x′ is the value at exit) |\n|---|---|\n");
+    for function in all {
+        let ensures: Vec<String> = function.ensures.iter().map(|e| format!("`{e}`")).collect();
+        text.push_str(&format!(
+            "| `{}` | {} |\n",
+            function.name,
+            ensures.join("; ")
+        ));
+    }
+    text
+}
+
+fn main() -> ExitCode {
+    let root = Path::new(env!("CARGO_MANIFEST_DIR")).join("../..");
+    let mut all = Vec::new();
+    for line in read(&root.join("crates.txt")).lines() {
+        let name = line.split([' ', ':']).next().unwrap_or("");
+        let folder = root.join("crates").join(name).join("src");
+        if !name.is_empty() && folder.join("lib.rt").exists() {
+            of_crate(name, &folder, &mut all);
+        }
+    }
+    if std::env::args().nth(1).as_deref() == Some("table") {
+        print!("{}", table(&all));
+        return ExitCode::SUCCESS;
+    }
+
+    let mut failed = 0;
+    for function in &all {
+        if !function.requires.is_empty() || function.ensures.is_empty() {
+            println!("{}: a requires, or no ensures", function.name);
+            failed += 1;
+        }
+    }
+    let passed = all.len() - failed;
+    let guide = read(&root.join("docs/READING.md"));
+    let section = guide.split_once(HEADING).map_or("", |(_, rest)| rest);
+    let shown = section.split("\n## ").next().unwrap_or("");
+    let right = shown.contains(&table(&all));
+    if !right {
+        println!("docs/READING.md has another table: print it with contracts table");
+    }
+    let (passed, failed) = (passed + usize::from(right), failed + usize::from(!right));
+    println!("{passed} passed, {failed} failed");
+    ExitCode::from(u8::from(failed != 0))
+}
