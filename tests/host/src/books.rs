@@ -279,39 +279,7 @@ pub fn listing(plain: &[u8]) -> Vec<u8> {
 #[cfg(test)]
 mod tests {
     use super::*;
-
-    /// A small generator of test inputs (xorshift64).
-    struct Random(u64);
-
-    impl Random {
-        fn next(&mut self) -> u64 {
-            self.0 ^= self.0 << 13;
-            self.0 ^= self.0 >> 7;
-            self.0 ^= self.0 << 17;
-            self.0 >> 16
-        }
-
-        fn bytes(&mut self, length: usize) -> Vec<u8> {
-            (0..length).map(|_| self.next() as u8).collect()
-        }
-
-        /// A well-formed plain book.
-        fn plain(&mut self, records: usize) -> Vec<u8> {
-            let mut book = self.bytes(PLAIN * records);
-            for record in book.chunks_exact_mut(PLAIN) {
-                record[0] = 1 + record[0] % 4;
-                match record[0] {
-                    1 => record[16..].fill(0),
-                    2 => {
-                        record[16] = 0;
-                        record[17] %= 32;
-                    }
-                    _ => {}
-                }
-            }
-            book
-        }
-    }
+    use crate::random::Random;
 
     fn refused(refusal: u32, index: usize) -> BookAnswer {
         BookAnswer {
@@ -323,9 +291,9 @@ mod tests {
 
     #[test]
     fn sealed_books_open() {
-        let mut random = Random(7);
+        let mut random = Random::new(7);
         for records in [0, 1, 2, 3, 4, 5, 40] {
-            let (ring, plain) = (random.bytes(36), random.plain(records));
+            let (ring, plain) = (random.vec(36), random.plain_book(records));
             assert_eq!(
                 check_plain(&plain),
                 BookAnswer {
@@ -376,8 +344,8 @@ mod tests {
 
     #[test]
     fn refusals_in_order() {
-        let mut random = Random(8);
-        let (ring, plain) = (random.bytes(36), random.plain(6));
+        let mut random = Random::new(8);
+        let (ring, plain) = (random.vec(36), random.plain_book(6));
         let mut good = vec![0; 6 * SEALED];
         assert_eq!(seal_book(&ring, &plain, &mut good).refusal, 0);
 
@@ -432,8 +400,8 @@ mod tests {
 
     #[test]
     fn most_records() {
-        let mut random = Random(9);
-        let (ring, plain) = (random.bytes(36), random.plain(MOST + 1));
+        let mut random = Random::new(9);
+        let (ring, plain) = (random.vec(36), random.plain_book(MOST + 1));
         let mut sealed = vec![0; SEALED * (MOST + 1)];
         assert_eq!(seal_book(&ring, &plain, &mut sealed), refused(1, 0));
         assert_eq!(check_plain(&plain), refused(1, 0));

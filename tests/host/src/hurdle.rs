@@ -137,23 +137,7 @@ pub fn decrypt(key: &[u8; 16], block: &[u8; 8]) -> [u8; 8] {
 #[cfg(test)]
 mod tests {
     use super::*;
-
-    /// A small generator of test inputs (splitmix64).
-    struct Random(u64);
-
-    impl Random {
-        fn next(&mut self) -> u64 {
-            self.0 = self.0.wrapping_add(0x9e3779b97f4a7c15);
-            let mut z = self.0;
-            z = (z ^ (z >> 30)).wrapping_mul(0xbf58476d1ce4e5b9);
-            z = (z ^ (z >> 27)).wrapping_mul(0x94d049bb133111eb);
-            z ^ (z >> 31)
-        }
-
-        fn key(&mut self) -> [u8; 16] {
-            (u128::from(self.next()) << 64 | u128::from(self.next())).to_be_bytes()
-        }
-    }
+    use crate::random::Random;
 
     #[test]
     fn s_is_a_permutation() {
@@ -167,9 +151,9 @@ mod tests {
     /// Clause 6.4.4 describes the permutation twice; both must agree.
     #[test]
     fn pi_is_as_its_compact_description() {
-        let mut random = Random(1);
+        let mut random = Random::new(1);
         for _ in 0..1000 {
-            let u = random.next() as u32;
+            let u = random.number() as u32;
             let y = (0..8).fold(0, |y, q| y | SPREAD[q][(u >> (4 * q) & 15) as usize]);
             for (j, i) in PI.iter().enumerate() {
                 assert_eq!(y >> j & 1, u >> i & 1);
@@ -198,10 +182,10 @@ mod tests {
 
     #[test]
     fn decrypt_undoes_encrypt() {
-        let mut random = Random(2);
+        let mut random = Random::new(2);
         for _ in 0..10_000 {
-            let key = random.key();
-            let block = random.next().to_be_bytes();
+            let key = random.bytes();
+            let block = random.number().to_be_bytes();
             let cipher = encrypt(&key, &block);
             assert_ne!(cipher, block);
             assert_eq!(decrypt(&key, &cipher), block);

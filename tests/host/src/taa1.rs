@@ -717,6 +717,7 @@ pub fn ring(
 #[cfg(test)]
 mod tests {
     use super::*;
+    use crate::random::Random;
 
     /// 01 02 and so on upward.
     fn upward<const N: usize>() -> [u8; N] {
@@ -726,22 +727,6 @@ mod tests {
     fn hex(text: &str) -> Vec<u8> {
         let byte = |b| u8::from_str_radix(b, 16).unwrap();
         text.split_whitespace().map(byte).collect()
-    }
-
-    /// A small generator of test inputs (xorshift64).
-    struct Random(u64);
-
-    impl Random {
-        fn next(&mut self) -> u64 {
-            self.0 ^= self.0 << 13;
-            self.0 ^= self.0 >> 7;
-            self.0 ^= self.0 << 17;
-            self.0
-        }
-
-        fn bytes<const N: usize>(&mut self) -> [u8; N] {
-            from_fn(|_| (self.next() >> 32) as u8)
-        }
     }
 
     // Cases a to k of document 01; g and j are in hurdle.rs.
@@ -803,7 +788,6 @@ mod tests {
 
     /// All 2^24 places; takes a while without optimisation.
     #[test]
-    #[ignore]
     fn p_is_undone_everywhere() {
         for x in 0..1 << 24 {
             let a = three_bytes(x);
@@ -813,10 +797,10 @@ mod tests {
 
     #[test]
     fn identities_come_back() {
-        let mut random = Random(3);
+        let mut random = Random::new(3);
         for _ in 0..2000 {
             let key = random.bytes::<10>();
-            let identity = random.next() >> 40;
+            let identity = random.number() >> 40;
             let hidden = ta61(&key, identity);
             assert_eq!(hidden.refusal, 0);
             let back = ta61_inverse(&key, hidden.identity.into());
@@ -839,10 +823,10 @@ mod tests {
 
     #[test]
     fn seals_open() {
-        let mut random = Random(4);
+        let mut random = Random::new(4);
         for _ in 0..500 {
             let (key, d, o) = (random.bytes(), random.bytes::<10>(), random.bytes::<16>());
-            let (version, wide) = (random.next() as u16, random.next() as u16);
+            let (version, wide) = (random.number() as u16, random.number() as u16);
             let text = ta31(&key, version, &d).bytes;
             assert_eq!(
                 ta32(&text, &d, version),
@@ -884,7 +868,7 @@ mod tests {
     /// happen with these fixed seeds.
     #[test]
     fn changes_set_the_flag() {
-        let mut random = Random(5);
+        let mut random = Random::new(5);
         for _ in 0..200 {
             let (key, d, o) = (
                 random.bytes::<10>(),
@@ -892,7 +876,7 @@ mod tests {
                 random.bytes::<16>(),
             );
             let group = random.bytes::<12>();
-            let version = random.next() as u16;
+            let version = random.number() as u16;
             let mut texts = [
                 ta31(&key, version, &d).bytes,
                 ta51(&key, version, &o, 31).bytes,
@@ -903,7 +887,7 @@ mod tests {
             assert!(ta52(&texts[1], &o, version ^ 256).flag);
             assert!(ta82(&texts[2], &o, !version).flag);
             assert!(ta92(&texts[3], &o, version.wrapping_add(1)).flag);
-            let (place, change) = (random.next() as usize % 15, random.next() as u8 | 1);
+            let (place, change) = (random.number() as usize % 15, random.number() as u8 | 1);
             texts.iter_mut().for_each(|text| text[place] ^= change);
             assert!(ta32(&texts[0], &d, version).flag);
             assert!(ta52(&texts[1], &o, version).flag);
@@ -1013,7 +997,7 @@ mod tests {
 
     #[test]
     fn ring_is_made() {
-        let mut random = Random(6);
+        let mut random = Random::new(6);
         let root = random.bytes::<16>();
         let [rs, rso, rand1, rand2, c]: [[u8; 10]; 5] = from_fn(|_| random.bytes());
         let made = ring(&root, &rs, &rso, &rand1, &rand2, &c, 0x000f, 0xffc0);
