@@ -5,7 +5,7 @@ use mathlib.Core.Path.{_≡_}
 use Prim.Native.Nat.{ℕ, _*_, _/_, _%_, _<_, _≤_}
 use lib.Dec.{eqb, leb}
 use Rattle.standard.specs.Books.{plainFault, sealRecord, openFault, openRecord, recordAt, firstFault, Way}
-use Rattle.standard.specs.Refusals.{bookTooLong, notWhole, wrongLength, outputTooShort, first}
+use Rattle.standard.specs.Refusals.{bookTooLong, bookNotWhole, wrongLength, outputShort, first}
 use Rattle.records.specs.Steps.{sealedBy, openedBy}
 use Rattle.books.specs.declared.walk.Direction.{Direction}
 use Rattle.books.specs.declared.walk.Direction.the-variants.{Sealing, Opening}
@@ -47,11 +47,11 @@ pub record Stopped (n : ℕ) (g : ℕ → ℕ) (number index : ℕ) : Type 0 whe
 
 -- the refusals that go by lengths alone
 abbrev pub lengthsOf : (size book : ℕ) → ℕ
-lengthsOf size book = first ((leb book (size * 1024), bookTooLong) ∷ (eqb (book % size) 0, notWhole) ∷ [])
+lengthsOf size book = first ((leb book (size * 1024), bookTooLong) ∷ (eqb (book % size) 0, bookNotWhole) ∷ [])
 
 abbrev pub headOf : (size to ring book out : ℕ) → ℕ
 headOf size to ring book out =
     first (
-    (eqb ring 36, wrongLength) ∷ (leb book (size * 1024), bookTooLong) ∷ (eqb (book % size) 0, notWhole)
-    ∷ (leb (to * (book / size)) out, outputTooShort) ∷ []
+    (eqb ring 36, wrongLength) ∷ (leb book (size * 1024), bookTooLong) ∷ (eqb (book % size) 0, bookNotWhole)
+    ∷ (leb (to * (book / size)) out, outputShort) ∷ []
     )

@@ -15,7 +15,7 @@ use standard::UnsealedNumbered;
 use standard::Version;
 ghost use mathlib.Core.Path.{_≡_};
 ghost use Rattle.standard.specs.Books.{sealBook, openBook, checkPlain};
-ghost use Rattle.standard.specs.Derivation.{ta11Call, ta21Call, ta41Call, splitCall, ta71Call, ta101Call, ringCall};
+ghost use Rattle.standard.specs.Derivation.{ta11Call, ta21Call, ta41Call, ta12Call, ta22Call, ta71Call, ta101Call, ringCall};
 ghost use Rattle.standard.specs.Hurdle.{encryptCall, decryptCall};
 ghost use Rattle.standard.specs.Identity.{ta61Call, ta61⁻¹Call};
 ghost use Rattle.standard.specs.Mixing.{tb1Call, tb2Call, tb3Call, tb4Call, tb5Call, tb6Call, tb7Call};
@@ -63,7 +63,7 @@ pub extern "C" fn taa1_ta12(
     response_mask: u16,
     key_mask: u16,
 ) -> Authentication
-    ensures { λ r. ⌜ r ≡ splitCall (now («session_key» .entry)) (now (challenge .entry)) «response_mask» «key_mask» ⌝ }
+    ensures { λ r. ⌜ r ≡ ta12Call (now («session_key» .entry)) (now (challenge .entry)) «response_mask» «key_mask» ⌝ }
 {
     keys::ta12(session_key, challenge, response_mask, key_mask)
 }
@@ -75,7 +75,7 @@ pub extern "C" fn taa1_ta22(
     response_mask: u16,
     key_mask: u16,
 ) -> Authentication
-    ensures { λ r. ⌜ r ≡ splitCall (now («session_key» .entry)) (now (challenge .entry)) «response_mask» «key_mask» ⌝ }
+    ensures { λ r. ⌜ r ≡ ta22Call (now («session_key» .entry)) (now (challenge .entry)) «response_mask» «key_mask» ⌝ }
 {
     keys::ta22(session_key, challenge, response_mask, key_mask)
 }

@@ -17,27 +17,12 @@ use standard::Authentication;
 use standard::Bytes10;
 use standard::Bytes16;
 use standard::RingMade;
+use standard::refused_ring;
+use standard::refused10;
+use standard::refused16;
 ghost use mathlib.Core.Path.{_≡_};
 ghost use Rattle.standard.specs.Bytes.{zeros};
-ghost use Rattle.standard.specs.Derivation.{ta11Call, ta21Call, ta41Call, splitCall, ta71Call, ta101Call, ringCall};
-
-fn refused10(number: u32) -> Bytes10
-    ensures { λ r. ⌜ r ≡ record { refusal = number; bytes = zeros 10 } ⌝ }
-{
-    Bytes10 {
-        refusal: number,
-        bytes: [0; 10],
-    }
-}
-
-fn refused16(number: u32) -> Bytes16
-    ensures { λ r. ⌜ r ≡ record { refusal = number; bytes = zeros 16 } ⌝ }
-{
-    Bytes16 {
-        refusal: number,
-        bytes: [0; 16],
-    }
-}
+ghost use Rattle.standard.specs.Derivation.{ta11Call, ta21Call, ta41Call, ta12Call, ta22Call, ta71Call, ta101Call, ringCall};
 
 fn refused_split(number: u32) -> Authentication
     ensures { λ r. ⌜ r ≡ record { refusal = number; response = zeros 4; key = zeros 10 } ⌝ }
@@ -46,17 +31,6 @@ fn refused_split(number: u32) -> Authentication
         refusal: number,
         response: [0; 4],
         key: [0; 10],
-    }
-}
-
-fn refused_ring(number: u32) -> RingMade
-    ensures { λ r. ⌜ r ≡ record { refusal = number; ring = zeros 36; response1 = zeros 4; response2 = zeros 4 } ⌝ }
-{
-    RingMade {
-        refusal: number,
-        ring: [0; 36],
-        response1: [0; 4],
-        response2: [0; 4],
     }
 }
 
@@ -100,7 +74,7 @@ pub fn ta12(
     response_mask: u16,
     key_mask: u16,
 ) -> Authentication
-    ensures { λ r. ⌜ r ≡ splitCall (now («session_key» .entry)) (now (challenge .entry)) «response_mask» «key_mask» ⌝ }
+    ensures { λ r. ⌜ r ≡ ta12Call (now («session_key» .entry)) (now (challenge .entry)) «response_mask» «key_mask» ⌝ }
 {
     let long = (session_key.len() == 16) & (challenge.len() == 10);
     if !long {
@@ -125,7 +99,7 @@ pub fn ta22(
     response_mask: u16,
     key_mask: u16,
 ) -> Authentication
-    ensures { λ r. ⌜ r ≡ splitCall (now («session_key» .entry)) (now (challenge .entry)) «response_mask» «key_mask» ⌝ }
+    ensures { λ r. ⌜ r ≡ ta22Call (now («session_key» .entry)) (now (challenge .entry)) «response_mask» «key_mask» ⌝ }
 {
     ta12(session_key, challenge, response_mask, key_mask)
 }

@@ -3,11 +3,11 @@ ghost use mathlib.Core.Path.{_≡_};
 ghost use lib.Count.{ones};
 ghost use lib.ListN.{length};
 ghost use Rattle.standard.specs.Derivation.{chosen};
-ghost use Rattle.standard.specs.Refusals.{masks, first};
+ghost use Rattle.standard.specs.Refusals.{maskTests, first};
 
 // The number of the first test that the masks fail; 0 if none.
 pub fn refusal_of(response_mask: u16, key_mask: u16) -> u32
-    ensures { λ r. ⌜ r ≡ first (masks «response_mask» «key_mask») ⌝ }
+    ensures { λ r. ⌜ r ≡ first (maskTests «response_mask» «key_mask») ⌝ }
 {
     let counted = (u16::count_ones(response_mask) == 4) & (u16::count_ones(key_mask) == 10);
     if !counted {

@@ -1,20 +1,23 @@
 -- Text that grows at the end, cut after 160 bytes.
 -- Assumes nothing.
-use mathlib.Core.Bool.{Bool, true, false}
+use mathlib.Core.Bool.{Bool, true, false, _&&_}
 use mathlib.Core.List.{List, [], _∷_, _++_, append-assoc, append-nil}
 use mathlib.Core.Path.{_≡_, refl, sym, ap, _∙_}
 use Prim.Native.Nat.{ℕ, zero, suc, _+_, _-_, _*_, _/_, _%_, _<_, _≤_}
 use native.Mathlib.Numerals.{add-one, sub-one}
 use native.Mathlib.Omega.{arith}
-use lib.Dec.{ltb}
+use lib.Dec.{eqb, leb, ltb}
 use lib.ListN.{length, take, set, length-append, length-take}
 use lib.Seq.{take-at, take-all, take-suc, take-suc-set}
-use borrow.Author.Tests.{lt-ltb, le-ltb}
+use borrow.Author.Tests.{lt-ltb, le-ltb, leb-true}
 use Rattle.listing.specs.Steps.{frontText}
+use Rattle.standard.proofs.BytesLaws.{and-split}
 use Rattle.standard.specs.Books.{recordKind}
 use Rattle.standard.specs.Bytes.{_!_, choose}
-use Rattle.standard.specs.Listing.{digits, hexByte, hex, keyWord, numberWord, newline, numberText, entryLine, entriesLine, refusedLine}
+use Rattle.standard.specs.Listing.{digits, hexByte, hex, numberText, entryLine, entriesLine, refusedLine}
+use Rattle.standard.specs.Programs.{beside, meanings, meaning, meaningLine, wroteLine}
 use Rattle.standard.specs.Seals.{keyLength}
+use Rattle.standard.specs.Text.{ascii}
 use Rattle.standard.specs.declared.Kind.the-variants.{Ta31, Ta51, Ta81, Ta91}
 use Rattle.standard.specs.declared.Kind.{Kind}
 
@@ -119,10 +122,10 @@ entry-short i p =
 
 -- a record's line, from its two halves
 pub entry-made : (i : ℕ) (p : List ℕ) {k : Kind} {x y : List ℕ} → k ≡ recordKind p
-    → x ≡ take 160 (frontText i p) → y ≡ take 160 (x ++ keyWord ++ hex 6 (keyLength k) p ++ numberWord ++ numberText k p ++ newline) → y ≡ entryLine i p
+    → x ≡ take 160 (frontText i p) → y ≡ take 160 (x ++ ascii " key " ++ hex 6 (keyLength k) p ++ ascii " number " ++ numberText k p ++ ascii "\n") → y ≡ entryLine i p
 unfolding entryLine
 entry-made i p {k} {x} {y} e f g =
-    uncut (entryLine i p) (more5 (frontText i p) keyWord (hex 6 (keyLength (recordKind p)) p) numberWord (numberText (recordKind p) p) newline f (rw e at g)) (entry-short i p)
+    uncut (entryLine i p) (more5 (frontText i p) (ascii " key ") (hex 6 (keyLength (recordKind p)) p) (ascii " number ") (numberText (recordKind p) p) (ascii "\n") f (rw e at g)) (entry-short i p)
 
 pub entries-short : (n : ℕ) → length (entriesLine n) ≤ 160
 unfolding entriesLine
@@ -131,6 +134,32 @@ entries-short n = simp length-append (omega (arith, digits-few 20 n))
 pub refused-short : (number index : ℕ) → length (refusedLine number index) ≤ 160
 unfolding refusedLine
 refused-short number index = simp length-append (omega (arith, digits-few 20 number, digits-few 20 index))
+
+abbrev allShort : List (ℕ × List ℕ) → Bool
+allShort [] = true
+allShort (t ∷ ts) = leb (length (t .1)) 34 && allShort ts
+
+beside-short : (n : ℕ) (ts : List (ℕ × List ℕ)) → allShort ts ≡ true → length (beside n ts) ≤ 34
+beside-short n [] e = omega arith
+beside-short n (t ∷ ts) e = go (eqb n (t .0)) (and-split _ _ e) (λ h. beside-short n ts h)
+  where
+    go : (b : Bool) → (leb (length (t .1)) 34 ≡ true) × (allShort ts ≡ true) → (allShort ts ≡ true → length (beside n ts) ≤ 34)
+        → length (choose b (t .1) (beside n ts)) ≤ 34
+    go true s k = leb-true _ _ (s .0)
+    go false s k = k (s .1)
+
+pub meaning-short : (n : ℕ) → length (meaning n) ≤ 34
+unfolding meaning
+meaning-short n = beside-short n meanings refl
+
+pub meaning-line-short : (number index : ℕ) → length (meaningLine number index) ≤ 160
+unfolding meaningLine
+meaning-line-short number index =
+    simp length-append (omega (arith, digits-few 20 number, digits-few 20 index, meaning-short number))
+
+pub wrote-short : (n : ℕ) → length (wroteLine n) ≤ 160
+unfolding wroteLine
+wrote-short n = simp length-append (omega (arith, digits-few 20 n))
 
 -- the length that the code takes
 pub size-room : (bytes : List ℕ) (n : ℕ) → length bytes ≡ 160 → n < 160 → n ≡ length (take n bytes)

@@ -12,6 +12,7 @@ use Rattle.listing.proofs.LineLaws.{entry-short}
 use Rattle.listing.specs.Steps.{Placed, Filled}
 use Rattle.standard.specs.Books.{recordAt, checkPlain}
 use Rattle.standard.specs.Listing.{entryLine, entryLines, entriesLine, refusedLine, listing, listCall}
+use Rattle.standard.specs.Programs.{meaningLine, wroteLine, answerLine, reportCall}
 use Rattle.standard.specs.declared.BookAnswer.{BookAnswer}
 
 -- ---- one line
@@ -108,3 +109,24 @@ module _ (p out₀ : List ℕ) (room : length p / 18 < length out₀ / 160) {out
     pub list-entries : a .refusal ≡ 0 → {line out₁ : List ℕ} {at : ℕ} → Filled (entryLines (length p / 18) p) out₀ out₁ at → line ≡ entriesLine (length p / 18)
         → Placed line at out₁ out end → (end, out) ≡ listCall p out₀
     list-entries z f l q = list-made (rw (listing-entries p a e z) (rw l at (filled-next f q)))
+
+-- ---- the line about an answer
+
+pub report-short : (a : BookAnswer) (out : List ℕ) → length out < 160 → (0, out) ≡ reportCall a out
+unfolding reportCall
+report-short a out h = rw (lt-ltb _ _ h)
+
+module _ (a : BookAnswer) (out₀ : List ℕ) (room : 160 ≤ length out₀) {line out : List ℕ} {end : ℕ} where
+  report-made : line ≡ answerLine a → Placed line 0 out₀ out end → (end, out) ≡ reportCall a out₀
+  unfolding reportCall
+  report-made e q =
+      let f = rw e at (filled-next (filled-none out₀) q) in
+      rw (le-ltb _ _ room, f .to, f .bytes)
+
+  pub report-refused : (a .refusal ≡ 0 → ⊥) → line ≡ meaningLine (a .refusal) (a .index) → Placed line 0 out₀ out end → (end, out) ≡ reportCall a out₀
+  unfolding answerLine
+  report-refused r e q = report-made (e ∙ rw (ne-eqb _ _ r)) q
+
+  pub report-wrote : a .refusal ≡ 0 → line ≡ wroteLine (a .written) → Placed line 0 out₀ out end → (end, out) ≡ reportCall a out₀
+  unfolding answerLine
+  report-wrote z e q = report-made (e ∙ rw (eq-eqb _ _ z)) q

@@ -1,4 +1,5 @@
 // The listing of a plain book.
+mod answer;
 mod line;
 
 use crate::line::Line;
@@ -7,6 +8,7 @@ use crate::line::empty;
 use crate::line::hex;
 use crate::line::size;
 use crate::line::word;
+pub use answer::report;
 use arrays::array18;
 use arrays::copy;
 use books::check_plain;
@@ -18,7 +20,8 @@ ghost use Prim.Native.Nat.{_+_, _*_, _≤_};
 ghost use lib.ListN.{length, take};
 ghost use Rattle.standard.specs.Bytes.{part};
 ghost use Rattle.standard.specs.Seals.{keyLength};
-ghost use Rattle.standard.specs.Listing.{hex as hexOf, keyWord, numberWord, numberText, newline, entryLine, entryLines, entriesLine, refusedLine, listCall};
+ghost use Rattle.standard.specs.Listing.{hex as hexOf, numberText, entryLine, entryLines, entriesLine, refusedAt, refusedLine, listCall};
+ghost use Rattle.standard.specs.Text.{ascii};
 ghost use Rattle.listing.specs.Steps.{shown, frontText, Placed, Filled};
 
 fn wide(x: u8) -> u64
@@ -58,7 +61,7 @@ fn number(l: Line, kind: Kind, p: &[u8; 18]) -> Line
 
 // The rest of a record's line.
 fn back(l: Line, kind: Kind, p: &[u8; 18]) -> Line
-    ensures { λ r. ⌜ shown r ≡ take 160 (shown l ++ keyWord ++ hexOf 6 (keyLength kind) (now (p .entry)) ++ numberWord ++ numberText kind (now (p .entry)) ++ newline) ⌝ }
+    ensures { λ r. ⌜ shown r ≡ take 160 (shown l ++ ascii " key " ++ hexOf 6 (keyLength kind) (now (p .entry)) ++ ascii " number " ++ numberText kind (now (p .entry)) ++ ascii "\n") ⌝ }
 {
     let key = hex(word(l, b" key "), p, 6, kind.key_length());
     let named = number(word(key, b" number "), kind, p);
@@ -80,12 +83,17 @@ fn entries_line(n: usize) -> Line
     word(count, b"\n")
 }
 
+fn refused_at(number: u32, index: usize) -> Line
+    ensures { λ r. ⌜ shown r ≡ take 160 (refusedAt number index) ⌝ }
+{
+    let refused = decimal(word(empty(), b"refused "), number as u64);
+    decimal(word(refused, b" at "), index as u64)
+}
+
 fn refused_line(number: u32, index: usize) -> Line
     ensures { λ r. ⌜ shown r ≡ refusedLine number index ⌝ }
 {
-    let refused = decimal(word(empty(), b"refused "), number as u64);
-    let at = decimal(word(refused, b" at "), index as u64);
-    word(at, b"\n")
+    word(refused_at(number, index), b"\n")
 }
 
 // A line into the output, from index `at` on; its end.

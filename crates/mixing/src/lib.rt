@@ -13,8 +13,9 @@ use arrays::xor10;
 use arrays::xor16;
 use standard::Bytes10;
 use standard::Bytes16;
+use standard::refused10;
+use standard::refused16;
 ghost use mathlib.Core.Path.{_≡_};
-ghost use Rattle.standard.specs.Bytes.{zeros};
 ghost use Rattle.standard.specs.Mixing.{tb4 as tb4Of, tb7 as tb7Of, tb1Call, tb2Call, tb3Call, tb4Call, tb5Call, tb6Call, tb7Call};
 
 // TB4 on typed arrays.
@@ -46,24 +47,6 @@ fn grouped(b: [u8; 12]) -> [u8; 16]
         b[11],
         b[9] ^ b[10] ^ b[11],
     ]
-}
-
-fn refused10(number: u32) -> Bytes10
-    ensures { λ r. ⌜ r ≡ record { refusal = number; bytes = zeros 10 } ⌝ }
-{
-    Bytes10 {
-        refusal: number,
-        bytes: [0; 10],
-    }
-}
-
-fn refused16(number: u32) -> Bytes16
-    ensures { λ r. ⌜ r ≡ record { refusal = number; bytes = zeros 16 } ⌝ }
-{
-    Bytes16 {
-        refusal: number,
-        bytes: [0; 16],
-    }
 }
 
 // The calls, over strings of any length and numbers of any size.

@@ -5,9 +5,8 @@ use mathlib.Core.Path.{_≡_, sym, ap, _∙_}
 use Prim.Native.Nat.{ℕ, _<_, _≤_}
 use lib.ListN.{length, take, drop}
 use borrow.Author.Tests.{eq-eqb, ne-eqb}
-use Rattle.standard.specs.Books.{opening, sealBook, openBook}
+use Rattle.standard.specs.Books.{opening, sealBook, openBook, reseal}
 use Rattle.standard.specs.Bytes.{_!_}
-use Rattle.standard.specs.Demand3.{reseal}
 use Rattle.standard.specs.declared.BookAnswer.{BookAnswer}
 use Rattle.standard.proofs.AnswerLaws.{written-fits}
 use Rattle.standard.proofs.Demand3Laws.{comes-back}

@@ -7,8 +7,7 @@ ghost use mathlib.Core.List.{_++_};
 ghost use mathlib.Core.Path.{_≡_};
 ghost use Prim.Native.Nat.{_≤_};
 ghost use lib.ListN.{length, drop};
-ghost use Rattle.standard.specs.Books.{openBook};
-ghost use Rattle.standard.specs.Demand3.{reseal as resealOf};
+ghost use Rattle.standard.specs.Books.{openBook, reseal as resealOf};
 
 pub fn reseal(ring: &[u8], sealed: &[u8], plain: &mut [u8], again: &mut [u8]) -> BookAnswer
     ensures whole { λ r. ⌜ (r, now (plain .exit), now (again .exit)) ≡ resealOf (now (ring .entry)) (now (sealed .entry)) (now (plain .entry)) (now (again .entry)) ⌝ }

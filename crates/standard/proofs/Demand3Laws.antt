@@ -11,7 +11,7 @@ use lib.Seq.{take-at}
 use borrow.Author.Tests.{eq-eqb, le-leb}
 use Rattle.standard.specs.Books.{plainFault, sealRecord, openFault, openRecord, each, WellFormed, sealedForm, lengthTests, sealing, opening, bookCall, sealBook, openBook, checkPlain}
 use Rattle.standard.specs.Bytes.{_!_, Bytes}
-use Rattle.standard.specs.Demand3.{Seals, Demand3}
+use Rattle.standard.specs.Demand3.{IsSealedForm, Demand3, Demand3Holds}
 use Rattle.standard.specs.Refusals.{first}
 use Rattle.standard.specs.declared.BookAnswer.{BookAnswer}
 use Rattle.standard.proofs.AnswerLaws.{is-accepted, accepted, lengths-fine, book-of, few-of, whole-of, good-of, call-lengths, call-book, call-accepts, call-refuses}
@@ -47,23 +47,23 @@ module _ (r : List ℕ) (hr : Bytes 36 r) where
   book-law = books (omega arith) (omega arith) (record-law r hr)
 
   module _ (s : List ℕ) (bs : (i : ℕ) → s ! i < 256) where
-    sealed-book : (p : List ℕ) → Seals r p s → SealedBook r s
+    sealed-book : (p : List ℕ) → IsSealedForm r p s → SealedBook r s
     unfolding sealedForm
     sealed-book p q = is-image book-law s .1 (p, book (q .formed), q .is)
 
     -- the book is what opening writes
-    opened : (p : List ℕ) → Seals r p s → p ≡ each (length s / 21) 21 (openRecord r) s
+    opened : (p : List ℕ) → IsSealedForm r p s → p ≡ each (length s / 21) 21 (openRecord r) s
     unfolding sealedForm
     opened p q = of-one book-law p s (book (q .formed)) (q .is)
 
-    from-sealed : SealedBook r s → (p : List ℕ) × Seals r p s
+    from-sealed : SealedBook r s → (p : List ℕ) × IsSealedForm r p s
     unfolding sealedForm
     from-sealed b = let i = is-image book-law s .0 b in (i .0, record { formed = well-formed (i .1); is = i .2 })
 
-    plain-length : (p : List ℕ) → Seals r p s → length p ≡ 18 * (length s / 21)
+    plain-length : (p : List ℕ) → IsSealedForm r p s → length p ≡ 18 * (length s / 21)
     plain-length p q = ap length (opened p q) ∙ mapped-length (omega arith) (omega arith) (reversed (record-law r hr)) s (sealed-book p q)
 
-    sealed-length : (p : List ℕ) → Seals r p s → length s ≡ 21 * (length p / 18)
+    sealed-length : (p : List ℕ) → IsSealedForm r p s → length s ≡ 21 * (length p / 18)
     unfolding sealedForm
     sealed-length p q = ap length (sym (q .is)) ∙ mapped-length (omega arith) (omega arith) (record-law r hr) p (book (q .formed))
 
@@ -73,27 +73,27 @@ module _ (r : List ℕ) (hr : Bytes 36 r) where
       unfolding openBook
       accepts b = call-accepts (opening r) r s out (hr .len) bs room b
 
-      opens : (openBook r s out .0 .refusal ≡ 0) ↔ ((p : List ℕ) × Seals r p s)
+      opens : (openBook r s out .0 .refusal ≡ 0) ↔ ((p : List ℕ) × IsSealedForm r p s)
       unfolding openBook
       opens = (
         λ e. from-sealed (call-book (opening r) r s out (hr .len) bs e),
         λ q. ap (λ (a : BookAnswer × List ℕ). a .0 .refusal) (accepts (sealed-book (q .0) (q .1))),
       )
 
-      writes : (p : List ℕ) → Seals r p s → openBook r s out ≡ (record { refusal = 0; index = length p / 18; written = length p }, p ++ drop (length p) out)
+      writes : (p : List ℕ) → IsSealedForm r p s → openBook r s out ≡ (record { refusal = 0; index = length p / 18; written = length p }, p ++ drop (length p) out)
       writes p q =
           let l = plain-length p q in
           let n : length p / 18 ≡ length s / 21 = omega arith in
           rw (n, l) (accepts (sealed-book p q) ∙ rw (← opened p q))
 
-      back : (p : List ℕ) → Seals r p s → (out′ : List ℕ) → length s ≤ length out′
+      back : (p : List ℕ) → IsSealedForm r p s → (out′ : List ℕ) → 21 * (length p / 18) ≤ length out′
           → sealBook r p out′ ≡ (record { refusal = 0; index = length p / 18; written = length s }, s ++ drop (length s) out′)
       unfolding sealBook sealedForm
       back p q out′ h =
           let l = sealed-length p q in
-          call-accepts (sealing r) r p out′ (hr .len) (q .formed .bytes) (omega arith) (book (q .formed)) ∙ rw (q .is, ← l)
+          call-accepts (sealing r) r p out′ (hr .len) (q .formed .bytes) h (book (q .formed)) ∙ rw (q .is, ← l)
 
-      refuses : (((p : List ℕ) × Seals r p s) → ⊥)
+      refuses : (((p : List ℕ) × IsSealedForm r p s) → ⊥)
           → (openBook r s out .0 .refusal ≡ 0 → ⊥) × (openBook r s out .0 .written ≡ 0) × (openBook r s out .1 ≡ out)
       unfolding openBook
       refuses none =
@@ -101,8 +101,8 @@ module _ (r : List ℕ) (hr : Bytes 36 r) where
           let k = call-refuses (opening r) r s out (hr .len) bs shut in
           (shut, k .0, k .1)
 
-      pub demand3 : Demand3 r s out
-      demand3 = record {
+      all : Demand3 r s out
+      all = record {
         opens = opens;
         unique = λ p q hp hq. opened p hp ∙ sym (opened q hq);
         writes = writes;
@@ -110,16 +110,21 @@ module _ (r : List ℕ) (hr : Bytes 36 r) where
         refuses = refuses;
       }
 
+pub demand3 : Demand3Holds
+demand3 r hr s bs out room = all r hr s bs out room
+
 -- ---- a book that opens, sealed again from what opening wrote, comes back byte for byte
 
 pub comes-back : (r s plain out : List ℕ) → ((i : ℕ) → r ! i < 256) → ((i : ℕ) → s ! i < 256) → openBook r s plain .0 .refusal ≡ 0 → length s ≤ length out
     → sealBook r (take (openBook r s plain .0 .written) (openBook r s plain .1)) out .1 ≡ s ++ drop (length s) out
 comes-back r s plain out br bs e h =
     let l = opening-lengths r s plain e in
-    let d = demand3 r (record { len = l .0; bound = br }) s bs plain (l .1) in
+    let hr : Bytes 36 r = record { len = l .0; bound = br } in
+    let d = demand3 r hr s bs plain (l .1) in
     let q = d .opens .0 e in
     let p = q .0 in
-    rw (d .writes p (q .1), take-at p (drop (length p) plain) (length p) refl, d .back p (q .1) out h)
+    let room : 21 * (length p / 18) ≤ length out = omega (arith, sealed-length r hr s bs p (q .1), h) in
+    rw (d .writes p (q .1), take-at p (drop (length p) plain) (length p) refl, d .back p (q .1) out room)
 
 -- ---- a plain book is well formed exactly if the checks answer 0, and exactly if sealing it into an output long enough does
 

@@ -15,15 +15,15 @@ use lib.Pow.{pow-pos, mod-pow-add}
 use borrow.Author.Tests.{eqb-true}
 use Rattle.standard.specs.Bytes.{byte, bit, choose}
 use Rattle.standard.specs.Derivation.{chosenOf, chosen}
-use Rattle.standard.specs.Refusals.{wrongOnes, sharedBit, masks, first}
+use Rattle.standard.specs.Refusals.{wrongMask, sharedBit, maskTests, first}
 use Rattle.standard.proofs.BytesLaws.{and-split}
 
-first-test : (t u : Bool) → first ((t, wrongOnes) ∷ (u, sharedBit) ∷ []) ≡ 0 → t ≡ true
+first-test : (t u : Bool) → first ((t, wrongMask) ∷ (u, sharedBit) ∷ []) ≡ 0 → t ≡ true
 first-test true u e = refl
 first-test false u e = absurd (suc-ne-zero 6 e)
 
 -- masks that no test refuses
-pub masks-ones : (rm km : ℕ) → first (masks rm km) ≡ 0 → (ones rm ≡ 4) × (ones km ≡ 10)
+pub masks-ones : (rm km : ℕ) → first (maskTests rm km) ≡ 0 → (ones rm ≡ 4) × (ones km ≡ 10)
 masks-ones rm km e =
     let s = and-split _ _ (first-test (eqb (ones rm) 4 && eqb (ones km) 10) (eqb (bitAnd rm km) 0) e) in
     (eqb-true _ _ (s .0), eqb-true _ _ (s .1))

@@ -11,7 +11,7 @@ use lib.Dec.{eqb, leb, ltb}
 use borrow.Author.Tests.{eqb-true, leb-true, ltb-true, lt-ltb, le-leb}
 use Rattle.standard.specs.Bytes.{_!_, part, same, choose, Bytes, Passed}
 use Rattle.standard.specs.Cores.{bl1}
-use Rattle.standard.specs.Expansions.{grouped, ungrouped, inserted, expected, by1, by3, by16}
+use Rattle.standard.specs.Expansions.{grouped, ungrouped, inserted, expected, exp1Groups, exp3Groups, x16Groups}
 use Rattle.standard.specs.Seals.{Form, form31, form51, form81, form, without8, sealed, opened, seal, unseal, clears}
 use Rattle.standard.specs.declared.Kind.{Kind}
 use Rattle.standard.specs.declared.Kind.the-variants.{Ta31, Ta51, Ta81, Ta91}
@@ -59,13 +59,13 @@ law31 : FormLaw form31
 law31 = record {
   ends = λ b. refl;
   checks = record {
-    to = λ b h. record { bytes = bytes-grouped (h .bytes) by1 0; passed = same-refl (expected by1 0 (grouped by1 0 b)) };
+    to = λ b h. record { bytes = bytes-grouped (h .bytes) exp1Groups 0; passed = same-refl (expected exp1Groups 0 (grouped exp1Groups 0 b)) };
     from = λ u h. record {
-      bytes = bytes-append (bytes-ungrouped (h .bytes) by1 0) (bytes-cons (omega arith) bytes-zero);
+      bytes = bytes-append (bytes-ungrouped (h .bytes) exp1Groups 0) (bytes-cons (omega arith) bytes-zero);
       passed = refl;
     };
     back = λ b h. cc (spell (h .bytes), body31-zeros b h .0, body31-zeros b h .1);
-    forth = λ u h. cc (spell (h .bytes), same-eq (inserted by1 0 u) (expected by1 0 u) (h .passed));
+    forth = λ u h. cc (spell (h .bytes), same-eq (inserted exp1Groups 0 u) (expected exp1Groups 0 u) (h .passed));
   };
 }
 
@@ -74,19 +74,19 @@ law51 = record {
   ends = λ b. refl;
   checks = record {
     to = λ b h. record {
-      bytes = bytes-grouped (bytes-append (bytes-part 0 10 (h .bytes)) (bytes-one (h .bytes .bound 11))) by3 0;
-      passed = and-join (same-refl (expected by3 0 (grouped by3 0 (part 0 10 b ++ b ! 11 ∷ [])))) (lt-ltb (b ! 11) 32 (omega (arith, body51-number b h .1)));
+      bytes = bytes-grouped (bytes-append (bytes-part 0 10 (h .bytes)) (bytes-one (h .bytes .bound 11))) exp3Groups 0;
+      passed = and-join (same-refl (expected exp3Groups 0 (grouped exp3Groups 0 (part 0 10 b ++ b ! 11 ∷ [])))) (lt-ltb (b ! 11) 32 (omega (arith, body51-number b h .1)));
     };
     from = λ u h. record {
-      bytes = bytes-append (bytes-part 0 10 (bytes-ungrouped (h .bytes) by3 0)) (bytes-cons (omega arith) (bytes-one (omega arith)));
+      bytes = bytes-append (bytes-part 0 10 (bytes-ungrouped (h .bytes) exp3Groups 0)) (bytes-cons (omega arith) (bytes-one (omega arith)));
       passed = ap (λ (t : Bool). eqb (choose t 0 5) 0) (le-leb (u ! 13 % 32) 31 (omega arith));
     };
     back = λ b h.
         let n : b ! 11 < 32 = omega (arith, body51-number b h .1) in
         cc (spell (h .bytes), body51-number b h .0, mod-eq-of-lt n);
     forth = λ u h.
-        let z = and-split (same (inserted by3 0 u) (expected by3 0 u)) (ltb (u ! 13) 32) (h .passed) in
-        cc (spell (h .bytes), same-eq (inserted by3 0 u) (expected by3 0 u) (z .0), mod-eq-of-lt (ltb-true (u ! 13) 32 (z .1)));
+        let z = and-split (same (inserted exp3Groups 0 u) (expected exp3Groups 0 u)) (ltb (u ! 13) 32) (h .passed) in
+        cc (spell (h .bytes), same-eq (inserted exp3Groups 0 u) (expected exp3Groups 0 u) (z .0), mod-eq-of-lt (ltb-true (u ! 13) 32 (z .1)));
   };
 }
 
@@ -94,10 +94,10 @@ law81 : FormLaw form81
 law81 = record {
   ends = λ b. refl;
   checks = record {
-    to = λ b h. record { bytes = bytes-grouped (h .bytes) by16 0; passed = same-refl (expected by16 0 (grouped by16 0 b)) };
-    from = λ u h. record { bytes = bytes-ungrouped (h .bytes) by16 0; passed = refl };
+    to = λ b h. record { bytes = bytes-grouped (h .bytes) x16Groups 0; passed = same-refl (expected x16Groups 0 (grouped x16Groups 0 b)) };
+    from = λ u h. record { bytes = bytes-ungrouped (h .bytes) x16Groups 0; passed = refl };
     back = λ b h. spell (h .bytes);
-    forth = λ u h. cc (spell (h .bytes), same-eq (inserted by16 0 u) (expected by16 0 u) (h .passed));
+    forth = λ u h. cc (spell (h .bytes), same-eq (inserted x16Groups 0 u) (expected x16Groups 0 u) (h .passed));
   };
 }
 

@@ -5,10 +5,10 @@ use mathlib.Core.List.{List, [], _∷_, _++_}
 use mathlib.Core.Path.{_≡_}
 use Prim.Native.Nat.{ℕ, zero, suc, _*_, _/_, _%_, _<_, _≤_}
 use lib.Dec.{eqb, leb, ltb}
-use lib.ListN.{length, drop}
+use lib.ListN.{length, take, drop}
 use Rattle.standard.specs.Bytes.{_!_, part, choose}
 use Rattle.standard.specs.Identity.{ta61, ta61⁻¹}
-use Rattle.standard.specs.Refusals.{bookTooLong, notWhole, unknownKind, flagSet, wrongLength, outputTooShort, long, first}
+use Rattle.standard.specs.Refusals.{bookTooLong, bookNotWhole, wrongKind, flagSet, wrongLength, outputShort, long, first}
 use Rattle.standard.specs.Seals.{kindOf, form, seal, unseal, clears}
 use Rattle.standard.specs.declared.BookAnswer.{BookAnswer}
 use Rattle.standard.specs.declared.Kind.{Kind}
@@ -43,7 +43,7 @@ recordKind p = named (kindOf (p ! 0))
 
 -- the refusal of a plain record: 3, then 4, 5; or 0
 unfoldable pub plainFault : List ℕ → ℕ
-plainFault p = choose (isKnown (kindOf (p ! 0))) (form (recordKind p) .fault (part 6 12 p)) unknownKind
+plainFault p = choose (isKnown (kindOf (p ! 0))) (form (recordKind p) .fault (part 6 12 p)) wrongKind
 
 -- kind, TA61 of the identity under C, version, and the sealed text of the body, by the kind and with the version
 unfoldable pub sealRecord : List ℕ → List ℕ → List ℕ
@@ -55,7 +55,7 @@ sealRecord r p =
 unfoldable pub openFault : List ℕ → List ℕ → ℕ
 openFault r t =
     first (
-    (isKnown (kindOf (t ! 0)), unknownKind)
+    (isKnown (kindOf (t ! 0)), wrongKind)
     ∷ (clears (form (recordKind t)) (sealingKey (recordKind t) r) (part 4 2 t) (part 6 15 t), flagSet) ∷ []
     )
 
@@ -107,7 +107,7 @@ answer head n g written =
 
 -- 1 and 2: at most 1,024 records of w bytes, and whole ones
 abbrev pub lengthTests : ℕ → List ℕ → List (Bool × ℕ)
-lengthTests w xs = (leb (length xs) (w * 1024), bookTooLong) ∷ (eqb (length xs % w) 0, notWhole) ∷ []
+lengthTests w xs = (leb (length xs) (w * 1024), bookTooLong) ∷ (eqb (length xs % w) 0, bookNotWhole) ∷ []
 
 -- sealing or opening: records of `size` bytes become records of `to`
 pub record Way : Type 0 where
@@ -126,7 +126,7 @@ opening r = record { size = 21; to = 18; fault = openFault r; convert = openReco
 unfoldable pub bookAnswer : Way → List ℕ → List ℕ → ℕ → BookAnswer
 bookAnswer W r xs room =
     answer
-    (first ((long 36 r, wrongLength) ∷ lengthTests (W .size) xs ++ (leb (W .to * (length xs / W .size)) room, outputTooShort) ∷ []))
+    (first ((long 36 r, wrongLength) ∷ lengthTests (W .size) xs ++ (leb (W .to * (length xs / W .size)) room, outputShort) ∷ []))
     (length xs / W .size) (λ i. W .fault (recordAt (W .size) xs i)) (W .to * (length xs / W .size))
 
 -- the answer and the output at exit: every record converted and then the output's own rest, or the output as it was
@@ -146,3 +146,10 @@ openBook r s out = bookCall (opening r) r s out
 -- the checks of sealing without 11 and 12; nothing is written
 unfoldable pub checkPlain : List ℕ → BookAnswer
 checkPlain p = answer (first (lengthTests 18 p)) (length p / 18) (λ i. plainFault (recordAt 18 p i)) 0
+
+-- a book opened, and what was written sealed again: the answer and both outputs at exit
+unfoldable pub reseal : (r s plain out : List ℕ) → BookAnswer × List ℕ × List ℕ
+reseal r s plain out =
+    let o : BookAnswer × List ℕ = openBook r s plain in
+    let q : BookAnswer × List ℕ = sealBook r (take (o .0 .written) (o .1)) out in
+    choose (eqb (o .0 .refusal) 0) (q .0, o .1, q .1) (o .0, o .1, out)

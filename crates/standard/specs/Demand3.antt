@@ -1,38 +1,35 @@
--- Demand 3, stated: of a ring, of bytes handed in as a sealed book, and of an output.
+-- Demand 3, stated.
 -- Assumes nothing.
 use mathlib.Core.List.{List, _++_}
 use mathlib.Core.Logic.{_↔_}
 use mathlib.Core.Path.{_≡_}
-use Prim.Native.Nat.{ℕ, _/_, _≤_}
-use lib.Dec.{eqb}
-use lib.ListN.{length, take, drop}
-use Rattle.standard.specs.Bytes.{choose}
-use Rattle.standard.specs.declared.BookAnswer.{BookAnswer}
+use Prim.Native.Nat.{ℕ, _*_, _/_, _<_, _≤_}
+use lib.ListN.{length, drop}
+use Rattle.standard.specs.Bytes.{_!_, Bytes}
 use Rattle.standard.specs.Books.{WellFormed, sealedForm, sealBook, openBook}
 
 -- s is the sealed form, under the ring r, of the well-formed plain book p
-pub record Seals (r p s : List ℕ) : Type 0 where
+pub record IsSealedForm (r p s : List ℕ) : Type 0 where
   pub formed : WellFormed p
   pub is : sealedForm r p ≡ s
 
+-- of the ring r, the bytes s handed in as a sealed book, and the output
 pub record Demand3 (r s out : List ℕ) : Type 0 where
   -- they open exactly when they are the sealed form of a well-formed plain book
-  pub opens : (openBook r s out .0 .refusal ≡ 0) ↔ ((p : List ℕ) × Seals r p s)
+  pub opens : (openBook r s out .0 .refusal ≡ 0) ↔ ((p : List ℕ) × IsSealedForm r p s)
   -- then of one such book and no other
-  pub unique : (p q : List ℕ) → Seals r p s → Seals r q s → p ≡ q
+  pub unique : (p q : List ℕ) → IsSealedForm r p s → IsSealedForm r q s → p ≡ q
   -- opening writes that book and nothing after it
-  pub writes : (p : List ℕ) → Seals r p s
+  pub writes : (p : List ℕ) → IsSealedForm r p s
       → openBook r s out ≡ (record { refusal = 0; index = length p / 18; written = length p }, p ++ drop (length p) out)
   -- sealing that book under the same ring, into any output long enough, writes those bytes again and nothing after them
-  pub back : (p : List ℕ) → Seals r p s → (out′ : List ℕ) → length s ≤ length out′
+  pub back : (p : List ℕ) → IsSealedForm r p s → (out′ : List ℕ) → 21 * (length p / 18) ≤ length out′
       → sealBook r p out′ ≡ (record { refusal = 0; index = length p / 18; written = length s }, s ++ drop (length s) out′)
   -- all other bytes are refused and the output stays as it was
-  pub refuses : (((p : List ℕ) × Seals r p s) → ⊥)
+  pub refuses : (((p : List ℕ) × IsSealedForm r p s) → ⊥)
       → (openBook r s out .0 .refusal ≡ 0 → ⊥) × (openBook r s out .0 .written ≡ 0) × (openBook r s out .1 ≡ out)
 
--- a book opened, and what was written sealed again: the answer and both outputs at exit
-unfoldable pub reseal : (r s plain out : List ℕ) → BookAnswer × List ℕ × List ℕ
-reseal r s plain out =
-    let o : BookAnswer × List ℕ = openBook r s plain in
-    let q : BookAnswer × List ℕ = sealBook r (take (o .0 .written) (o .1)) out in
-    choose (eqb (o .0 .refusal) 0) (q .0, o .1, q .1) (o .0, o .1, out)
+-- for every ring, whatever bytes are handed in, and every output long enough: 18 bytes for each whole record
+abbrev pub Demand3Holds : Type 0
+Demand3Holds =
+    (r : List ℕ) → Bytes 36 r → (s : List ℕ) → ((i : ℕ) → s ! i < 256) → (out : List ℕ) → 18 * (length s / 21) ≤ length out → Demand3 r s out

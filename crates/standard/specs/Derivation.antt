@@ -8,7 +8,7 @@ use Rattle.standard.specs.Bytes.{_!_, byte, bit, _⊕_, table, part, xor
 use Rattle.standard.specs.Cores.{bl1}
 use Rattle.standard.specs.Expansions.{exp2, shr3}
 use Rattle.standard.specs.Mixing.{tb4}
-use Rattle.standard.specs.Refusals.{wrongLength, tooWide, long, fits, masks, first, answer10, answer16, authentication, ringMade}
+use Rattle.standard.specs.Refusals.{wrongLength, valueWide, long, fits, maskTests, first, answer10, answer16, authentication, ringMade}
 use Rattle.standard.specs.declared.Authentication.{Authentication}
 use Rattle.standard.specs.declared.Bytes10.{Bytes10}
 use Rattle.standard.specs.declared.Bytes16.{Bytes16}
@@ -81,20 +81,24 @@ ta21Call root seed = answer16 (first ((long 16 root && long 10 seed, wrongLength
 unfoldable pub ta41Call : List ℕ → List ℕ → Bytes16
 ta41Call root seed = answer16 (first ((long 16 root && long 10 seed, wrongLength) ∷ [])) (ta41 root seed)
 
--- TA12 and TA22: session key, challenge, response mask, key mask
-unfoldable pub splitCall : List ℕ → List ℕ → ℕ → ℕ → Authentication
-splitCall ks rand rm km =
-    authentication (first ((long 16 ks && long 10 rand, wrongLength) ∷ masks rm km)) (chosen rm (core ks rand)) (chosen km (core ks rand))
+-- session key, challenge, response mask, key mask
+unfoldable pub ta12Call : List ℕ → List ℕ → ℕ → ℕ → Authentication
+ta12Call ks rand rm km =
+    authentication (first ((long 16 ks && long 10 rand, wrongLength) ∷ maskTests rm km)) (chosen rm (core ks rand)) (chosen km (core ks rand))
+
+-- the same under TA21's session key
+abbrev pub ta22Call : List ℕ → List ℕ → ℕ → ℕ → Authentication
+ta22Call ks rand rm km = ta12Call ks rand rm km
 
 unfoldable pub ta71Call : List ℕ → List ℕ → Bytes10
 ta71Call a b = answer10 (first ((long 10 a && long 10 b, wrongLength) ∷ [])) (ta71 a b)
 
 unfoldable pub ta101Call : List ℕ → List ℕ → ℕ → Bytes16
 ta101Call ks gck0 mni =
-    answer16 (first ((long 16 ks && long 10 gck0, wrongLength) ∷ (fits 24 mni, tooWide) ∷ [])) (ta101 ks gck0 mni)
+    answer16 (first ((long 16 ks && long 10 gck0, wrongLength) ∷ (fits 24 mni, valueWide) ∷ [])) (ta101 ks gck0 mni)
 
 unfoldable pub ringCall : (root rs rso rand1 rand2 c : List ℕ) (rm km : ℕ) → RingMade
 ringCall root rs rso rand1 rand2 c rm km =
     ringMade
-    (first ((long 16 root && long 10 rs && long 10 rso && long 10 rand1 && long 10 rand2 && long 10 c, wrongLength) ∷ masks rm km))
+    (first ((long 16 root && long 10 rs && long 10 rso && long 10 rand1 && long 10 rand2 && long 10 c, wrongLength) ∷ maskTests rm km))
     (ring root rs rso rand1 rand2 c km) (chosen rm (output1 root rs rand1)) (chosen rm (output2 root rs rand2))

@@ -32,30 +32,30 @@ abbrev pub expected : List ℕ → ℕ → List ℕ → List ℕ
 expected [] from u = []
 expected (n ∷ ns) from u = xorOf from n u ∷ expected ns (suc (from + n)) u
 
--- ---- the groups of EXP1, EXP3 and Figure 16
+-- ---- the groups of EXP1, EXP3 and X16 (Figure 16)
 
-abbrev pub by1 : List ℕ
-by1 = 2 ∷ 2 ∷ 2 ∷ 2 ∷ 2 ∷ []
+abbrev pub exp1Groups : List ℕ
+exp1Groups = 2 ∷ 2 ∷ 2 ∷ 2 ∷ 2 ∷ []
 
-abbrev pub by3 : List ℕ
-by3 = 2 ∷ 3 ∷ 3 ∷ 3 ∷ []
+abbrev pub exp3Groups : List ℕ
+exp3Groups = 2 ∷ 3 ∷ 3 ∷ 3 ∷ []
 
-abbrev pub by16 : List ℕ
-by16 = 4 ∷ 4 ∷ 4 ∷ []
+abbrev pub x16Groups : List ℕ
+x16Groups = 4 ∷ 4 ∷ 4 ∷ []
 
 -- ---- expansions (5.4)
 
 -- 10 to 15: after each pair, its ⊕
 abbrev pub exp1 : List ℕ → List ℕ
-exp1 b = grouped by1 0 b
+exp1 b = grouped exp1Groups 0 b
 
 -- 10 to 16: EXP1, then at the right the byte sum of the five ⊕ values
 unfoldable pub exp2 : List ℕ → List ℕ
 exp2 b = exp1 b ++ (xorOf 0 2 b ⊞ xorOf 2 2 b ⊞ xorOf 4 2 b ⊞ xorOf 6 2 b ⊞ xorOf 8 2 b) ∷ []
 
--- 11 to 15
+-- 11 to 15: after the first two bytes, and then after each three, their ⊕
 abbrev pub exp3 : List ℕ → List ℕ
-exp3 b = grouped by3 0 b
+exp3 b = grouped exp3Groups 0 b
 
 -- the byte sum of a pair
 abbrev pub sumAt : List ℕ → ℕ → ℕ
@@ -67,18 +67,18 @@ exp4 b =
     (sumAt b 0 ⊕ sumAt b 2 ⊕ sumAt b 4 ⊕ sumAt b 6 ⊕ sumAt b 8)
     ∷ sumAt b 0 ∷ part 0 2 b ++ sumAt b 2 ∷ part 2 2 b ++ sumAt b 4 ∷ part 4 2 b ++ sumAt b 6 ∷ part 6 2 b ++ sumAt b 8 ∷ part 8 2 b
 
--- 12 to 16: after each four bytes their ⊕, then a zero byte
+-- X16, 12 to 16: after each four bytes their ⊕, then a zero byte
 abbrev pub x16 : List ℕ → List ℕ
-x16 b = grouped by16 0 b ++ 0 ∷ []
+x16 b = grouped x16Groups 0 b ++ 0 ∷ []
 
 -- ---- shrinkings (5.5)
 
 -- 15 to 10, 15 to 11: the inserted bytes left out
 abbrev pub shr1 : List ℕ → List ℕ
-shr1 u = ungrouped by1 0 u
+shr1 u = ungrouped exp1Groups 0 u
 
 abbrev pub shr2 : List ℕ → List ℕ
-shr2 u = ungrouped by3 0 u
+shr2 u = ungrouped exp3Groups 0 u
 
 -- 16 to 10: without the three leftmost and the three rightmost bytes
 unfoldable pub shr3 : List ℕ → List ℕ

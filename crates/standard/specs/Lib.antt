@@ -5,8 +5,10 @@ pub mod Expansions
 pub mod Seals
 pub mod Identity
 pub mod Books
+pub mod Text
 pub mod Listing
 pub mod Demand3
 pub mod Derivation
 pub mod Mixing
 pub mod Refusals
+pub mod Programs

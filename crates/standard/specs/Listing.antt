@@ -7,6 +7,7 @@ use lib.ListN.{length, drop}
 use Rattle.standard.specs.Books.{recordAt, recordKind, checkPlain}
 use Rattle.standard.specs.Bytes.{_!_, choose}
 use Rattle.standard.specs.Seals.{keyLength}
+use Rattle.standard.specs.Text.{ascii}
 use Rattle.standard.specs.declared.Kind.{Kind}
 use Rattle.standard.specs.declared.Kind.the-variants.{Ta31, Ta51, Ta81, Ta91}
 
@@ -33,66 +34,20 @@ unfoldable pub hex : ℕ → ℕ → List ℕ → List ℕ
 hex from zero xs = []
 hex from (suc n) xs = hex from n xs ++ hexByte (xs ! (from + n))
 
--- ---- the fixed words, in ASCII
-
--- "entry "
-abbrev pub entryWord : List ℕ
-entryWord = 101 ∷ 110 ∷ 116 ∷ 114 ∷ 121 ∷ 32 ∷ []
-
--- " kind "
-abbrev pub kindWord : List ℕ
-kindWord = 32 ∷ 107 ∷ 105 ∷ 110 ∷ 100 ∷ 32 ∷ []
-
--- " identity "
-abbrev pub identityWord : List ℕ
-identityWord = 32 ∷ 105 ∷ 100 ∷ 101 ∷ 110 ∷ 116 ∷ 105 ∷ 116 ∷ 121 ∷ 32 ∷ []
-
--- " version "
-abbrev pub versionWord : List ℕ
-versionWord = 32 ∷ 118 ∷ 101 ∷ 114 ∷ 115 ∷ 105 ∷ 111 ∷ 110 ∷ 32 ∷ []
-
--- " key "
-abbrev pub keyWord : List ℕ
-keyWord = 32 ∷ 107 ∷ 101 ∷ 121 ∷ 32 ∷ []
-
--- " number "
-abbrev pub numberWord : List ℕ
-numberWord = 32 ∷ 110 ∷ 117 ∷ 109 ∷ 98 ∷ 101 ∷ 114 ∷ 32 ∷ []
-
--- "-"
-abbrev pub dash : List ℕ
-dash = 45 ∷ []
-
--- "entries "
-abbrev pub entriesWord : List ℕ
-entriesWord = 101 ∷ 110 ∷ 116 ∷ 114 ∷ 105 ∷ 101 ∷ 115 ∷ 32 ∷ []
-
--- "refused "
-abbrev pub refusedWord : List ℕ
-refusedWord = 114 ∷ 101 ∷ 102 ∷ 117 ∷ 115 ∷ 101 ∷ 100 ∷ 32 ∷ []
-
--- " at "
-abbrev pub atWord : List ℕ
-atWord = 32 ∷ 97 ∷ 116 ∷ 32 ∷ []
-
--- each line ends with it
-abbrev pub newline : List ℕ
-newline = 10 ∷ []
-
 -- ---- the lines
 
 -- the key number of a plain record
 abbrev pub numberText : Kind → List ℕ → List ℕ
-numberText Ta31 p = dash
+numberText Ta31 p = ascii "-"
 numberText Ta51 p = decimal (p ! 17)
 numberText Ta81 p = decimal (256 * p ! 16 + p ! 17)
-numberText Ta91 p = dash
+numberText Ta91 p = ascii "-"
 
 -- plain record p, at index i
 unfoldable pub entryLine : ℕ → List ℕ → List ℕ
 entryLine i p =
-    entryWord ++ decimal i ++ kindWord ++ decimal (p ! 0) ++ identityWord ++ hex 1 3 p ++ versionWord ++ decimal (256 * p ! 4 + p ! 5)
-    ++ keyWord ++ hex 6 (keyLength (recordKind p)) p ++ numberWord ++ numberText (recordKind p) p ++ newline
+    ascii "entry " ++ decimal i ++ ascii " kind " ++ decimal (p ! 0) ++ ascii " identity " ++ hex 1 3 p ++ ascii " version " ++ decimal (256 * p ! 4 + p ! 5)
+    ++ ascii " key " ++ hex 6 (keyLength (recordKind p)) p ++ ascii " number " ++ numberText (recordKind p) p ++ ascii "\n"
 
 -- the first n records of a book
 unfoldable pub entryLines : ℕ → List ℕ → List ℕ
@@ -100,10 +55,13 @@ entryLines zero p = []
 entryLines (suc n) p = entryLines n p ++ entryLine n (recordAt 18 p n)
 
 unfoldable pub entriesLine : ℕ → List ℕ
-entriesLine n = entriesWord ++ decimal n ++ newline
+entriesLine n = ascii "entries " ++ decimal n ++ ascii "\n"
+
+abbrev pub refusedAt : ℕ → ℕ → List ℕ
+refusedAt number index = ascii "refused " ++ decimal number ++ ascii " at " ++ decimal index
 
 unfoldable pub refusedLine : ℕ → ℕ → List ℕ
-refusedLine number index = refusedWord ++ decimal number ++ atWord ++ decimal index ++ newline
+refusedLine number index = refusedAt number index ++ ascii "\n"
 
 -- ---- the listing
 

@@ -27,20 +27,20 @@ abbrev pub bookTooLong : ℕ
 bookTooLong = 1
 
 -- length not a whole number of records
-abbrev pub notWhole : ℕ
-notWhole = 2
+abbrev pub bookNotWhole : ℕ
+bookNotWhole = 2
 
 -- kind not 1 to 4
-abbrev pub unknownKind : ℕ
-unknownKind = 3
+abbrev pub wrongKind : ℕ
+wrongKind = 3
 
 -- a body byte that must be zero isn't
 abbrev pub notZero : ℕ
 notZero = 4
 
 -- kind 2 number above 31; also in a single seal
-abbrev pub numberTooHigh : ℕ
-numberTooHigh = 5
+abbrev pub wrongNumber : ℕ
+wrongNumber = 5
 
 -- flag set while opening a book
 abbrev pub flagSet : ℕ
@@ -49,8 +49,8 @@ flagSet = 6
 -- ---- the setter's
 
 -- a mask has the wrong number of ones
-abbrev pub wrongOnes : ℕ
-wrongOnes = 7
+abbrev pub wrongMask : ℕ
+wrongMask = 7
 
 -- the masks share a bit
 abbrev pub sharedBit : ℕ
@@ -61,8 +61,8 @@ abbrev pub wrongWidth : ℕ
 wrongWidth = 9
 
 -- a value too wide for its field
-abbrev pub tooWide : ℕ
-tooWide = 10
+abbrev pub valueWide : ℕ
+valueWide = 10
 
 -- ---- the host's
 
@@ -71,8 +71,8 @@ abbrev pub wrongLength : ℕ
 wrongLength = 11
 
 -- output shorter than the result
-abbrev pub outputTooShort : ℕ
-outputTooShort = 12
+abbrev pub outputShort : ℕ
+outputShort = 12
 
 -- ---- tests
 
@@ -81,8 +81,8 @@ abbrev pub long : ℕ → List ℕ → Bool
 long n xs = eqb (length xs) n
 
 -- the response mask has four ones and the key mask ten; none is shared
-abbrev pub masks : ℕ → ℕ → List (Bool × ℕ)
-masks rm km = (eqb (ones rm) 4 && eqb (ones km) 10, wrongOnes) ∷ (eqb (bitAnd rm km) 0, sharedBit) ∷ []
+abbrev pub maskTests : ℕ → ℕ → List (Bool × ℕ)
+maskTests rm km = (eqb (ones rm) 4 && eqb (ones km) 10, wrongMask) ∷ (eqb (bitAnd rm km) 0, sharedBit) ∷ []
 
 -- a width of TB1 and TB3
 abbrev pub wide : ℕ → Bool

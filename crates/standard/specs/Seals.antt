@@ -8,8 +8,8 @@ use Prim.Native.Nat.{ℕ, _+_, _*_, _%_}
 use lib.Dec.{eqb, leb, ltb}
 use Rattle.standard.specs.Bytes.{_!_, table, part, xors, zeros, bytesOf, same, choose}
 use Rattle.standard.specs.Cores.{bl1, bl2}
-use Rattle.standard.specs.Expansions.{ungrouped, inserted, expected, by1, by3, by16, exp1, exp3, exp4, x16, shr1, shr2}
-use Rattle.standard.specs.Refusals.{wrongLength, numberTooHigh, notZero, long, first, answer15, unsealed, unsealedNumbered, unsealedGroup}
+use Rattle.standard.specs.Expansions.{ungrouped, inserted, expected, exp1Groups, exp3Groups, x16Groups, exp1, exp3, exp4, x16, shr1, shr2}
+use Rattle.standard.specs.Refusals.{wrongLength, wrongNumber, notZero, long, first, answer15, unsealed, unsealedNumbered, unsealedGroup}
 use Rattle.standard.specs.declared.Bytes15.{Bytes15}
 use Rattle.standard.specs.declared.KeyNumber.{KeyNumber}
 use Rattle.standard.specs.declared.Kind.{Kind}
@@ -71,7 +71,7 @@ abbrev pub form31 : Form
 form31 = record {
   input = λ b. exp1 b ++ 0 ∷ [];
   shrink = λ u. shr1 u ++ 0 ∷ 0 ∷ [];
-  clear = λ u. same (inserted by1 0 u) (expected by1 0 u);
+  clear = λ u. same (inserted exp1Groups 0 u) (expected exp1Groups 0 u);
   fault = λ b. first ((eqb (b ! 10) 0 && eqb (b ! 11) 0, notZero) ∷ []);
   key = key10;
 }
@@ -81,8 +81,8 @@ abbrev pub form51 : Form
 form51 = record {
   input = λ b. exp3 (part 0 10 b ++ b ! 11 ∷ []) ++ 0 ∷ [];
   shrink = λ u. part 0 10 (shr2 u) ++ 0 ∷ shr2 u ! 10 % 32 ∷ [];
-  clear = λ u. same (inserted by3 0 u) (expected by3 0 u) && ltb (u ! 13) 32;
-  fault = λ b. first ((eqb (b ! 10) 0, notZero) ∷ (leb (b ! 11) (highestNumber Ta51), numberTooHigh) ∷ []);
+  clear = λ u. same (inserted exp3Groups 0 u) (expected exp3Groups 0 u) && ltb (u ! 13) 32;
+  fault = λ b. first ((eqb (b ! 10) 0, notZero) ∷ (leb (b ! 11) (highestNumber Ta51), wrongNumber) ∷ []);
   key = key16;
 }
 
@@ -90,8 +90,8 @@ form51 = record {
 abbrev pub form81 : Form
 form81 = record {
   input = λ b. x16 b;
-  shrink = λ u. ungrouped by16 0 u;
-  clear = λ u. same (inserted by16 0 u) (expected by16 0 u);
+  shrink = λ u. ungrouped x16Groups 0 u;
+  clear = λ u. same (inserted x16Groups 0 u) (expected x16Groups 0 u);
   fault = λ b. 0;
   key = key16;
 }
@@ -158,7 +158,7 @@ ta32Call t s v =
 
 unfoldable pub ta51Call : List ℕ → Version → List ℕ → KeyNumber → Bytes15
 ta51Call ck v s n =
-    answer15 (first ((long 10 ck && long 16 s, wrongLength) ∷ (leb (n .0) (highestNumber Ta51), numberTooHigh) ∷ []))
+    answer15 (first ((long 10 ck && long 16 s, wrongLength) ∷ (leb (n .0) (highestNumber Ta51), wrongNumber) ∷ []))
     (seal form51 s (bytesOf 2 (v .0)) (body51 ck (n .0)))
 
 unfoldable pub ta52Call : List ℕ → List ℕ → Version → UnsealedNumbered

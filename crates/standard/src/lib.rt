@@ -1,6 +1,7 @@
 // What the calls take and answer with. An answer's first field is 0, or the number of the refusal; on a refusal every other field is
 // zero.
 ghost use mathlib.Core.Path.{_≡_};
+ghost use Rattle.standard.specs.Bytes.{zeros};
 ghost use Rattle.standard.specs.Seals.{kindOf, keyLength, highestNumber};
 
 // A version number, which is never taken for a key number.
@@ -150,5 +151,35 @@ impl Kind {
             Kind::Ta81 => Self::TA81_HIGHEST,
             Kind::Ta91 => 0,
         }
+    }
+}
+
+// What a refused call answers.
+pub fn refused10(number: u32) -> Bytes10
+    ensures { λ r. ⌜ r ≡ record { refusal = number; bytes = zeros 10 } ⌝ }
+{
+    Bytes10 {
+        refusal: number,
+        bytes: [0; 10],
+    }
+}
+
+pub fn refused16(number: u32) -> Bytes16
+    ensures { λ r. ⌜ r ≡ record { refusal = number; bytes = zeros 16 } ⌝ }
+{
+    Bytes16 {
+        refusal: number,
+        bytes: [0; 16],
+    }
+}
+
+pub fn refused_ring(number: u32) -> RingMade
+    ensures { λ r. ⌜ r ≡ record { refusal = number; ring = zeros 36; response1 = zeros 4; response2 = zeros 4 } ⌝ }
+{
+    RingMade {
+        refusal: number,
+        ring: [0; 36],
+        response1: [0; 4],
+        response2: [0; 4],
     }
 }

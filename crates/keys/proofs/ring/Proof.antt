@@ -11,7 +11,7 @@ use Rattle.keys.proofs.LengthLaws.{both-spelled}
 use Rattle.standard.proofs.BytesLaws.{and-split, long-spelled}
 use Rattle.standard.proofs.DerivationLaws.{masks-ones}
 use Rattle.standard.specs.Derivation.{ringCall}
-use Rattle.standard.specs.Refusals.{long, masks, first}
+use Rattle.standard.specs.Refusals.{long, maskTests, first}
 use Rattle.keys.proofs.ring.Statement.{statement}
 use Rattle.keys.proofs.ring.Tie as tie
 
@@ -80,7 +80,7 @@ returns-3 c =
     let s₂ = and-split _ _ (s₃ .0) in
     let s₁ = and-split _ _ (s₂ .0) in
     let s₀ = both-spelled 16 10 (now (x .root)) (now (x .rs)) (s₁ .0) in
-    let m : first (masks (x .response-mask) (x .key-mask)) ≡ 0 = sym (accepted .before .refusal-of .ensures) ∙ accepted .if2 .left in
+    let m : first (maskTests (x .response-mask) (x .key-mask)) ≡ 0 = sym (accepted .before .refusal-of .ensures) ∙ accepted .if2 .left in
     rw (c .make .ensures, c .before .array105 .ensures, c .before .before .array104 .ensures, rand1 .array103 .ensures, rand1 .before .array102 .ensures, rand1 .before .before .array10 .ensures, root .array16 .ensures, s₀ .0, s₀ .1, long-spelled 10 (now (x .rso)) (s₁ .1), long-spelled 10 (now (x .rand1)) (s₂ .1), long-spelled 10 (now (x .rand2)) (s₃ .1), long-spelled 10 (now (x .c)) (s₄ .1), t, m)
 
 pub ring-spec : {M : Type 1} → statement M

@@ -7,8 +7,8 @@ use borrow.Author.Needs.{needs}
 use borrow.Author.Tests.{ne-eqb, not-true, not-false}
 use Rattle.keys.proofs.LengthLaws.{both-spelled}
 use Rattle.standard.proofs.DerivationLaws.{masks-ones}
-use Rattle.standard.specs.Derivation.{splitCall}
-use Rattle.standard.specs.Refusals.{long, masks, first}
+use Rattle.standard.specs.Derivation.{ta12Call}
+use Rattle.standard.specs.Refusals.{long, maskTests, first}
 use Rattle.keys.proofs.ta12.Statement.{statement}
 use Rattle.keys.proofs.ta12.Tie as tie
 
@@ -16,7 +16,7 @@ refused-split-requires : tie.Need-refused-split-requires
 refused-split-requires c κs = search needs
 
 returns : tie.Need-returns
-unfolding splitCall
+unfolding ta12Call
 returns c =
     let x = c .before .before .before .before .args in
     let t : long 16 (now (x .session-key)) && long 10 (now (x .challenge)) ≡ false = not-true _ (c .before .if1 .taken) in
@@ -29,7 +29,7 @@ refused-split-requires-2 : tie.Need-refused-split-requires-2
 refused-split-requires-2 c κs = search needs
 
 returns-2 : tie.Need-returns-2
-unfolding splitCall
+unfolding ta12Call
 returns-2 c =
     let masked = c .before .before in
     let tested = masked .before in
@@ -57,7 +57,7 @@ chosen10-requires c κs =
     masks-ones _ _ (sym (accepted .before .refusal-of .ensures) ∙ accepted .if2 .left) .1
 
 returns-3 : tie.Need-returns-3
-unfolding splitCall
+unfolding ta12Call
 returns-3 c =
     let made = c .before .before in
     let accepted = made .before .before .before in
@@ -65,7 +65,7 @@ returns-3 c =
     let x = tested .before .before .before .args in
     let t : long 16 (now (x .session-key)) && long 10 (now (x .challenge)) ≡ true = not-false _ (tested .if1 .left) in
     let s = both-spelled 16 10 (now (x .session-key)) (now (x .challenge)) t in
-    let m : first (masks (x .response-mask) (x .key-mask)) ≡ 0 = sym (accepted .before .refusal-of .ensures) ∙ accepted .if2 .left in
+    let m : first (maskTests (x .response-mask) (x .key-mask)) ≡ 0 = sym (accepted .before .refusal-of .ensures) ∙ accepted .if2 .left in
     rw (c .chosen10 .ensures, c .before .chosen4 .ensures, made .core .ensures, made .before .array10 .ensures, made .before .before .array16 .ensures, s .0, s .1, t, m)
 
 pub ta12-spec : {M : Type 1} → statement M

@@ -7,8 +7,9 @@ use denote.Ref.{now}
 use borrow.Author.Needs.{needs}
 use Rattle.listing.proofs.LineLaws.{more, key-short}
 use Rattle.listing.specs.Steps.{shown}
-use Rattle.standard.specs.Listing.{hex, keyWord, numberWord, numberText, newline}
+use Rattle.standard.specs.Listing.{hex, numberText}
 use Rattle.standard.specs.Seals.{keyLength}
+use Rattle.standard.specs.Text.{ascii}
 use Rattle.listing.proofs.back.Statement.{statement}
 use Rattle.listing.proofs.back.Tie as tie
 
@@ -48,11 +49,11 @@ returns c =
     let l : List ℕ = shown (x .l) in
     let k = x .kind in
     let p : List ℕ = now (x .p) in
-    let d₁ = more (l ++ keyWord) (hex 6 (keyLength k) p) (word .word .ensures) (rw (key .before .key-length .ensures) at (key .hex .ensures)) in
-    let t₁ : List ℕ = l ++ keyWord ++ hex 6 (keyLength k) p in
-    let w₂ = more t₁ numberWord d₁ (number .before .word2 .ensures) in
-    let d₂ = more (t₁ ++ numberWord) (numberText k p) w₂ (number .number .ensures) in
-    more (t₁ ++ numberWord ++ numberText k p) newline d₂ (c .word3 .ensures)
+    let d₁ = more (l ++ ascii " key ") (hex 6 (keyLength k) p) (word .word .ensures) (rw (key .before .key-length .ensures) at (key .hex .ensures)) in
+    let t₁ : List ℕ = l ++ ascii " key " ++ hex 6 (keyLength k) p in
+    let w₂ = more t₁ (ascii " number ") d₁ (number .before .word2 .ensures) in
+    let d₂ = more (t₁ ++ ascii " number ") (numberText k p) w₂ (number .number .ensures) in
+    more (t₁ ++ ascii " number " ++ numberText k p) (ascii "\n") d₂ (c .word3 .ensures)
 
 pub back-spec : {M : Type 1} → statement M
 back-spec =

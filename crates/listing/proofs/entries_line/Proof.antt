@@ -3,7 +3,8 @@
 use mathlib.Core.List.{[], _++_}
 use borrow.Author.Needs.{needs}
 use Rattle.listing.proofs.LineLaws.{more, uncut, entries-short}
-use Rattle.standard.specs.Listing.{decimal, entriesWord, newline, entriesLine}
+use Rattle.standard.specs.Listing.{decimal, entriesLine}
+use Rattle.standard.specs.Text.{ascii}
 use Rattle.listing.proofs.entries_line.Statement.{statement}
 use Rattle.listing.proofs.entries_line.Tie as tie
 
@@ -30,9 +31,9 @@ unfolding entriesLine
 returns c =
     let count = c .before .before in
     let n = count .before .before .before .before .args .n in
-    let w = more [] entriesWord (count .before .before .before .empty .ensures) (count .before .word .ensures) in
-    let d = more entriesWord (decimal n) w (count .decimal .ensures) in
-    uncut _ (more (entriesWord ++ decimal n) newline d (c .word2 .ensures)) (entries-short n)
+    let w = more [] (ascii "entries ") (count .before .before .before .empty .ensures) (count .before .word .ensures) in
+    let d = more (ascii "entries ") (decimal n) w (count .decimal .ensures) in
+    uncut _ (more (ascii "entries " ++ decimal n) (ascii "\n") d (c .word2 .ensures)) (entries-short n)
 
 pub entries-line-spec : {M : Type 1} → statement M
 entries-line-spec =

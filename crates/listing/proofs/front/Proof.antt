@@ -6,7 +6,8 @@ use denote.Ref.{now}
 use borrow.Author.Needs.{needs}
 use Rattle.listing.proofs.LineLaws.{more}
 use Rattle.standard.specs.Bytes.{_!_}
-use Rattle.standard.specs.Listing.{decimal, hex, entryWord, kindWord, identityWord, versionWord}
+use Rattle.standard.specs.Listing.{decimal, hex}
+use Rattle.standard.specs.Text.{ascii}
 use Rattle.listing.proofs.front.Statement.{statement}
 use Rattle.listing.proofs.front.Tie as tie
 
@@ -73,17 +74,17 @@ returns c =
     let x = entry .before .before .before .before .args in
     let i = x .index in
     let p : List ℕ = now (x .p) in
-    let w₁ = more [] entryWord (entry .before .before .before .empty .ensures) (entry .before .word .ensures) in
-    let d₁ = more entryWord (decimal i) w₁ (entry .decimal .ensures) in
-    let t₁ : List ℕ = entryWord ++ decimal i in
-    let w₂ = more t₁ kindWord d₁ (kind .before .before .before .word2 .ensures) in
-    let d₂ = more (t₁ ++ kindWord) (decimal (p ! 0)) w₂ (rw (kind .before .wide .ensures) at (kind .decimal2 .ensures)) in
-    let t₂ : List ℕ = t₁ ++ kindWord ++ decimal (p ! 0) in
-    let w₃ = more t₂ identityWord d₂ (identity .before .word3 .ensures) in
-    let d₃ = more (t₂ ++ identityWord) (hex 1 3 p) w₃ (identity .hex .ensures) in
-    let t₃ : List ℕ = t₂ ++ identityWord ++ hex 1 3 p in
-    let w₄ = more t₃ versionWord d₃ (version .word4 .ensures) in
-    more (t₃ ++ versionWord) (decimal (256 * p ! 4 + p ! 5)) w₄ (rw (c .before .pair .ensures) at (c .decimal3 .ensures))
+    let w₁ = more [] (ascii "entry ") (entry .before .before .before .empty .ensures) (entry .before .word .ensures) in
+    let d₁ = more (ascii "entry ") (decimal i) w₁ (entry .decimal .ensures) in
+    let t₁ : List ℕ = ascii "entry " ++ decimal i in
+    let w₂ = more t₁ (ascii " kind ") d₁ (kind .before .before .before .word2 .ensures) in
+    let d₂ = more (t₁ ++ ascii " kind ") (decimal (p ! 0)) w₂ (rw (kind .before .wide .ensures) at (kind .decimal2 .ensures)) in
+    let t₂ : List ℕ = t₁ ++ ascii " kind " ++ decimal (p ! 0) in
+    let w₃ = more t₂ (ascii " identity ") d₂ (identity .before .word3 .ensures) in
+    let d₃ = more (t₂ ++ ascii " identity ") (hex 1 3 p) w₃ (identity .hex .ensures) in
+    let t₃ : List ℕ = t₂ ++ ascii " identity " ++ hex 1 3 p in
+    let w₄ = more t₃ (ascii " version ") d₃ (version .word4 .ensures) in
+    more (t₃ ++ ascii " version ") (decimal (256 * p ! 4 + p ! 5)) w₄ (rw (c .before .pair .ensures) at (c .decimal3 .ensures))
 
 pub front-spec : {M : Type 1} → statement M
 front-spec =

@@ -1,18 +1,18 @@
--- `plainlist::read_all` is safe and ends, and counts bytes of its buffer: each turn reads one at least.
+-- `programs::read_all` is safe and ends, and counts bytes of its buffer: each turn reads one at least.
 -- Assumes nothing.
 use mathlib.Core.Path.{_≡_, refl}
 use Prim.Native.Nat.{_-_, _≤_, zero-le}
 use native.Mathlib.Omega.{arith}
 use lib.ListN.{length, length-take}
 use borrow.Author.Needs.{needs}
-use Rattle.plainlist.proofs.read_all.Statement.{statement}
-use Rattle.plainlist.proofs.read_all.Tie as tie
+use Rattle.programs.proofs.read_all.Statement.{statement}
+use Rattle.programs.proofs.read_all.Tie as tie
 
 abbrev Inv-loop : tie.InvT-loop
-Inv-loop buf₀ n₀ buf n = (n ≤ length buf) × (length buf ≡ length buf₀)
+Inv-loop fd buf₀ n₀ buf n = (n ≤ length buf) × (length buf ≡ length buf₀)
 
 abbrev μ-loop : tie.MeasureT-loop
-μ-loop buf₀ n₀ buf n = length buf - n
+μ-loop fd buf₀ n₀ buf n = length buf - n
 
 loop-holds : tie.Need-loop-holds Inv-loop μ-loop
 loop-holds c = (zero-le, refl)

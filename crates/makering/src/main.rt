@@ -1,0 +1,70 @@
+// makering [SITTING]: makes the ring and both responses of a sitting, from a file or from standard input.
+use libc::STDERR_FILENO;
+use programs::Input;
+use programs::read_argument;
+use programs::read_input;
+use programs::tell;
+use programs::write_output;
+use sitting::sitting_ring;
+use standard::BookAnswer;
+use standard::RingMade;
+ghost use Rattle.io.specs.Counts.{Counts};
+
+fn read_sitting(buf: &mut [u8]) -> Input
+    ensures { λ r. ⌜ Counts (r .len) (now (buf .exit)) ⌝ }
+{
+    let arguments = os::arg_count();
+    if arguments > 2 {
+        io::write_all(STDERR_FILENO, b"usage: makering [SITTING]\n");
+        return Input {
+            len: 0,
+            failed: true,
+        };
+    }
+    if arguments == 2 {
+        return read_argument(b"makering", buf);
+    }
+    read_input(b"makering", buf)
+}
+
+fn write_made(made: RingMade) -> bool {
+    let ring = made.ring;
+    let response1 = made.response1;
+    let response2 = made.response2;
+    write_output(b"makering", &ring, 36)
+        && write_output(b"makering", &response1, 4)
+        && write_output(b"makering", &response2, 4)
+}
+
+fn answer(refusal: u32, written: usize) -> BookAnswer {
+    BookAnswer {
+        refusal,
+        index: 0,
+        written,
+    }
+}
+
+// One byte more than a sitting, so that a longer file is seen to be longer.
+fn main() {
+    let mut sitting = [0u8; 71];
+    let input = read_sitting(&mut sitting);
+    if input.failed {
+        return;
+    }
+    let n = input.len;
+    if n != 70 {
+        io::write_all(
+            STDERR_FILENO,
+            b"makering: the sitting does not have 70 bytes\n",
+        );
+        return;
+    }
+    let made = sitting_ring(&sitting[..n]);
+    if made.refusal != 0 {
+        tell(answer(made.refusal, 0));
+        return;
+    }
+    if write_made(made) {
+        tell(answer(0, 44));
+    }
+}

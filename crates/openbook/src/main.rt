@@ -1,0 +1,25 @@
+// openbook RING: opens the sealed book on standard input to standard output.
+use books::open_book;
+use programs::read_input;
+use programs::read_ring;
+use programs::tell;
+use programs::write_output;
+
+// The input has one byte more than the longest book, so that a longer one is seen to be longer.
+fn main() {
+    let mut ring = [0u8; 36];
+    if read_ring(b"openbook", &mut ring).failed {
+        return;
+    }
+    let mut sealed = [0u8; 21505];
+    let input = read_input(b"openbook", &mut sealed);
+    if input.failed {
+        return;
+    }
+    let n = input.len;
+    let mut plain = [0u8; 18432];
+    let answer = open_book(&ring, &sealed[..n], &mut plain);
+    if write_output(b"openbook", &plain, answer.written) {
+        tell(answer);
+    }
+}

@@ -1,0 +1,25 @@
+// sealbook RING: seals the plain book on standard input to standard output.
+use books::seal_book;
+use programs::read_input;
+use programs::read_ring;
+use programs::tell;
+use programs::write_output;
+
+// The input has one byte more than the longest book, so that a longer one is seen to be longer.
+fn main() {
+    let mut ring = [0u8; 36];
+    if read_ring(b"sealbook", &mut ring).failed {
+        return;
+    }
+    let mut plain = [0u8; 18433];
+    let input = read_input(b"sealbook", &mut plain);
+    if input.failed {
+        return;
+    }
+    let n = input.len;
+    let mut sealed = [0u8; 21504];
+    let answer = seal_book(&ring, &plain[..n], &mut sealed);
+    if write_output(b"sealbook", &sealed, answer.written) {
+        tell(answer);
+    }
+}

@@ -1,0 +1,108 @@
+-- `sitting::sitting_ring` meets its contract.
+-- Assumes nothing.
+use borrow.Author.Needs.{needs}
+use borrow.Author.Tests.{eq-eqb, ne-eqb}
+use Rattle.standard.specs.Programs.{sittingRing}
+use Rattle.sitting.proofs.sitting_ring.Statement.{statement}
+use Rattle.sitting.proofs.sitting_ring.Tie as tie
+
+refused-ring-requires : tie.Need-refused-ring-requires
+refused-ring-requires c κs = search needs
+
+returns : tie.Need-returns
+unfolding sittingRing
+returns c = rw (c .refused-ring .ensures, ne-eqb _ _ (c .before .if1 .taken))
+
+array16-requires : tie.Need-array16-requires
+array16-requires c κs = search needs
+
+ten-requires : tie.Need-ten-requires
+ten-requires c κs = search needs
+
+ten-requires-2 : tie.Need-ten-requires-2
+ten-requires-2 c κs = search needs
+
+ten-requires-3 : tie.Need-ten-requires-3
+ten-requires-3 c κs = search needs
+
+ten-requires-4 : tie.Need-ten-requires-4
+ten-requires-4 c κs = search needs
+
+ten-requires-5 : tie.Need-ten-requires-5
+ten-requires-5 c κs = search needs
+
+shared-slice-read-mask : tie.Need-shared-slice-read-mask
+shared-slice-read-mask c = search needs
+
+shared-slice-read-mask-2 : tie.Need-shared-slice-read-mask-2
+shared-slice-read-mask-2 c = search needs
+
+mask-requires : tie.Need-mask-requires
+mask-requires c κs = search needs
+
+shared-slice-read-mask-3 : tie.Need-shared-slice-read-mask-3
+shared-slice-read-mask-3 c = search needs
+
+shared-slice-read-mask-4 : tie.Need-shared-slice-read-mask-4
+shared-slice-read-mask-4 c = search needs
+
+mask-requires-2 : tie.Need-mask-requires-2
+mask-requires-2 c κs = search needs
+
+slice-aggregate-ring : tie.Need-slice-aggregate-ring
+slice-aggregate-ring c = search needs
+
+slice-aggregate-ring-2 : tie.Need-slice-aggregate-ring-2
+slice-aggregate-ring-2 c = search needs
+
+slice-aggregate-ring-3 : tie.Need-slice-aggregate-ring-3
+slice-aggregate-ring-3 c = search needs
+
+slice-aggregate-ring-4 : tie.Need-slice-aggregate-ring-4
+slice-aggregate-ring-4 c = search needs
+
+slice-aggregate-ring-5 : tie.Need-slice-aggregate-ring-5
+slice-aggregate-ring-5 c = search needs
+
+slice-aggregate-ring-6 : tie.Need-slice-aggregate-ring-6
+slice-aggregate-ring-6 c = search needs
+
+ring-requires : tie.Need-ring-requires
+ring-requires c κs = search needs
+
+returns-2 : tie.Need-returns-2
+unfolding sittingRing
+returns-2 c =
+    let masks = c .before .before .before .before .before .before .before in
+    let mask = masks .before .before .before in
+    let c5 = mask .before .before .before in
+    let c2 = c5 .before .before .before in
+    let root = c2 .before .before in
+    rw (c .ring .ensures, masks .mask2 .ensures, mask .mask .ensures, c5 .ten5 .ensures, c5 .before .ten4 .ensures, c5 .before .before .ten3 .ensures, c2 .ten2 .ensures, c2 .before .ten .ensures, root .array16 .ensures, eq-eqb _ _ (root .before .if1 .left))
+
+pub sitting-ring-spec : {M : Type 1} → statement M
+sitting-ring-spec =
+    tie.close
+    (tie.spec
+    refused-ring-requires
+    returns
+    array16-requires
+    ten-requires
+    ten-requires-2
+    ten-requires-3
+    ten-requires-4
+    ten-requires-5
+    shared-slice-read-mask
+    shared-slice-read-mask-2
+    mask-requires
+    shared-slice-read-mask-3
+    shared-slice-read-mask-4
+    mask-requires-2
+    slice-aggregate-ring
+    slice-aggregate-ring-2
+    slice-aggregate-ring-3
+    slice-aggregate-ring-4
+    slice-aggregate-ring-5
+    slice-aggregate-ring-6
+    ring-requires
+    returns-2)

@@ -1,0 +1,60 @@
+// The ring recipe on a sitting's file: root 16 bytes, RS, RSO, RAND1, RAND2 and C 10 each, response mask 2, key mask 2.
+use arrays::array10;
+use arrays::array16;
+use keys::ring;
+use standard::RingMade;
+use standard::refused_ring;
+ghost use mathlib.Core.Path.{_≡_};
+ghost use Prim.Native.Nat.{_+_, _*_, _≤_};
+ghost use lib.ListN.{length};
+ghost use Rattle.standard.specs.Bytes.{part};
+ghost use Rattle.standard.specs.Programs.{sittingRing};
+
+const SITTING: usize = 70;
+
+fn ten(s: &[u8], from: usize) -> [u8; 10]
+    requires { ⌜ from + 10 ≤ length (now s) ⌝ }
+    ensures { λ r. ⌜ r ≡ part from 10 (now (s .entry)) ⌝ }
+{
+    array10(&s[from..from + 10])
+}
+
+fn wide(x: u8) -> u16
+    ensures { λ r. ⌜ r ≡ x ⌝ }
+{
+    x as u16
+}
+
+// A mask has its high byte first.
+fn mask(high: u8, low: u8) -> u16
+    ensures { λ r. ⌜ r ≡ 256 * high + low ⌝ }
+{
+    256 * wide(high) + wide(low)
+}
+
+// A file of another length than 70 bytes is refused with 11.
+pub fn sitting_ring(s: &[u8]) -> RingMade
+    ensures { λ r. ⌜ r ≡ sittingRing (now (s .entry)) ⌝ }
+{
+    if s.len() != SITTING {
+        return refused_ring(11);
+    }
+    let root = array16(s);
+    let rs = ten(s, 16);
+    let rso = ten(s, 26);
+    let rand1 = ten(s, 36);
+    let rand2 = ten(s, 46);
+    let c = ten(s, 56);
+    let response_mask = mask(s[66], s[67]);
+    let key_mask = mask(s[68], s[69]);
+    ring(
+        &root,
+        &rs,
+        &rso,
+        &rand1,
+        &rand2,
+        &c,
+        response_mask,
+        key_mask,
+    )
+}

@@ -1,0 +1,67 @@
+-- What the programs makering, sealbook and openbook take and say beside the calls: a sitting's file, and the line for standard error.
+-- Assumes nothing.
+use mathlib.Core.List.{List, [], _∷_, _++_}
+use Prim.Native.Nat.{ℕ, _+_, _*_}
+use lib.Dec.{eqb, ltb}
+use lib.ListN.{length, drop}
+use Rattle.standard.specs.Bytes.{_!_, part, choose}
+use Rattle.standard.specs.Derivation.{ringCall}
+use Rattle.standard.specs.Listing.{decimal, refusedAt}
+use Rattle.standard.specs.Refusals.{bookTooLong, bookNotWhole, wrongKind, notZero, wrongNumber, flagSet, wrongMask, sharedBit, wrongWidth, valueWide, wrongLength, outputShort, long, ringMade}
+use Rattle.standard.specs.Text.{ascii}
+use Rattle.standard.specs.declared.BookAnswer.{BookAnswer}
+use Rattle.standard.specs.declared.RingMade.{RingMade}
+
+-- ---- makering
+
+-- the ring recipe on a sitting's 70 bytes: root 16, RS, RSO, RAND1, RAND2 and C 10 each, response mask 2, key mask 2, the high byte first
+unfoldable pub sittingRing : List ℕ → RingMade
+sittingRing s =
+    choose (long 70 s)
+    (ringCall (part 0 16 s) (part 16 10 s) (part 26 10 s) (part 36 10 s) (part 46 10 s) (part 56 10 s)
+    (256 * s ! 66 + s ! 67) (256 * s ! 68 + s ! 69))
+    (ringMade wrongLength [] [] [])
+
+-- ---- a refusal's meaning (01, Who causes which number)
+
+-- the text beside a number in a list
+abbrev pub beside : ℕ → List (ℕ × List ℕ) → List ℕ
+beside n [] = ascii "not in the list"
+beside n (t ∷ ts) = choose (eqb n (t .0)) (t .1) (beside n ts)
+
+abbrev pub meanings : List (ℕ × List ℕ)
+meanings =
+    (bookTooLong, ascii "book longer than 1,024 records")
+    ∷ (bookNotWhole, ascii "book not a whole number of records")
+    ∷ (wrongKind, ascii "kind not 1 to 4")
+    ∷ (notZero, ascii "body byte not zero")
+    ∷ (wrongNumber, ascii "kind 2 number above 31")
+    ∷ (flagSet, ascii "flag set while opening a book")
+    ∷ (wrongMask, ascii "mask with a wrong number of ones")
+    ∷ (sharedBit, ascii "masks that share a bit")
+    ∷ (wrongWidth, ascii "width not 16 to 32")
+    ∷ (valueWide, ascii "value too wide for its field")
+    ∷ (wrongLength, ascii "input of a wrong length")
+    ∷ (outputShort, ascii "output shorter than the result")
+    ∷ []
+
+unfoldable pub meaning : ℕ → List ℕ
+meaning n = beside n meanings
+
+-- ---- the line about an answer
+
+-- "refused N at I (its meaning)"
+unfoldable pub meaningLine : ℕ → ℕ → List ℕ
+meaningLine number index = refusedAt number index ++ ascii " (" ++ meaning number ++ ascii ")\n"
+
+-- "wrote N bytes"
+unfoldable pub wroteLine : ℕ → List ℕ
+wroteLine n = ascii "wrote " ++ decimal n ++ ascii " bytes\n"
+
+unfoldable pub answerLine : BookAnswer → List ℕ
+answerLine a = choose (eqb (a .refusal) 0) (wroteLine (a .written)) (meaningLine (a .refusal) (a .index))
+
+-- The call: the length of the line, and the output at exit, the line and then the output's own rest. An output with fewer than 160 bytes
+-- is left as it was.
+unfoldable pub reportCall : BookAnswer → List ℕ → ℕ × List ℕ
+reportCall a out = choose (ltb (length out) 160) (0, out) (length (answerLine a), answerLine a ++ drop (length (answerLine a)) out)
