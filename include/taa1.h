@@ -2,17 +2,18 @@
  * The TAA1 engine for hosts in C and C++; link with libengine.a.
  *
  * A byte string goes in as a pointer and a length. Any length may be handed
- * in: the call tests it and refuses a wrong one. The pointer may be null where
- * the length is 0. The leftmost byte of a string stands first. A length in
- * brackets, in the comments below, is the one that the call accepts.
+ * in: the call tests it and refuses a wrong one. The pointer must be good for
+ * the length, and may be null where that is 0. The leftmost byte of a string
+ * stands first. A length in brackets, in the comments below, is the one that
+ * the call accepts.
  *
  * Every answer is a struct by value whose first field is 0 or the number of a
  * refusal. On a refusal all its other fields are zero, but for the index in a
  * book's answer. Compare fields and not whole structs: padding is no part of an
  * answer.
  *
- * A Rust host declares `*const u8, usize` for a byte string and never `&[u8]`,
- * because Rust's slices do not pass this way.
+ * A Rust host declares `*const u8, usize` for a byte string, `*mut u8, usize`
+ * for an output, and never `&[u8]`: Rust's slices do not pass this way.
  */
 #ifndef TAA1_H
 #define TAA1_H
@@ -235,7 +236,7 @@ taa1_unsealed_group taa1_ta92(const uint8_t *text, size_t text_length,
                               const uint8_t *sealing_key, size_t sealing_key_length,
                               taa1_version version);
 
-/* ---- TA101: a session key for a visited network of 24 bits, from KS [16] and GCK0 [10] ---- */
+/* ---- TA101: a session key from KS [16], GCK0 [10] and the network identity mni of 24 bits ---- */
 
 taa1_bytes16 taa1_ta101(const uint8_t *ks, size_t ks_length,
                         const uint8_t *gck0, size_t gck0_length,
