@@ -34,18 +34,18 @@ enum taa1_refusal {
     TAA1_BOOK_TOO_LONG = 1,  /* a book is longer than 1,024 records */
     TAA1_BOOK_NOT_WHOLE = 2, /* its length is not a whole number of records */
     TAA1_WRONG_KIND = 3,     /* a kind is not 1 to 4 */
-    TAA1_NOT_ZERO = 4,       /* a body byte that must be zero isn't */
+    TAA1_NOT_ZERO = 4,       /* a byte that fills up a body is not zero */
     TAA1_WRONG_NUMBER = 5,   /* a kind 2 number is above 31 */
     TAA1_FLAG_SET = 6,       /* the flag is set while a book is opened */
 
     /* caused by the setter */
-    TAA1_WRONG_MASK = 7,   /* a mask has the wrong number of ones */
+    TAA1_WRONG_MASK = 7,   /* a mask has too few or too many ones */
     TAA1_SHARED_BIT = 8,   /* the masks share a bit */
     TAA1_WRONG_WIDTH = 9,  /* a width is not 16 to 32 */
     TAA1_VALUE_WIDE = 10,  /* a value is too wide for its field */
 
     /* caused by the host */
-    TAA1_WRONG_LENGTH = 11, /* an input of fixed length has another length */
+    TAA1_WRONG_LENGTH = 11, /* an input has another length than its call takes */
     TAA1_OUTPUT_SHORT = 12  /* the output is shorter than the result */
 };
 
@@ -245,8 +245,8 @@ taa1_bytes16 taa1_ta101(const uint8_t *ks, size_t ks_length,
 /* ---- TB1 to TB7: keys mixed without the cipher ---- */
 
 /*
- * The value, taken with a width of 16 to 32 bits, repeated from the left until
- * there are 128 bits; the last copy is cut at the right.
+ * Copies of the value, each of a width of 16 to 32 bits: the leftmost 128 bits of
+ * as many as that takes.
  */
 taa1_bytes16 taa1_tb1(uint64_t value, uint64_t width);
 

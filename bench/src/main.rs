@@ -1,5 +1,5 @@
-//! The time of one operation: the engine, osmo-tetra's C and the Rust of other
-//! hands, in one run on the same inputs.
+//! The time of one operation: the engine, osmo-tetra's C and the independent
+//! implementation in Rust, in one run on the same inputs.
 
 #[macro_use]
 mod texts;

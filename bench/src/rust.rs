@@ -1,4 +1,4 @@
-//! The Rust of other hands, at opt-level 3.
+//! The independent implementation in Rust, at opt-level 3.
 
 use crate::{Inputs, Rounds};
 use host::both::{PLAIN, SEALED};

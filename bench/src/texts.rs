@@ -1,5 +1,5 @@
 //! Session keys, seals and unseals through the calls of a module: the engine's
-//! and the other hands' have the same names and shapes.
+//! and the independent implementation's have the same names and shapes.
 
 macro_rules! texts {
     ($inputs:ident, $calls:ident) => {{

@@ -19,6 +19,7 @@ fn main() {
     let n = input.len;
     let mut plain = [0u8; 18432];
     let answer = open_book(&ring, &sealed[..n], &mut plain);
+    // A refused book has no byte written.
     if write_output(b"openbook", &plain, answer.written) {
         tell(answer);
     }

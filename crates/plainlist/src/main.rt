@@ -1,4 +1,5 @@
 // Reads a plain book from standard input to its end, and prints its listing, or the line of its refusal.
+use libc::STDERR_FILENO;
 use listing::list_plain;
 use programs::read_input;
 use programs::write_output;
@@ -6,6 +7,10 @@ use programs::write_output;
 // The input has one byte more than the longest book, so that a longer one is seen to be longer; the output 160 bytes for each of 1,024
 // records, and 160 more.
 fn main() {
+    if os::arg_count() > 1 {
+        io::write_all(STDERR_FILENO, b"usage: plainlist <BOOK\n");
+        return;
+    }
     let mut plain = [0u8; 18433];
     let input = read_input(b"plainlist", &mut plain);
     if input.failed {

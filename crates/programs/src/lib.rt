@@ -11,7 +11,7 @@ ghost use lib.Dec.{eqb};
 ghost use lib.ListN.{length};
 ghost use Rattle.io.specs.Counts.{Counts};
 
-// What was read: its bytes, and whether it failed, which standard error then has a line about.
+// What was read: how many bytes, and whether reading failed. Standard error then has a line about it.
 pub struct Input {
     pub len: usize,
     pub failed: bool,

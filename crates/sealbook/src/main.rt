@@ -19,6 +19,7 @@ fn main() {
     let n = input.len;
     let mut sealed = [0u8; 21504];
     let answer = seal_book(&ring, &plain[..n], &mut sealed);
+    // A refused book has no byte written.
     if write_output(b"sealbook", &sealed, answer.written) {
         tell(answer);
     }

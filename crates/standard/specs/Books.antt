@@ -16,7 +16,8 @@ use Rattle.standard.specs.declared.Kind.the-variants.{Ta31, Ta51, Ta81, 
 use Rattle.standard.specs.declared.Named.{Named}
 use Rattle.standard.specs.declared.Named.the-variants.{Known, Unknown}
 
--- ---- a ring of 36 bytes: D (10, seals kind 1), O (16, seals kinds 2 to 4), C (10, for TA61)
+-- ---- a ring: the keys D, O and C, one after the other. D has 10 bytes and seals kind 1, O has 16 and seals the other kinds, C has 10
+-- and encrypts identities
 
 abbrev pub sealingKey : Kind → List ℕ → List ℕ
 sealingKey Ta31 r = part 0 10 r
@@ -45,7 +46,7 @@ recordKind p = named (kindOf (p ! 0))
 unfoldable pub plainFault : List ℕ → ℕ
 plainFault p = choose (isKnown (kindOf (p ! 0))) (form (recordKind p) .fault (part 6 12 p)) wrongKind
 
--- kind, TA61 of the identity under C, version, and the sealed text of the body, by the kind and with the version
+-- the kind and the version stay; the identity is encrypted under C, and the body is sealed by its kind, with the version
 unfoldable pub sealRecord : List ℕ → List ℕ → List ℕ
 sealRecord r p =
     p ! 0 ∷ part 0 3 (ta61 (commonKey r) (part 1 3 p)) ++ part 4 2 p
@@ -97,8 +98,8 @@ firstFault (suc n) g = choose (ltb (firstFault n g) n) (firstFault n g) (choose 
 abbrev pub refused : ℕ → ℕ → BookAnswer
 refused k i = record { refusal = k; index = i; written = 0 }
 
--- by the refusal that the lengths give, or 0; then by the fault g of each of n records. Accepted: 0, the number of records, the bytes
--- written
+-- by the refusal that the lengths give, or 0; then by the fault g of each of n records. Where nothing is refused: 0, how many records,
+-- and how many bytes
 unfoldable pub answer : ℕ → ℕ → (ℕ → ℕ) → ℕ → BookAnswer
 answer head n g written =
     choose (eqb head 0)
@@ -122,7 +123,7 @@ sealing r = record { size = 18; to = 21; fault = plainFault; convert = sealRecor
 abbrev pub opening : List ℕ → Way
 opening r = record { size = 21; to = 18; fault = openFault r; convert = openRecord r }
 
--- 11, 1, 2, 12; then record by record. `room` is the output's length
+-- the lengths in the order 11, 1, 2, 12, and then the records. `room` is the output's length
 unfoldable pub bookAnswer : Way → List ℕ → List ℕ → ℕ → BookAnswer
 bookAnswer W r xs room =
     answer

@@ -5,15 +5,15 @@ use Prim.Native.Nat.{ℕ}
 use Rattle.standard.specs.Bytes.{_!_, _⊕_, part, xors}
 use Rattle.standard.specs.Hurdle.{encrypt, decrypt}
 
--- left output = encrypt(left); right output = encrypt(right ⊕ left output)
+-- the left block encrypted; then the right block ⊕ that, encrypted
 unfoldable pub bl1 : List ℕ → List ℕ → List ℕ
 bl1 k x =
     let left : List ℕ = encrypt k (part 0 8 x) in
     let right : List ℕ = encrypt k (xors 8 (part 8 8 x) left) in
     part 0 8 left ++ part 0 8 right
 
--- r = decrypt(right input); w is the left block, its last byte ⊕ that of r; left output = decrypt(w);
--- right output: the first seven bytes of r ⊕ those of the left input. The sixteenth byte is dropped
+-- r is the right block decrypted, and w the left block with the last byte of r ⊕ into its own. Of the data, w decrypted is the left
+-- part, and r ⊕ the left block the right part, without its last byte
 unfoldable pub bl2 : List ℕ → List ℕ → List ℕ
 bl2 k y =
     let r : List ℕ = decrypt k (part 8 8 y) in

@@ -23,7 +23,7 @@ core k seed = bl1 k (exp2 seed)
 abbrev pub ta11 : List ℕ → List ℕ → List ℕ
 ta11 root seed = core root seed
 
--- the seed's ten bytes reversed first
+-- with the seed reversed
 abbrev pub ta21 : List ℕ → List ℕ → List ℕ
 ta21 root seed = core root (table 10 (λ i. seed ! (9 - i)))
 

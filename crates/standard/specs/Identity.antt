@@ -29,7 +29,7 @@ P⁻¹ o = unmixed (S⁻¹ ! (o ! 0)) (S⁻¹ ! (o ! 1)) (S⁻¹ ! (o ! 2))
 
 -- ---- the K strings (5.12.1 to 5.12.3), from the 10-byte common key A
 
--- BC: input bytes 7..0 are A(j+2) ⊕ Aj, key EXP4(A)
+-- BC's output: byte j of its input is A(j+2) ⊕ Aj, its key is EXP4(A)
 unfoldable pub bc : List ℕ → List ℕ
 bc a = encrypt (exp4 a) (table 8 (λ i. a ! i ⊕ a ! (i + 2)))
 

@@ -1,5 +1,6 @@
 -- Refusals (01, Who causes which number): the numbers by name, their tests, and the answers of single calls.
--- Order: 11, 1, 2, 12, then record by record 3, then 4, 5 (sealing) or 6 (opening); in single calls 11, 7, 8, 9, 10, 5.
+-- A book is tested for 11, 1, 2 and 12, and then each of its records for 3, and for 4 and 5 when it is sealed or for 6 when it is opened.
+-- A single call tests 11, 7, 8, 9, 10, 5.
 -- Assumes nothing.
 use mathlib.Core.Bool.{Bool, true, false, _&&_}
 use mathlib.Core.List.{List, [], _∷_}
@@ -22,55 +23,55 @@ use Rattle.standard.specs.declared.UnsealedNumbered.{UnsealedNumbered}
 
 -- ---- the candidate's
 
--- book longer than 1,024 records' bytes
+-- a book has more bytes than 1,024 records
 abbrev pub bookTooLong : ℕ
 bookTooLong = 1
 
--- length not a whole number of records
+-- a book ends within a record
 abbrev pub bookNotWhole : ℕ
 bookNotWhole = 2
 
--- kind not 1 to 4
+-- a kind byte is none of 1, 2, 3 and 4
 abbrev pub wrongKind : ℕ
 wrongKind = 3
 
--- a body byte that must be zero isn't
+-- a byte that fills up a body is not zero
 abbrev pub notZero : ℕ
 notZero = 4
 
--- kind 2 number above 31; also in a single seal
+-- a number of kind 2 has more than five bits, in a book or in TA51
 abbrev pub wrongNumber : ℕ
 wrongNumber = 5
 
--- flag set while opening a book
+-- a record of a book opens with its flag set
 abbrev pub flagSet : ℕ
 flagSet = 6
 
 -- ---- the setter's
 
--- a mask has the wrong number of ones
+-- a mask has too few or too many ones
 abbrev pub wrongMask : ℕ
 wrongMask = 7
 
--- the masks share a bit
+-- a bit stands in both masks
 abbrev pub sharedBit : ℕ
 sharedBit = 8
 
--- width outside 16 to 32
+-- a width is below 16 or above 32
 abbrev pub wrongWidth : ℕ
 wrongWidth = 9
 
--- a value too wide for its field
+-- a value has more bits than its field
 abbrev pub valueWide : ℕ
 valueWide = 10
 
 -- ---- the host's
 
--- an input of fixed length has another length
+-- an input has another length than its call takes
 abbrev pub wrongLength : ℕ
 wrongLength = 11
 
--- output shorter than the result
+-- the output has fewer bytes than the result
 abbrev pub outputShort : ℕ
 outputShort = 12
 

@@ -1,6 +1,6 @@
 -- Sealing and unsealing (01, Sealing and unsealing; 000, 5.8 to 5.11, 5.14 to 5.17).
--- A body is the 12 bytes that a plain record has for a key: kind 1 key and two zero bytes; kind 2 key, zero byte, number; kind 3 key
--- and 16-bit number; kind 4 the group key.
+-- A body is what a plain record has behind its version, 12 bytes: a key and two zero bytes (kind 1), a key, a zero byte and a number
+-- (kind 2), a key and a number of two bytes (kind 3), or a group key (kind 4).
 -- Assumes nothing.
 use mathlib.Core.Bool.{Bool, _&&_, not}
 use mathlib.Core.List.{List, [], _∷_, _++_}
@@ -56,8 +56,8 @@ key16 s v = xors 16 (repeated 16 v) s
 
 -- ---- the form of a kind
 
--- input: a body to BL1's data input, 16 bytes that end in a zero byte. shrink: BL2's output, 15 bytes, to a body. clear: every inserted
--- ⊕ byte of the 15 is right, and for kind 2 the number byte's top three bits are zero. fault: 0, or the refusal of a body that may not
+-- input: a body to BL1's data input, 16 bytes that end in a zero byte. shrink: BL2's output, 15 bytes, to a body. clear: each of
+-- the inserted bytes is the ⊕ of its group, and kind 2's number byte is below 32. fault: 0, or the refusal of a body that may not
 -- be sealed. key: sealing key and version to the core's key
 pub record Form : Type 0 where
   pub input : List ℕ → List ℕ
@@ -76,7 +76,7 @@ form31 = record {
   key = key10;
 }
 
--- EXP3 of key then number byte, then a zero byte; the number is the low five bits of its byte
+-- EXP3 of key and number byte, and a zero byte; the five low bits of the byte are the number
 abbrev pub form51 : Form
 form51 = record {
   input = λ b. exp3 (part 0 10 b ++ b ! 11 ∷ []) ++ 0 ∷ [];
@@ -104,7 +104,7 @@ form Ta91 = form81
 
 -- ---- sealing, by a kind's form
 
--- byte 8 of sixteen, the eighth from the left, is discarded; to unseal, a zero byte is put back there
+-- a sealed text leaves out byte 8 of sixteen, the eighth from the left; unsealing takes a zero byte in its place
 abbrev pub without8 : List ℕ → List ℕ
 without8 o = part 0 7 o ++ part 8 8 o
 

@@ -1,4 +1,4 @@
-//! Book calls made on both sides: through the engine and by the other hands.
+//! Book calls made twice: through the engine and by the independent implementation.
 
 use crate::books;
 use crate::engine::{self, null_out, BookAnswer};
@@ -19,7 +19,7 @@ const MARGIN: usize = 64;
 pub struct Call {
     name: &'static str,
     engine: fn(&[u8], &[u8], &mut [u8]) -> BookAnswer,
-    hands: fn(&[u8], &[u8], &mut [u8]) -> books::BookAnswer,
+    other: fn(&[u8], &[u8], &mut [u8]) -> books::BookAnswer,
     /// Bytes of a record handed in, and of a record written.
     pub from: usize,
     pub to: usize,
@@ -29,7 +29,7 @@ pub struct Call {
 pub static SEAL: Call = Call {
     name: "seal_book",
     engine: engine::seal_book,
-    hands: books::seal_book,
+    other: books::seal_book,
     from: PLAIN,
     to: SEALED,
     back: &OPEN,
@@ -38,7 +38,7 @@ pub static SEAL: Call = Call {
 pub static OPEN: Call = Call {
     name: "open_book",
     engine: engine::open_book,
-    hands: books::open_book,
+    other: books::open_book,
     from: SEALED,
     to: PLAIN,
     back: &SEAL,
@@ -56,15 +56,15 @@ impl Call {
         answer.refusal
     }
 
-    /// Compares with the other hands. An output without room is null too.
+    /// Compares with the independent implementation. An output without room is null too.
     pub fn compare(&self, group: &mut Group, ring: &[u8], book: &[u8], room: usize) {
         if group.turn() {
-            self.same_as_hands(group, ring, book, room);
+            self.same_as_other(group, ring, book, room);
         }
     }
 
-    /// Wants the book accepted and these bytes written, whatever the other hands
-    /// do.
+    /// Wants the book accepted and these bytes written, whatever the independent
+    /// implementation does.
     pub fn want(&self, group: &mut Group, ring: &[u8], book: &[u8], wanted: &[u8]) {
         self.same(group, ring, book, wanted.len(), |out| {
             out.copy_from_slice(wanted);
@@ -80,7 +80,7 @@ impl Call {
     pub fn there_and_back(&self, group: &mut Group, ring: &[u8], book: &[u8]) {
         if group.turn() {
             let room = self.room(book);
-            self.same_as_hands(group, ring, book, room + 1);
+            self.same_as_other(group, ring, book, room + 1);
             let (answer, bytes) = lent(room, |out| (self.engine)(ring, book, out));
             if answer.refusal == 0 {
                 self.back.want(group, ring, &bytes[MARGIN..][..room], book);
@@ -88,16 +88,16 @@ impl Call {
         }
     }
 
-    fn same_as_hands(&self, group: &mut Group, ring: &[u8], book: &[u8], room: usize) {
+    fn same_as_other(&self, group: &mut Group, ring: &[u8], book: &[u8], room: usize) {
         self.same(group, ring, book, room, |out| {
-            (self.hands)(ring, book, out).into()
+            (self.other)(ring, book, out).into()
         });
         if room == 0 {
             group.same(
                 self.name,
                 &[("ring", &ring), ("book", &Start(book))],
                 (self.engine)(ring, book, null_out()),
-                (self.hands)(ring, book, &mut []),
+                (self.other)(ring, book, &mut []),
             );
         }
     }

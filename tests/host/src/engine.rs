@@ -23,9 +23,10 @@ impl From<u16> for KeyNumber {
     }
 }
 
-/// Declares the answers, and turns the other hands' into them for comparison.
+/// Declares the answers, and turns the independent implementation's into
+/// them for comparison.
 macro_rules! answers {
-    ($($hands:ident::$name:ident$(<$n:ident>)? { $($field:ident: $type:ty),* })*) => {$(
+    ($($other:ident::$name:ident$(<$n:ident>)? { $($field:ident: $type:ty),* })*) => {$(
         #[repr(C)]
         #[derive(Clone, Copy, Debug, PartialEq, Eq)]
         pub struct $name$(<const $n: usize>)? {
@@ -33,8 +34,8 @@ macro_rules! answers {
             $(pub $field: $type,)*
         }
 
-        impl$(<const $n: usize>)? From<$hands::$name$(<$n>)?> for $name$(<$n>)? {
-            fn from(answer: $hands::$name$(<$n>)?) -> Self {
+        impl$(<const $n: usize>)? From<$other::$name$(<$n>)?> for $name$(<$n>)? {
+            fn from(answer: $other::$name$(<$n>)?) -> Self {
                 $name {
                     refusal: answer.refusal,
                     $($field: answer.$field.into(),)*

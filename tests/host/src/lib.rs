@@ -1,5 +1,5 @@
-//! What the programs around the engine share: its calls, an implementation by
-//! other hands, random and damaged inputs, and the counting of comparisons.
+//! What the programs around the engine share: its calls, an independent
+//! implementation, random and damaged inputs, and the counting of comparisons.
 
 pub mod books;
 pub mod both;

@@ -1,5 +1,5 @@
-//! Compares the engine, called as a host calls it, with an implementation by
-//! other hands. One module for each family of calls.
+//! Compares the engine, called as a host calls it, with an independent
+//! implementation. One module for each family of calls.
 
 mod book_calls;
 mod cipher;

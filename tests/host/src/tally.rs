@@ -102,8 +102,8 @@ impl Group {
     }
 }
 
-/// Compares the engine's call with what is wanted, or else with the same call
-/// of the other hands. `[name]` is a byte string, as in the engine's calls.
+/// Compares the engine's call with what is wanted, or else with the same call of
+/// the independent implementation. `[name]` is a byte string, as in the engine's calls.
 #[macro_export]
 macro_rules! compare {
     ($group:ident, $call:ident($($([$bytes:ident])? $($number:ident)?),*), $wanted:expr) => {

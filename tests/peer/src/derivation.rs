@@ -20,10 +20,10 @@ type Call = fn(&[u8], &[u8], u16, u16) -> Authentication;
 const CALLS: [(&str, Call); 4] = [
     ("ta12", engine::ta12),
     ("ta22", engine::ta22),
-    ("ta12 of other hands", |k, c, r, m| {
+    ("ta12, independent", |k, c, r, m| {
         taa1::ta12(k, c, r, m).into()
     }),
-    ("ta22 of other hands", |k, c, r, m| {
+    ("ta22, independent", |k, c, r, m| {
         taa1::ta22(k, c, r, m).into()
     }),
 ];

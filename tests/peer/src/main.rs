@@ -1,7 +1,7 @@
-//! Compares the engine and the implementation by other hands with osmo-tetra.
+//! Compares the engine and the independent implementation with osmo-tetra.
 //! One module for each family of calls.
 
-/// The engine with what osmo-tetra gives, and with the other hands.
+/// The engine and the independent implementation with what osmo-tetra gives.
 #[cfg(peer)]
 macro_rules! compare_three {
     ($group:ident, $call:ident $inputs:tt, $wanted:expr) => {

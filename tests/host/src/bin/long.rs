@@ -79,7 +79,7 @@ fn seals(group: &mut Group, random: &mut Random) {
     compare!(group, ta51([key], version, [o], small));
     compare!(group, ta81([key], version, [o], number));
     compare!(group, ta91([group_key], version, [o]));
-    let flip = random.below(2) as u8;
+    let flip = (random.below(2) as u8) << random.below(8);
     let at = random.below(15);
     let damaged = |mut text: [u8; 15]| {
         text[at] ^= flip;
