@@ -87,11 +87,12 @@ def play(engine: taa1.Engine, folder: str) -> None:
 
 
 def main() -> None:
+    """Loads the library and plays the sitting that the command line names."""
     if len(sys.argv) < 2:
         sys.exit("usage: sitting.py LIBRARY [FOLDER]")
     try:
         engine = taa1.Engine(os.path.abspath(sys.argv[1]))
-    except OSError:
+    except (OSError, AttributeError):  # no library, or one without the calls
         sys.exit(f"sitting: {sys.argv[1]} cannot be loaded")
     try:
         play(engine, sys.argv[2] if len(sys.argv) > 2 else "samples")

@@ -3,8 +3,11 @@
 from __future__ import annotations
 
 import ctypes
-from ctypes import c_bool, c_char_p, c_size_t, c_uint8, c_uint16, c_uint32, c_uint64
-from typing import Any, NamedTuple
+from ctypes import c_bool, c_char, c_char_p, c_size_t, c_uint8, c_uint16, c_uint32, c_uint64
+from dataclasses import dataclass
+from typing import Any, Callable, NamedTuple, Union
+
+Bytes = Union[bytes, bytearray, memoryview]
 
 NAMES = {
     1: "book longer than 1,024 records",
@@ -30,48 +33,62 @@ class Refused(Exception):
     """A refusal: its number and name, and the record's index if a book was refused."""
 
     def __init__(self, number: int, index: int | None = None) -> None:
+        """Takes one of the numbers in NAMES."""
+        super().__init__(number, index)
         self.number = number
         self.name = NAMES[number]
         self.index = index
-        place = "" if index is None else f" at {index}"
-        super().__init__(f"refused {number}{place} ({self.name})")
+
+    def __str__(self) -> str:
+        """The text that every host prints."""
+        place = "" if self.index is None else f" at {self.index}"
+        return f"refused {self.number}{place} ({self.name})"
+
+
+def _expect(value: Any, *kinds: type) -> Any:
+    """The value, which must be of one of these types."""
+    if not isinstance(value, kinds):
+        names = " or ".join(kind.__name__ for kind in kinds)
+        raise TypeError(f"{names} expected, not {type(value).__name__}")
+    return value
 
 
 def _fit(kind: Any, value: int) -> Any:
     """The integer as C's. ctypes would cut one that is too wide."""
-    number = kind(value)
+    number = kind(_expect(value, int))
     if number.value != value:
-        raise OverflowError(f"{value} does not fit {8 * ctypes.sizeof(kind)} bits")
+        raise OverflowError(f"{value:#x} does not fit {8 * ctypes.sizeof(kind)} bits")
     return number
 
 
-class Version(ctypes.Structure):
+@dataclass(frozen=True)
+class _Sixteen:
+    """A number of sixteen bits: the base of two types that are not interchangeable."""
+
+    value: int
+
+    def __post_init__(self) -> None:
+        """Tests the number."""
+        _fit(c_uint16, self.value)
+
+
+class Version(_Sixteen):
     """A version of sixteen bits."""
 
-    _fields_ = [("value", c_uint16)]
 
-    def __init__(self, value: int) -> None:
-        super().__init__(_fit(c_uint16, value).value)
-
-
-class KeyNumber(ctypes.Structure):
+class KeyNumber(_Sixteen):
     """A key number of sixteen bits."""
-
-    _fields_ = [("value", c_uint16)]
-
-    def __init__(self, value: int) -> None:
-        super().__init__(_fit(c_uint16, value).value)
 
 
 class Sitting(NamedTuple):
-    """What a ring is made from."""
+    """What a ring is made from: a root of 16 bytes, five strings of 10, two masks."""
 
-    root: bytes
-    rs: bytes
-    rso: bytes
-    rand1: bytes
-    rand2: bytes
-    c: bytes
+    root: Bytes
+    rs: Bytes
+    rso: Bytes
+    rand1: Bytes
+    rand2: Bytes
+    c: Bytes
     response_mask: int
     key_mask: int
 
@@ -91,6 +108,13 @@ class Authentication(NamedTuple):
     key: bytes
 
 
+class Unsealed(NamedTuple):
+    """A cipher key or group key. A set flag says that the text is not what sealing gives."""
+
+    key: bytes
+    flag: bool
+
+
 class UnsealedNumbered(NamedTuple):
     """A key and its number. A set flag says that the text is not what sealing gives."""
 
@@ -106,151 +130,265 @@ class Book(NamedTuple):
     content: bytes
 
 
-def _answer(**fields: Any) -> type[ctypes.Structure]:
-    """The type of an answer: the refusal's number, then these fields."""
+class _Written(NamedTuple):
+    """The number of a book's records, and the bytes written to the output."""
+
+    records: int
+    length: int
+
+
+def _answer(result: Callable[..., Any], **fields: Any) -> type[ctypes.Structure]:
+    """The struct of an answer: the refusal's number, then the fields that the result has."""
     members = [("refusal", c_uint32), *fields.items()]
-    return type("Answer", (ctypes.Structure,), {"_fields_": members})
+    return type("Answer", (ctypes.Structure,), {"_fields_": members, "result": result})
 
 
-_BYTES8 = _answer(bytes=c_uint8 * 8)
-_BYTES15 = _answer(bytes=c_uint8 * 15)
-_BYTES16 = _answer(bytes=c_uint8 * 16)
-_AUTHENTICATION = _answer(response=c_uint8 * 4, key=c_uint8 * 10)
-_IDENTITY = _answer(identity=c_uint32)
-_UNSEALED_NUMBERED = _answer(key=c_uint8 * 10, number=c_uint16, flag=c_bool)
-_RING_MADE = _answer(ring=c_uint8 * 36, response1=c_uint8 * 4, response2=c_uint8 * 4)
-_BOOK = _answer(index=c_size_t, written=c_size_t)
+_BYTES8 = _answer(bytes, bytes=c_uint8 * 8)
+_BYTES10 = _answer(bytes, bytes=c_uint8 * 10)
+_BYTES15 = _answer(bytes, bytes=c_uint8 * 15)
+_BYTES16 = _answer(bytes, bytes=c_uint8 * 16)
+_AUTHENTICATION = _answer(Authentication, response=c_uint8 * 4, key=c_uint8 * 10)
+_IDENTITY = _answer(int, identity=c_uint32)
+_UNSEALED = _answer(Unsealed, key=c_uint8 * 10, flag=c_bool)
+_UNSEALED_NUMBERED = _answer(UnsealedNumbered, key=c_uint8 * 10, number=c_uint16, flag=c_bool)
+_UNSEALED_GROUP = _answer(Unsealed, key=c_uint8 * 12, flag=c_bool)
+_RING_MADE = _answer(RingMade, ring=c_uint8 * 36, response1=c_uint8 * 4, response2=c_uint8 * 4)
+_BOOK = _answer(_Written, index=c_size_t, written=c_size_t)
 
-_STRING = (c_char_p, c_size_t)
+
+class _Number(ctypes.Structure):
+    """A version or key number as C takes it."""
+
+    _fields_ = [("value", c_uint16)]
+
+
+# What C takes for a parameter of each kind; any other kind is C's own type.
+# `bytes` is an input and `bytearray` an output.
+_PASSED = {
+    bytes: (c_char_p, c_size_t),
+    bytearray: (c_char_p, c_size_t),
+    Version: (_Number,),
+    KeyNumber: (_Number,),
+}
+
 _MASKS = (c_uint16, c_uint16)
 
 # Answer and parameters of each call, as in include/taa1.h.
 _CALLS: dict[str, tuple[type[ctypes.Structure], tuple[Any, ...]]] = {
-    "encrypt": (_BYTES8, _STRING * 2),
-    "decrypt": (_BYTES8, _STRING * 2),
-    "ta11": (_BYTES16, _STRING * 2),
-    "ta21": (_BYTES16, _STRING * 2),
-    "ta12": (_AUTHENTICATION, _STRING * 2 + _MASKS),
-    "ta22": (_AUTHENTICATION, _STRING * 2 + _MASKS),
-    "ta51": (_BYTES15, (*_STRING, Version, *_STRING, KeyNumber)),
-    "ta52": (_UNSEALED_NUMBERED, (*_STRING, *_STRING, Version)),
-    "ta61": (_IDENTITY, (*_STRING, c_uint64)),
-    "ta61_inverse": (_IDENTITY, (*_STRING, c_uint64)),
-    "ring": (_RING_MADE, _STRING * 6 + _MASKS),
-    "seal_book": (_BOOK, _STRING * 3),
-    "open_book": (_BOOK, _STRING * 3),
-    "check_plain": (_BOOK, _STRING),
+    "encrypt": (_BYTES8, (bytes, bytes)),
+    "decrypt": (_BYTES8, (bytes, bytes)),
+    "ta11": (_BYTES16, (bytes, bytes)),
+    "ta21": (_BYTES16, (bytes, bytes)),
+    "ta41": (_BYTES16, (bytes, bytes)),
+    "ta12": (_AUTHENTICATION, (bytes, bytes, *_MASKS)),
+    "ta22": (_AUTHENTICATION, (bytes, bytes, *_MASKS)),
+    "ta31": (_BYTES15, (bytes, Version, bytes)),
+    "ta32": (_UNSEALED, (bytes, bytes, Version)),
+    "ta51": (_BYTES15, (bytes, Version, bytes, KeyNumber)),
+    "ta52": (_UNSEALED_NUMBERED, (bytes, bytes, Version)),
+    "ta61": (_IDENTITY, (bytes, c_uint64)),
+    "ta61_inverse": (_IDENTITY, (bytes, c_uint64)),
+    "ta71": (_BYTES10, (bytes, bytes)),
+    "ta81": (_BYTES15, (bytes, Version, bytes, KeyNumber)),
+    "ta82": (_UNSEALED_NUMBERED, (bytes, bytes, Version)),
+    "ta91": (_BYTES15, (bytes, Version, bytes)),
+    "ta92": (_UNSEALED_GROUP, (bytes, bytes, Version)),
+    "ta101": (_BYTES16, (bytes, bytes, c_uint64)),
+    "tb1": (_BYTES16, (c_uint64, c_uint64)),
+    "tb2": (_BYTES16, (bytes,)),
+    "tb3": (_BYTES16, (bytes, c_uint64, c_uint64)),
+    "tb4": (_BYTES10, (bytes, bytes)),
+    "tb5": (_BYTES10, (bytes, c_uint64, c_uint64, c_uint64)),
+    "tb6": (_BYTES10, (bytes, c_uint64, c_uint64)),
+    "tb7": (_BYTES16, (bytes,)),
+    "ring": (_RING_MADE, (bytes,) * 6 + _MASKS),
+    "seal_book": (_BOOK, (bytes, bytes, bytearray)),
+    "open_book": (_BOOK, (bytes, bytes, bytearray)),
+    "check_plain": (_BOOK, (bytes,)),
 }
+
+
+def _pass(kind: Any, value: Any) -> tuple[Any, ...]:
+    """A value as C takes it, by the kind of its parameter."""
+    if kind is bytes:
+        data = bytes(_expect(value, bytes, bytearray, memoryview))
+        return data, len(data)
+    if kind is bytearray:
+        return (c_char * len(value)).from_buffer(value), len(value)
+    if kind in (Version, KeyNumber):
+        return (_Number(_expect(value, kind).value),)
+    return (_fit(kind, value),)
 
 
 class Engine:
     """The engine's calls. A refusal is raised as `Refused`.
 
-    An integer that does not fit C's type, sixteen bits for a mask and sixty-four
-    for an identity, is an OverflowError.
+    A byte string is bytes, bytearray or memoryview. A value of a wrong type is a
+    TypeError; a bool counts as an int. An integer that does not fit C's type,
+    sixteen bits for a mask and sixty-four for any other, is an OverflowError.
     """
 
     def __init__(self, path: str) -> None:
         """Loads the shared object at `path`."""
         library = ctypes.CDLL(path)
         self._calls: dict[str, Any] = {}
-        for name, (answer, parameters) in _CALLS.items():
+        for name, (answer, kinds) in _CALLS.items():
             call = library[f"taa1_{name}"]
             call.restype = answer
-            call.argtypes = parameters
+            call.argtypes = [c for kind in kinds for c in _PASSED.get(kind, (kind,))]
             self._calls[name] = call
 
-    def _call(self, name: str, *inputs: Any) -> Any:
-        """The answer of a call, where a byte string goes in as pointer and length."""
-        call = self._calls[name]
-        flat: list[Any] = []
-        for value in inputs:
-            if isinstance(value, bytes):
-                flat += (value, len(value))
-            elif isinstance(value, int):
-                flat.append(_fit(call.argtypes[len(flat)], value))
-            else:
-                flat.append(value)
-        return call(*flat)
-
-    def _single(self, name: str, *inputs: Any) -> Any:
-        answer = self._call(name, *inputs)
+    def _call(self, name: str, *values: Any) -> Any:
+        """The result of a call. A TypeError says which of the values is wrong."""
+        passed: list[Any] = []
+        for position, (kind, value) in enumerate(zip(_CALLS[name][1], values), 1):
+            try:
+                passed += _pass(kind, value)
+            except TypeError as error:
+                raise TypeError(f"{name}, argument {position}: {error}") from None
+        answer = self._calls[name](*passed)
         if answer.refusal:
-            raise Refused(answer.refusal)
-        return answer
+            raise Refused(answer.refusal, getattr(answer, "index", None))
+        fields = [getattr(answer, field) for field, _ in answer._fields_[1:]]
+        return answer.result(*(bytes(f) if isinstance(f, ctypes.Array) else f for f in fields))
 
-    def encrypt(self, key: bytes, block: bytes) -> bytes:
+    def _book(self, name: str, ring: Bytes, book: Bytes, record: int) -> Book:
+        """A book that a call writes, with this many bytes for each record."""
+        out = bytearray(MOST_RECORDS * record)
+        written = self._call(name, ring, book, out)
+        return Book(written.records, bytes(out[: written.length]))
+
+    def encrypt(self, key: Bytes, block: Bytes) -> bytes:
         """HURDLE-II: a block of 8 bytes, encrypted under a key of 16."""
-        return bytes(self._single("encrypt", key, block).bytes)
+        return self._call("encrypt", key, block)
 
-    def decrypt(self, key: bytes, block: bytes) -> bytes:
+    def decrypt(self, key: Bytes, block: Bytes) -> bytes:
         """Undoes `encrypt` under the same key."""
-        return bytes(self._single("decrypt", key, block).bytes)
+        return self._call("decrypt", key, block)
 
-    def ta11(self, root: bytes, seed: bytes) -> bytes:
+    def ta11(self, root: Bytes, seed: Bytes) -> bytes:
         """The session key for `ta12`, from a root of 16 bytes and a seed of 10."""
-        return bytes(self._single("ta11", root, seed).bytes)
+        return self._call("ta11", root, seed)
 
-    def ta21(self, root: bytes, seed: bytes) -> bytes:
+    def ta21(self, root: Bytes, seed: Bytes) -> bytes:
         """The session key for `ta22`."""
-        return bytes(self._single("ta21", root, seed).bytes)
+        return self._call("ta21", root, seed)
+
+    def ta41(self, root: Bytes, seed: Bytes) -> bytes:
+        """The session key that seals kinds 2 to 4: made as in `ta11`."""
+        return self._call("ta41", root, seed)
 
     def ta12(
-        self, session_key: bytes, challenge: bytes, response_mask: int, key_mask: int
+        self, session_key: Bytes, challenge: Bytes, response_mask: int, key_mask: int
     ) -> Authentication:
-        """The response to a challenge of 10 bytes, and the key."""
-        answer = self._single("ta12", session_key, challenge, response_mask, key_mask)
-        return Authentication(bytes(answer.response), bytes(answer.key))
+        """The response to a challenge of 10 bytes, and the key.
+
+        Bit i of a mask chooses byte i, where byte 0 is rightmost: four bytes for
+        the response and ten others for the key.
+        """
+        return self._call("ta12", session_key, challenge, response_mask, key_mask)
 
     def ta22(
-        self, session_key: bytes, challenge: bytes, response_mask: int, key_mask: int
+        self, session_key: Bytes, challenge: Bytes, response_mask: int, key_mask: int
     ) -> Authentication:
         """As `ta12`, for a session key from `ta21`."""
-        answer = self._single("ta22", session_key, challenge, response_mask, key_mask)
-        return Authentication(bytes(answer.response), bytes(answer.key))
+        return self._call("ta22", session_key, challenge, response_mask, key_mask)
+
+    def ta31(self, cipher_key: Bytes, version: Version, sealing_key: Bytes) -> bytes:
+        """A cipher key of 10 bytes, sealed under a key of 10."""
+        return self._call("ta31", cipher_key, version, sealing_key)
+
+    def ta32(self, text: Bytes, sealing_key: Bytes, version: Version) -> Unsealed:
+        """The cipher key that a text of 15 bytes from `ta31` seals."""
+        return self._call("ta32", text, sealing_key, version)
 
     def ta51(
-        self, cipher_key: bytes, version: Version, sealing_key: bytes, number: KeyNumber
+        self, cipher_key: Bytes, version: Version, sealing_key: Bytes, number: KeyNumber
     ) -> bytes:
-        """A cipher key of 10 bytes and a number of 0 to 31, sealed."""
-        return bytes(self._single("ta51", cipher_key, version, sealing_key, number).bytes)
+        """A cipher key of 10 bytes and a number of 0 to 31, sealed under a key of 16."""
+        return self._call("ta51", cipher_key, version, sealing_key, number)
 
-    def ta52(self, text: bytes, sealing_key: bytes, version: Version) -> UnsealedNumbered:
-        """The cipher key and number that a text of 15 bytes seals."""
-        answer = self._single("ta52", text, sealing_key, version)
-        return UnsealedNumbered(bytes(answer.key), answer.number, answer.flag)
+    def ta52(self, text: Bytes, sealing_key: Bytes, version: Version) -> UnsealedNumbered:
+        """The cipher key and number that a text of 15 bytes from `ta51` seals."""
+        return self._call("ta52", text, sealing_key, version)
 
-    def ta61(self, common_key: bytes, identity: int) -> int:
+    def ta61(self, common_key: Bytes, identity: int) -> int:
         """An identity of 24 bits, encrypted under a key of 10 bytes."""
-        return self._single("ta61", common_key, identity).identity
+        return self._call("ta61", common_key, identity)
 
-    def ta61_inverse(self, common_key: bytes, encrypted_identity: int) -> int:
+    def ta61_inverse(self, common_key: Bytes, encrypted_identity: int) -> int:
         """Undoes `ta61` under the same key."""
-        return self._single("ta61_inverse", common_key, encrypted_identity).identity
+        return self._call("ta61_inverse", common_key, encrypted_identity)
+
+    def ta71(self, key1: Bytes, key2: Bytes) -> bytes:
+        """A cipher key from two of 10 bytes; their order matters."""
+        return self._call("ta71", key1, key2)
+
+    def ta81(
+        self, cipher_key: Bytes, version: Version, sealing_key: Bytes, number: KeyNumber
+    ) -> bytes:
+        """A cipher key of 10 bytes and any number, sealed under a key of 16."""
+        return self._call("ta81", cipher_key, version, sealing_key, number)
+
+    def ta82(self, text: Bytes, sealing_key: Bytes, version: Version) -> UnsealedNumbered:
+        """The cipher key and number that a text of 15 bytes from `ta81` seals."""
+        return self._call("ta82", text, sealing_key, version)
+
+    def ta91(self, group_key: Bytes, version: Version, sealing_key: Bytes) -> bytes:
+        """A group key of 12 bytes, sealed under a key of 16."""
+        return self._call("ta91", group_key, version, sealing_key)
+
+    def ta92(self, text: Bytes, sealing_key: Bytes, version: Version) -> Unsealed:
+        """The group key that a text of 15 bytes from `ta91` seals."""
+        return self._call("ta92", text, sealing_key, version)
+
+    def ta101(self, ks: Bytes, gck0: Bytes, mni: int) -> bytes:
+        """A session key from KS of 16 bytes, GCK0 of 10 and a network identity of 24 bits."""
+        return self._call("ta101", ks, gck0, mni)
+
+    def tb1(self, value: int, width: int) -> bytes:
+        """The value, of 16 to 32 bits, repeated from the left over 16 bytes."""
+        return self._call("tb1", value, width)
+
+    def tb2(self, input: Bytes) -> bytes:
+        """The input of 16 bytes itself."""
+        return self._call("tb2", input)
+
+    def tb3(self, input: Bytes, value: int, width: int) -> bytes:
+        """The input of 16 bytes, xor `tb1` of the value."""
+        return self._call("tb3", input, value, width)
+
+    def tb4(self, input1: Bytes, input2: Bytes) -> bytes:
+        """The xor of two inputs of 10 bytes."""
+        return self._call("tb4", input1, input2)
+
+    def tb5(self, cipher_key: Bytes, location_area: int, carrier: int, colour_code: int) -> bytes:
+        """A cipher key of 10 bytes for one cell.
+
+        The location area has 14 bits, the carrier 12, the colour code 6.
+        """
+        return self._call("tb5", cipher_key, location_area, carrier, colour_code)
+
+    def tb6(self, cipher_key: Bytes, carrier: int, identity: int) -> bytes:
+        """A cipher key of 10 bytes for one identity of 24 bits on a carrier of 12."""
+        return self._call("tb6", cipher_key, carrier, identity)
+
+    def tb7(self, group_key: Bytes) -> bytes:
+        """A group key of 12 bytes, with the xor of each three bytes behind them."""
+        return self._call("tb7", group_key)
 
     def ring(self, sitting: Sitting) -> RingMade:
         """The ring of a sitting, and both responses."""
-        answer = self._single("ring", *sitting)
-        return RingMade(bytes(answer.ring), bytes(answer.response1), bytes(answer.response2))
+        return self._call("ring", *_expect(sitting, Sitting))
 
-    def seal_book(self, ring: bytes, plain: bytes) -> Book:
-        """A plain book, sealed."""
+    def seal_book(self, ring: Bytes, plain: Bytes) -> Book:
+        """A plain book, sealed under a ring of 36 bytes."""
         return self._book("seal_book", ring, plain, SEALED_RECORD)
 
-    def open_book(self, ring: bytes, sealed: bytes) -> Book:
+    def open_book(self, ring: Bytes, sealed: Bytes) -> Book:
         """The plain book of a sealed one."""
         return self._book("open_book", ring, sealed, PLAIN_RECORD)
 
-    def check_plain(self, plain: bytes) -> int:
+    def check_plain(self, plain: Bytes) -> int:
         """The number of records of a well-formed plain book."""
-        answer = self._call("check_plain", plain)
-        if answer.refusal:
-            raise Refused(answer.refusal, answer.index)
-        return answer.index
-
-    def _book(self, name: str, ring: bytes, book: bytes, record: int) -> Book:
-        out = ctypes.create_string_buffer(MOST_RECORDS * record)
-        answer = self._call(name, ring, book, out, len(out))
-        if answer.refusal:
-            raise Refused(answer.refusal, answer.index)
-        return Book(answer.index, out.raw[: answer.written])
+        return self._call("check_plain", plain).records

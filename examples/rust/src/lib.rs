@@ -12,10 +12,12 @@ pub const PLAIN_RECORD: usize = 18;
 /// Bytes of a sealed record.
 pub const SEALED_RECORD: usize = 21;
 
+/// A version. Not interchangeable with a key number.
 #[repr(C)]
 #[derive(Clone, Copy, Debug, PartialEq, Eq)]
 pub struct Version(pub u16);
 
+/// A key number. Not interchangeable with a version.
 #[repr(C)]
 #[derive(Clone, Copy, Debug, PartialEq, Eq)]
 pub struct KeyNumber(pub u16);
@@ -41,13 +43,23 @@ pub struct RingMade {
     pub response2: [u8; 4],
 }
 
+/// A response and a key.
 #[derive(Clone, Copy, Debug, PartialEq, Eq)]
 pub struct Authentication {
     pub response: [u8; 4],
     pub key: [u8; 10],
 }
 
-/// A set flag says that the text is not what sealing gives.
+/// A cipher key of 10 bytes or a group key of 12. A set flag says that the text
+/// is not what sealing gives.
+#[derive(Clone, Copy, Debug, PartialEq, Eq)]
+pub struct Unsealed<const N: usize> {
+    pub key: [u8; N],
+    pub flag: bool,
+}
+
+/// A cipher key and its number. A set flag says that the text is not what
+/// sealing gives.
 #[derive(Clone, Copy, Debug, PartialEq, Eq)]
 pub struct UnsealedNumbered {
     pub key: [u8; 10],
@@ -97,7 +109,14 @@ pub fn ta21(root: &[u8], seed: &[u8]) -> Result<[u8; 16], Refusal> {
     bytes(call!(ta21([root], [seed])))
 }
 
-/// The response to a challenge of 10 bytes, and the key.
+/// The session key that seals kinds 2 to 4: made as in [`ta11`].
+pub fn ta41(root: &[u8], seed: &[u8]) -> Result<[u8; 16], Refusal> {
+    bytes(call!(ta41([root], [seed])))
+}
+
+/// The response to a challenge of 10 bytes, and the key. Bit i of a mask chooses
+/// byte i, where byte 0 is rightmost: four bytes for the response and ten others
+/// for the key.
 pub fn ta12(
     session_key: &[u8],
     challenge: &[u8],
@@ -127,7 +146,17 @@ pub fn ta22(
     )))
 }
 
-/// A cipher key of 10 bytes and a number of 0 to 31, sealed.
+/// A cipher key of 10 bytes, sealed under a key of 10.
+pub fn ta31(cipher_key: &[u8], version: Version, sealing_key: &[u8]) -> Result<[u8; 15], Refusal> {
+    bytes(call!(ta31([cipher_key], version, [sealing_key])))
+}
+
+/// The cipher key that a text of 15 bytes from [`ta31`] seals.
+pub fn ta32(text: &[u8], sealing_key: &[u8], version: Version) -> Result<Unsealed<10>, Refusal> {
+    unsealed(call!(ta32([text], [sealing_key], version)))
+}
+
+/// A cipher key of 10 bytes and a number of 0 to 31, sealed under a key of 16.
 pub fn ta51(
     cipher_key: &[u8],
     version: Version,
@@ -137,33 +166,108 @@ pub fn ta51(
     bytes(call!(ta51([cipher_key], version, [sealing_key], number)))
 }
 
-/// The cipher key and number that a text of 15 bytes seals.
+/// The cipher key and number that a text of 15 bytes from [`ta51`] seals.
 pub fn ta52(
     text: &[u8],
     sealing_key: &[u8],
     version: Version,
 ) -> Result<UnsealedNumbered, Refusal> {
-    let answer = call!(ta52([text], [sealing_key], version));
-    Refusal::test(answer.refusal)?;
-    Ok(UnsealedNumbered {
-        key: answer.key,
-        number: KeyNumber(answer.number),
-        flag: answer.flag,
-    })
+    numbered(call!(ta52([text], [sealing_key], version)))
 }
 
 /// An identity of 24 bits, encrypted under a key of 10 bytes.
 pub fn ta61(common_key: &[u8], identity: u64) -> Result<u32, Refusal> {
-    let answer = call!(ta61([common_key], identity));
-    Refusal::test(answer.refusal)?;
-    Ok(answer.identity)
+    identified(call!(ta61([common_key], identity)))
 }
 
 /// Undoes [`ta61`] under the same key.
 pub fn ta61_inverse(common_key: &[u8], encrypted_identity: u64) -> Result<u32, Refusal> {
-    let answer = call!(ta61_inverse([common_key], encrypted_identity));
-    Refusal::test(answer.refusal)?;
-    Ok(answer.identity)
+    identified(call!(ta61_inverse([common_key], encrypted_identity)))
+}
+
+/// A cipher key from two of 10 bytes; their order matters.
+pub fn ta71(key1: &[u8], key2: &[u8]) -> Result<[u8; 10], Refusal> {
+    bytes(call!(ta71([key1], [key2])))
+}
+
+/// A cipher key of 10 bytes and any number, sealed under a key of 16.
+pub fn ta81(
+    cipher_key: &[u8],
+    version: Version,
+    sealing_key: &[u8],
+    number: KeyNumber,
+) -> Result<[u8; 15], Refusal> {
+    bytes(call!(ta81([cipher_key], version, [sealing_key], number)))
+}
+
+/// The cipher key and number that a text of 15 bytes from [`ta81`] seals.
+pub fn ta82(
+    text: &[u8],
+    sealing_key: &[u8],
+    version: Version,
+) -> Result<UnsealedNumbered, Refusal> {
+    numbered(call!(ta82([text], [sealing_key], version)))
+}
+
+/// A group key of 12 bytes, sealed under a key of 16.
+pub fn ta91(group_key: &[u8], version: Version, sealing_key: &[u8]) -> Result<[u8; 15], Refusal> {
+    bytes(call!(ta91([group_key], version, [sealing_key])))
+}
+
+/// The group key that a text of 15 bytes from [`ta91`] seals.
+pub fn ta92(text: &[u8], sealing_key: &[u8], version: Version) -> Result<Unsealed<12>, Refusal> {
+    unsealed(call!(ta92([text], [sealing_key], version)))
+}
+
+/// A session key from KS of 16 bytes, GCK0 of 10 and a network identity of 24 bits.
+pub fn ta101(ks: &[u8], gck0: &[u8], mni: u64) -> Result<[u8; 16], Refusal> {
+    bytes(call!(ta101([ks], [gck0], mni)))
+}
+
+/// The value, of 16 to 32 bits, repeated from the left over 16 bytes.
+pub fn tb1(value: u64, width: u64) -> Result<[u8; 16], Refusal> {
+    bytes(call!(tb1(value, width)))
+}
+
+/// The input of 16 bytes itself.
+pub fn tb2(input: &[u8]) -> Result<[u8; 16], Refusal> {
+    bytes(call!(tb2([input])))
+}
+
+/// The input of 16 bytes, xor [`tb1`] of the value.
+pub fn tb3(input: &[u8], value: u64, width: u64) -> Result<[u8; 16], Refusal> {
+    bytes(call!(tb3([input], value, width)))
+}
+
+/// The xor of two inputs of 10 bytes.
+pub fn tb4(input1: &[u8], input2: &[u8]) -> Result<[u8; 10], Refusal> {
+    bytes(call!(tb4([input1], [input2])))
+}
+
+/// A cipher key of 10 bytes for one cell: location area 14 bits, carrier 12,
+/// colour code 6.
+pub fn tb5(
+    cipher_key: &[u8],
+    location_area: u64,
+    carrier: u64,
+    colour_code: u64,
+) -> Result<[u8; 10], Refusal> {
+    bytes(call!(tb5(
+        [cipher_key],
+        location_area,
+        carrier,
+        colour_code
+    )))
+}
+
+/// A cipher key of 10 bytes for one identity of 24 bits on a carrier of 12.
+pub fn tb6(cipher_key: &[u8], carrier: u64, identity: u64) -> Result<[u8; 10], Refusal> {
+    bytes(call!(tb6([cipher_key], carrier, identity)))
+}
+
+/// A group key of 12 bytes, with the xor of each three bytes behind them.
+pub fn tb7(group_key: &[u8]) -> Result<[u8; 16], Refusal> {
+    bytes(call!(tb7([group_key])))
 }
 
 /// The ring of a sitting, and both responses.
@@ -228,6 +332,28 @@ fn authentication(answer: raw::Authentication) -> Result<Authentication, Refusal
     })
 }
 
+fn unsealed<const N: usize>(answer: raw::Unsealed<N>) -> Result<Unsealed<N>, Refusal> {
+    Refusal::test(answer.refusal)?;
+    Ok(Unsealed {
+        key: answer.key,
+        flag: answer.flag,
+    })
+}
+
+fn numbered(answer: raw::UnsealedNumbered) -> Result<UnsealedNumbered, Refusal> {
+    Refusal::test(answer.refusal)?;
+    Ok(UnsealedNumbered {
+        key: answer.key,
+        number: KeyNumber(answer.number),
+        flag: answer.flag,
+    })
+}
+
+fn identified(answer: raw::Identity) -> Result<u32, Refusal> {
+    Refusal::test(answer.refusal)?;
+    Ok(answer.identity)
+}
+
 fn records(answer: &raw::BookAnswer) -> Result<usize, BookRefusal> {
     let index = answer.index;
     match Refusal::test(answer.refusal) {
@@ -240,4 +366,22 @@ fn book(answer: raw::BookAnswer, mut bytes: Vec<u8>) -> Result<Book, BookRefusal
     let records = records(&answer)?;
     bytes.truncate(answer.written);
     Ok(Book { records, bytes })
+}
+
+#[cfg(test)]
+mod tests {
+    use super::*;
+
+    /// The calls above make room enough, so only this one meets the refusal.
+    #[test]
+    fn short_outputs_are_refused() {
+        let (ring, plain) = ([0; 36], [4; PLAIN_RECORD]);
+        let mut out = vec![0; SEALED_RECORD - 1];
+        let refused = Err(BookRefusal {
+            refusal: Refusal::OutputShort,
+            index: 0,
+        });
+        let answer = call!(seal_book([ring], [plain], { out }));
+        assert_eq!(book(answer, out), refused);
+    }
 }

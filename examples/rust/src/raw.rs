@@ -23,6 +23,13 @@ pub struct Identity {
 }
 
 #[repr(C)]
+pub struct Unsealed<const N: usize> {
+    pub refusal: u32,
+    pub key: [u8; N],
+    pub flag: bool,
+}
+
+#[repr(C)]
 pub struct UnsealedNumbered {
     pub refusal: u32,
     pub key: [u8; 10],
@@ -68,12 +75,28 @@ declare! {
     decrypt([key], [block]) -> Bytes<8>;
     ta11([root], [seed]) -> Bytes<16>;
     ta21([root], [seed]) -> Bytes<16>;
+    ta41([root], [seed]) -> Bytes<16>;
     ta12([session_key], [challenge], response_mask: u16, key_mask: u16) -> Authentication;
     ta22([session_key], [challenge], response_mask: u16, key_mask: u16) -> Authentication;
+    ta31([cipher_key], version: Version, [sealing_key]) -> Bytes<15>;
+    ta32([text], [sealing_key], version: Version) -> Unsealed<10>;
     ta51([cipher_key], version: Version, [sealing_key], number: KeyNumber) -> Bytes<15>;
     ta52([text], [sealing_key], version: Version) -> UnsealedNumbered;
     ta61([common_key], identity: u64) -> Identity;
     ta61_inverse([common_key], encrypted_identity: u64) -> Identity;
+    ta71([key1], [key2]) -> Bytes<10>;
+    ta81([cipher_key], version: Version, [sealing_key], number: KeyNumber) -> Bytes<15>;
+    ta82([text], [sealing_key], version: Version) -> UnsealedNumbered;
+    ta91([group_key], version: Version, [sealing_key]) -> Bytes<15>;
+    ta92([text], [sealing_key], version: Version) -> Unsealed<12>;
+    ta101([ks], [gck0], mni: u64) -> Bytes<16>;
+    tb1(value: u64, width: u64) -> Bytes<16>;
+    tb2([input]) -> Bytes<16>;
+    tb3([input], value: u64, width: u64) -> Bytes<16>;
+    tb4([input1], [input2]) -> Bytes<10>;
+    tb5([cipher_key], location_area: u64, carrier: u64, colour_code: u64) -> Bytes<10>;
+    tb6([cipher_key], carrier: u64, identity: u64) -> Bytes<10>;
+    tb7([group_key]) -> Bytes<16>;
     ring(
         [root], [rs], [rso], [rand1], [rand2], [c], response_mask: u16, key_mask: u16
     ) -> RingMade;

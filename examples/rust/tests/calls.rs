@@ -1,62 +1,314 @@
-//! The single calls and the refusals through the wrapper.
+//! Every call and the refusals through the wrapper.
 
-use taa1::{BookRefusal, KeyNumber, Refusal, Version};
+use std::array::from_fn;
 
-const KEY16: [u8; 16] = [7; 16];
-const KEY10: [u8; 10] = [1, 2, 3, 4, 5, 6, 7, 8, 9, 10];
+use taa1::{
+    Authentication, Book, BookRefusal, KeyNumber, Refusal, RingMade, Sitting, Unsealed,
+    UnsealedNumbered, Version,
+};
+
+const ROOT: [u8; 16] = *b"a root or key...";
+const KEY: [u8; 10] = *b"cipher key";
+const VERSION: Version = Version(0x0708);
+const RESPONSE_MASK: u16 = 0xf000;
+const KEY_MASK: u16 = 0x0ffc;
+
+// The expansions of the bytes 01 02 .. upward: the cases a to f of the engine's
+// paper, with the zero byte that sealing puts behind EXP1 and EXP3.
+const EXP1_ZERO: [u8; 16] = [1, 2, 3, 3, 4, 7, 5, 6, 3, 7, 8, 15, 9, 10, 3, 0];
+const EXP2: [u8; 16] = [1, 2, 3, 3, 4, 7, 5, 6, 3, 7, 8, 15, 9, 10, 3, 31];
+const EXP4: [u8; 16] = [19, 3, 1, 2, 7, 3, 4, 11, 5, 6, 15, 7, 8, 19, 9, 10];
+const EXP3_ZERO: [u8; 16] = [1, 2, 3, 3, 4, 5, 2, 6, 7, 8, 9, 9, 10, 11, 8, 0];
+const X16: [u8; 16] = [1, 2, 3, 4, 4, 5, 6, 7, 8, 12, 9, 10, 11, 12, 4, 0];
+const TB7: [u8; 16] = [1, 2, 3, 0, 4, 5, 6, 7, 7, 8, 9, 6, 10, 11, 12, 13];
+
+/// The bytes 01 02 .. upward.
+fn upward<const N: usize>() -> [u8; N] {
+    from_fn(|i| i as u8 + 1)
+}
+
+fn xor<const N: usize>(a: [u8; N], b: [u8; N]) -> [u8; N] {
+    from_fn(|i| a[i] ^ b[i])
+}
+
+/// A string, xor [`VERSION`] repeated.
+fn with_version<const N: usize>(a: [u8; N]) -> [u8; N] {
+    xor(a, from_fn(|i| [7, 8][i % 2]))
+}
+
+/// Two blocks, the second xor the first's encryption.
+fn bl1(key: [u8; 16], data: [u8; 16]) -> [u8; 16] {
+    let left = taa1::encrypt(&key, &data[..8]).unwrap();
+    let mixed: [u8; 8] = from_fn(|i| data[8 + i] ^ left[i]);
+    let right = taa1::encrypt(&key, &mixed).unwrap();
+    [left, right].concat().try_into().unwrap()
+}
+
+/// The text of expanded data: byte 8 is left out, where byte 0 is rightmost.
+fn sealed(key: [u8; 16], data: [u8; 16]) -> [u8; 15] {
+    let text = bl1(key, data);
+    from_fn(|i| text[if i < 7 { i } else { i + 1 }])
+}
+
+/// A plain record of the identity 123456 and [`VERSION`].
+fn record(kind: u8, body: [u8; 12]) -> [u8; 18] {
+    let head = [kind, 0x12, 0x34, 0x56, 7, 8];
+    [&head[..], &body].concat().try_into().unwrap()
+}
+
+/// The body of a cipher key and what follows it.
+fn body(key: [u8; 10], end: [u8; 2]) -> [u8; 12] {
+    [&key[..], &end].concat().try_into().unwrap()
+}
 
 #[test]
 fn decryption_undoes_encryption() {
-    let block = *b"eight of";
-    let encrypted = taa1::encrypt(&KEY16, &block).unwrap();
-    assert_ne!(encrypted, block);
-    assert_eq!(taa1::decrypt(&KEY16, &encrypted), Ok(block));
-    assert_eq!(taa1::encrypt(&KEY10, &block), Err(Refusal::WrongLength));
+    let encrypted = [0xd1, 0x84, 0x10, 0x8a, 0x86, 0xbe, 0xfa, 0x5a];
+    let (key, block) = (upward::<16>(), upward());
+    assert_eq!(taa1::encrypt(&key, &block), Ok(encrypted));
+    assert_eq!(taa1::decrypt(&key, &encrypted), Ok(block));
 }
 
 #[test]
-fn sealed_keys_open() {
-    let version = Version(9);
-    let mut text = taa1::ta51(&KEY10, version, &KEY16, KeyNumber(31)).unwrap();
-    let opened = taa1::ta52(&text, &KEY16, version).unwrap();
-    assert_eq!(
-        (opened.key, opened.number, opened.flag),
-        (KEY10, KeyNumber(31), false)
-    );
-    text[0] ^= 1;
-    assert!(taa1::ta52(&text, &KEY16, version).unwrap().flag);
-    let wide = taa1::ta51(&KEY10, version, &KEY16, KeyNumber(32));
-    assert_eq!(wide, Err(Refusal::WrongNumber));
+fn session_keys_are_made() {
+    let mut seed = upward::<10>();
+    let key = Ok(bl1(ROOT, EXP2));
+    assert_eq!(taa1::ta11(&ROOT, &seed), key);
+    assert_eq!(taa1::ta41(&ROOT, &seed), key);
+    seed.reverse();
+    assert_eq!(taa1::ta21(&ROOT, &seed), key);
 }
 
+#[test]
+fn masks_choose() {
+    let (challenge, out) = (upward::<10>(), bl1(ROOT, EXP2));
+    let chosen = Ok(Authentication {
+        response: from_fn(|i| out[i]),
+        key: from_fn(|i| out[4 + i]),
+    });
+    let (response_mask, key_mask) = (RESPONSE_MASK, KEY_MASK);
+    let ta12 = taa1::ta12(&ROOT, &challenge, response_mask, key_mask);
+    let ta22 = taa1::ta22(&ROOT, &challenge, response_mask, key_mask);
+    assert_eq!((ta12, ta22), (chosen, chosen));
+}
+
+#[test]
+fn kind_1_is_sealed() {
+    let (key, sealing_key) = (upward(), with_version::<10>(upward()));
+    let text = sealed(EXP4, EXP1_ZERO);
+    assert_eq!(taa1::ta31(&key, VERSION, &sealing_key), Ok(text));
+    let opened = Unsealed { key, flag: false };
+    assert_eq!(taa1::ta32(&text, &sealing_key, VERSION), Ok(opened));
+}
+
+#[test]
+fn kind_2_is_sealed() {
+    let (key, sealing_key, number) = (upward(), with_version(ROOT), KeyNumber(0x0b));
+    let text = sealed(ROOT, EXP3_ZERO);
+    assert_eq!(taa1::ta51(&key, VERSION, &sealing_key, number), Ok(text));
+    let opened = UnsealedNumbered {
+        key,
+        number,
+        flag: false,
+    };
+    assert_eq!(taa1::ta52(&text, &sealing_key, VERSION), Ok(opened));
+}
+
+#[test]
+fn kind_3_is_sealed() {
+    let (key, sealing_key, number) = (upward(), with_version(ROOT), KeyNumber(0x0b0c));
+    let text = sealed(ROOT, X16);
+    assert_eq!(taa1::ta81(&key, VERSION, &sealing_key, number), Ok(text));
+    let opened = UnsealedNumbered {
+        key,
+        number,
+        flag: false,
+    };
+    assert_eq!(taa1::ta82(&text, &sealing_key, VERSION), Ok(opened));
+}
+
+#[test]
+fn kind_4_is_sealed() {
+    let (key, sealing_key) = (upward(), with_version(ROOT));
+    let text = sealed(ROOT, X16);
+    assert_eq!(taa1::ta91(&key, VERSION, &sealing_key), Ok(text));
+    let opened = Unsealed { key, flag: false };
+    assert_eq!(taa1::ta92(&text, &sealing_key, VERSION), Ok(opened));
+}
+
+#[test]
+fn other_texts_set_the_flag() {
+    let text = upward::<15>();
+    assert!(taa1::ta32(&text, &KEY, VERSION).unwrap().flag);
+    assert!(taa1::ta52(&text, &ROOT, VERSION).unwrap().flag);
+    assert!(taa1::ta82(&text, &ROOT, VERSION).unwrap().flag);
+    assert!(taa1::ta92(&text, &ROOT, VERSION).unwrap().flag);
+}
+
+/// The first record of the sample sitting.
 #[test]
 fn identities_come_back() {
-    let encrypted = taa1::ta61(&KEY10, 0xabcdef).unwrap();
-    assert_eq!(taa1::ta61_inverse(&KEY10, encrypted.into()), Ok(0xabcdef));
-    assert_eq!(taa1::ta61(&KEY10, 1 << 24), Err(Refusal::ValueWide));
+    let common_key: [u8; 10] = from_fn(|i| 0xc0 + i as u8);
+    assert_eq!(taa1::ta61(&common_key, 1), Ok(0xa29afc));
+    assert_eq!(taa1::ta61_inverse(&common_key, 0xa29afc), Ok(1));
 }
 
 #[test]
-fn masks_are_tested() {
-    let session_key = taa1::ta11(&KEY16, &KEY10).unwrap();
-    assert!(taa1::ta12(&session_key, &KEY10, 0x9009, 0x6db6).is_ok());
-    let few = taa1::ta12(&session_key, &KEY10, 0x9008, 0x6db6);
+fn keys_are_made_from_keys() {
+    let (a, b) = (upward::<10>(), KEY);
+    let key: [u8; 16] = from_fn(|i| match i {
+        0..6 => a[i],
+        6..10 => a[i] ^ b[i - 6],
+        _ => b[i - 6],
+    });
+    let out = taa1::ta11(&key, &xor(a, b)).unwrap();
+    assert_eq!(taa1::ta71(&a, &b), Ok(from_fn(|i| out[3 + i])));
+
+    let copies = [0x12, 0x34, 0x56, 0x12, 0x34, 0x56, 0x12, 0x34, 0x56, 0];
+    let wanted = taa1::ta11(&ROOT, &xor(KEY, copies));
+    assert_eq!(taa1::ta101(&ROOT, &KEY, 0x123456), wanted);
+}
+
+#[test]
+fn keys_are_mixed() {
+    let copy = [0x12, 0x34, 0x51, 0x23, 0x45];
+    let repeated = from_fn(|i| copy[i % 5]);
+    assert_eq!(taa1::tb1(0x12345, 20), Ok(repeated));
+    assert_eq!(taa1::tb2(&ROOT), Ok(ROOT));
+    assert_eq!(taa1::tb3(&ROOT, 0x12345, 20), Ok(xor(ROOT, repeated)));
+    assert_eq!(taa1::tb4(&upward::<10>(), &KEY), Ok(xor(upward(), KEY)));
+    assert_eq!(taa1::tb7(&upward::<12>()), Ok(TB7));
+}
+
+#[test]
+fn keys_are_made_for_cells() {
+    let one = [0, 0, 0, 1, 0, 0, 0x40, 0, 0x10, 0];
+    assert_eq!(taa1::tb5(&[0; 10], 0, 0, 1), Ok(one));
+    assert_eq!(taa1::tb5(&KEY, 0, 0, 1), Ok(xor(KEY, one)));
+    // Each field at its widest, so that none is taken for another.
+    let widest = taa1::tb5(&[0; 10], 0x3fff, 0xfff, 0x3f);
+    assert_eq!(widest, Ok([0xff; 10]));
+    let carried = [0xab, 0xc1, 0x23, 0x45, 0x6a, 0xbc, 0x12, 0x34, 0x56, 0x56];
+    assert_eq!(taa1::tb6(&KEY, 0xabc, 0x123456), Ok(xor(KEY, carried)));
+}
+
+#[test]
+fn rings_are_made() {
+    let (rs, rso, c) = (upward::<10>(), KEY, *b"common key");
+    let (rand1, rand2) = (b"challenge1", b"challenge2");
+    let (response_mask, key_mask) = (RESPONSE_MASK, KEY_MASK);
+    let made = taa1::ring(&Sitting {
+        root: &ROOT,
+        rs: &rs,
+        rso: &rso,
+        rand1,
+        rand2,
+        c: &c,
+        response_mask,
+        key_mask,
+    });
+
+    let key1 = taa1::ta11(&ROOT, &rs).unwrap();
+    let key2 = taa1::ta21(&ROOT, &rs).unwrap();
+    let first = taa1::ta12(&key1, rand1, response_mask, key_mask).unwrap();
+    let second = taa1::ta22(&key2, rand2, response_mask, key_mask).unwrap();
+    let d = taa1::tb4(&first.key, &second.key).unwrap();
+    let o = taa1::ta41(&ROOT, &rso).unwrap();
+    let wanted = RingMade {
+        ring: [&d[..], &o, &c].concat().try_into().unwrap(),
+        response1: first.response,
+        response2: second.response,
+    };
+    assert_eq!(made, Ok(wanted));
+}
+
+#[test]
+fn books_are_sealed_and_opened() {
+    let (ring, key, group_key) = (upward::<36>(), upward(), upward());
+    let (d, o, c) = (&ring[..10], &ring[10..26], &ring[26..]);
+    let plain = [
+        record(1, body(key, [0, 0])),
+        record(2, body(key, [0, 31])),
+        record(3, body(key, [11, 12])),
+        record(4, group_key),
+    ]
+    .concat();
+    let texts = [
+        taa1::ta31(&key, VERSION, d),
+        taa1::ta51(&key, VERSION, o, KeyNumber(31)),
+        taa1::ta81(&key, VERSION, o, KeyNumber(0x0b0c)),
+        taa1::ta91(&group_key, VERSION, o),
+    ];
+    let identity = taa1::ta61(c, 0x123456).unwrap().to_be_bytes();
+    let mut wanted = Vec::new();
+    for (kind, text) in (1..).zip(texts) {
+        wanted.push(kind);
+        wanted.extend(&identity[1..]);
+        wanted.extend([7, 8]);
+        wanted.extend(text.unwrap());
+    }
+
+    let book = |bytes: &[u8]| {
+        Ok(Book {
+            records: 4,
+            bytes: bytes.into(),
+        })
+    };
+    assert_eq!(taa1::seal_book(&ring, &plain), book(&wanted));
+    assert_eq!(taa1::open_book(&ring, &wanted), book(&plain));
+    assert_eq!(taa1::check_plain(&plain), Ok(4));
+}
+
+#[test]
+fn longest_and_empty_books_are_sealed_and_opened() {
+    let ring = upward::<36>();
+    for records in [0, 1024] {
+        let plain = record(4, upward()).repeat(records);
+        assert_eq!(taa1::check_plain(&plain), Ok(records));
+        let sealed = taa1::seal_book(&ring, &plain).unwrap();
+        assert_eq!(sealed.records, records);
+        let opened = taa1::open_book(&ring, &sealed.bytes).unwrap();
+        assert_eq!(opened.bytes, plain);
+    }
+}
+
+/// All but the short output, which cannot arise here.
+#[test]
+fn books_are_refused() {
+    let refused = |refusal, index| Some(BookRefusal { refusal, index });
+    let check = |plain: &[u8]| taa1::check_plain(plain).err();
+    let seal = |plain: &[u8]| taa1::seal_book(&upward::<36>(), plain).err();
+    let open = |sealed: &[u8]| taa1::open_book(&upward::<36>(), sealed).err();
+    let good = record(4, upward());
+
+    let long = refused(Refusal::BookTooLong, 0);
+    assert_eq!(check(&[0; 18 * 1024 + 1]), long);
+    assert_eq!(open(&[0; 21 * 1024 + 1]), long);
+    assert_eq!(seal(&good[1..]), refused(Refusal::BookNotWhole, 0));
+    let kind = [good, [0; 18]].concat();
+    assert_eq!(seal(&kind), refused(Refusal::WrongKind, 1));
+    let end = [good, good, record(1, upward())].concat();
+    assert_eq!(check(&end), refused(Refusal::NotZero, 2));
+    let number = [good, record(2, body(KEY, [0, 32]))].concat();
+    assert_eq!(seal(&number), refused(Refusal::WrongNumber, 1));
+    assert_eq!(open(&[1; 21]), refused(Refusal::FlagSet, 0));
+    let short = taa1::seal_book(&upward::<35>(), &good).err();
+    assert_eq!(short, refused(Refusal::WrongLength, 0));
+}
+
+#[test]
+fn single_calls_are_refused() {
+    let number = taa1::ta51(&KEY, VERSION, &ROOT, KeyNumber(32));
+    assert_eq!(number, Err(Refusal::WrongNumber));
+    let few = taa1::ta12(&ROOT, &KEY, 0x7000, KEY_MASK);
     assert_eq!(few, Err(Refusal::WrongMask));
-    let shared = taa1::ta22(&session_key, &KEY10, 0x900a, 0x6db6);
+    let shared = taa1::ta22(&ROOT, &KEY, 0x3c00, KEY_MASK);
     assert_eq!(shared, Err(Refusal::SharedBit));
-}
-
-#[test]
-fn plain_books_are_checked() {
-    let refused = |refusal, index| Err(BookRefusal { refusal, index });
-    let mut book = [[0; 18]; 2];
-    book[0][0] = 4;
-    book[1][0] = 1;
-    assert_eq!(taa1::check_plain(book.as_flattened()), Ok(2));
-    book[1][17] = 1;
-    let answer = taa1::check_plain(book.as_flattened());
-    assert_eq!(answer, refused(Refusal::NotZero, 1));
-    assert_eq!(taa1::check_plain(&[]), Ok(0));
+    assert_eq!(taa1::tb1(1, 15), Err(Refusal::WrongWidth));
+    assert_eq!(taa1::tb3(&ROOT, 1, 33), Err(Refusal::WrongWidth));
+    assert_eq!(taa1::tb1(1 << 16, 16), Err(Refusal::ValueWide));
+    assert_eq!(taa1::ta61(&KEY, 1 << 24), Err(Refusal::ValueWide));
+    assert_eq!(taa1::encrypt(&KEY, b"8 bytes."), Err(Refusal::WrongLength));
 }
 
 #[test]
@@ -64,4 +316,12 @@ fn refusals_have_their_numbers() {
     for (refusal, number) in Refusal::ALL.into_iter().zip(1..) {
         assert_eq!(refusal.number(), number);
     }
+}
+
+#[test]
+fn refusals_have_their_texts() {
+    let refusal = Refusal::WrongKind;
+    assert_eq!(refusal.to_string(), "refused 3 (kind not 1 to 4)");
+    let refused = BookRefusal { refusal, index: 7 };
+    assert_eq!(refused.to_string(), "refused 3 at 7 (kind not 1 to 4)");
 }

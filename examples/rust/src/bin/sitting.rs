@@ -3,15 +3,19 @@
 //!
 //!     sitting [FOLDER]    the folder with the three files; samples by default
 
+use std::ffi::OsStr;
 use std::io::{self, Write};
+use std::path::Path;
 use std::process::ExitCode;
 use std::{env, fs};
 
 use taa1::{Sitting, SEALED_RECORD};
 
-fn read(folder: &str, name: &str) -> Result<Vec<u8>, String> {
-    let path = format!("{folder}/{name}");
-    fs::read(&path).map_err(|_| format!("{path} cannot be read"))
+fn read(folder: &OsStr, name: &str) -> Result<Vec<u8>, String> {
+    let mut path = folder.to_os_string();
+    path.push("/");
+    path.push(name);
+    fs::read(&path).map_err(|_| format!("{} cannot be read", Path::new(&path).display()))
 }
 
 /// The sitting in the bytes of sitting.bin.
@@ -36,7 +40,7 @@ fn hex(bytes: &[u8]) -> String {
 }
 
 /// The lines of a sitting, as far as it goes, into `lines`.
-fn play(folder: &str, lines: &mut Vec<String>) -> Result<(), String> {
+fn play(folder: &OsStr, lines: &mut Vec<String>) -> Result<(), String> {
     let sitting = read(folder, "sitting.bin")?;
     let plain = read(folder, "plain.book")?;
     let candidate = read(folder, "candidate.book")?;
@@ -94,7 +98,7 @@ fn print(lines: &[String]) -> io::Result<()> {
 }
 
 fn main() -> ExitCode {
-    let folder = env::args().nth(1).unwrap_or_else(|| "samples".into());
+    let folder = env::args_os().nth(1).unwrap_or_else(|| "samples".into());
     let mut lines = Vec::new();
     let played = play(&folder, &mut lines);
     let printed = print(&lines).map_err(|_| "standard output cannot be written".into());

@@ -1,0 +1,371 @@
+"""Calls everything in the module: results, refusals and values of wrong types.
+
+    TAA1_LIBRARY=target/libtaa1.so python3 examples/python/test_taa1.py
+"""
+
+from __future__ import annotations
+
+import copy
+import os
+import pickle
+import unittest
+from typing import Any, Callable
+
+import taa1
+from taa1 import KeyNumber, Refused, Sitting, Version
+
+ENGINE = taa1.Engine(os.path.abspath(os.environ["TAA1_LIBRARY"]))
+
+
+def upward(length: int) -> bytes:
+    """The bytes 01 02 .. upward."""
+    return bytes(range(1, length + 1))
+
+
+# The expansions of the bytes upward: the cases a to f of the engine's paper.
+EXP1 = bytes.fromhex("01 02 03 03 04 07 05 06 03 07 08 0f 09 0a 03")
+EXP2 = EXP1 + b"\x1f"
+EXP4 = bytes.fromhex("13 03 01 02 07 03 04 0b 05 06 0f 07 08 13 09 0a")
+EXP3 = bytes.fromhex("01 02 03 03 04 05 02 06 07 08 09 09 0a 0b 08")
+X16 = bytes.fromhex("01 02 03 04 04 05 06 07 08 0c 09 0a 0b 0c 04 00")
+TB7 = bytes.fromhex("01 02 03 00 04 05 06 07 07 08 09 06 0a 0b 0c 0d")
+
+ROOT = bytes(range(0x30, 0x40))
+KEY = bytes(range(0x50, 0x5A))
+BLOCK = upward(8)
+VERSION = Version(0x0708)
+RESPONSE_MASK = 0xF000
+KEY_MASK = 0x0FFC
+SITTING = Sitting(
+    ROOT, upward(10), KEY, b"challenge1", b"challenge2", b"common key", RESPONSE_MASK, KEY_MASK
+)
+RING = upward(36)
+
+
+def record(kind: int, body: bytes) -> bytes:
+    """A plain record of the identity 123456 and the version 0708."""
+    return bytes([kind, 0x12, 0x34, 0x56, 7, 8]) + body
+
+
+BOOK = [
+    record(1, upward(10) + bytes(2)),
+    record(2, upward(10) + b"\x00\x1f"),
+    record(3, upward(10) + b"\x0b\x0c"),
+    record(4, KEY + b"ok"),
+]
+
+# For each call, values that it accepts.
+ACCEPTED: dict[str, tuple[Any, ...]] = {
+    "encrypt": (ROOT, BLOCK),
+    "decrypt": (ROOT, BLOCK),
+    "ta11": (ROOT, KEY),
+    "ta21": (ROOT, KEY),
+    "ta41": (ROOT, KEY),
+    "ta12": (ROOT, KEY, RESPONSE_MASK, KEY_MASK),
+    "ta22": (ROOT, KEY, RESPONSE_MASK, KEY_MASK),
+    "ta31": (KEY, VERSION, KEY),
+    "ta32": (upward(15), KEY, VERSION),
+    "ta51": (KEY, VERSION, ROOT, KeyNumber(31)),
+    "ta52": (upward(15), ROOT, VERSION),
+    "ta61": (KEY, 1),
+    "ta61_inverse": (KEY, 1),
+    "ta71": (KEY, KEY),
+    "ta81": (KEY, VERSION, ROOT, KeyNumber(31)),
+    "ta82": (upward(15), ROOT, VERSION),
+    "ta91": (upward(12), VERSION, ROOT),
+    "ta92": (upward(15), ROOT, VERSION),
+    "ta101": (ROOT, KEY, 1),
+    "tb1": (1, 16),
+    "tb2": (ROOT,),
+    "tb3": (ROOT, 1, 16),
+    "tb4": (KEY, KEY),
+    "tb5": (KEY, 1, 1, 1),
+    "tb6": (KEY, 1, 1),
+    "tb7": (upward(12),),
+    "ring": SITTING,
+    "seal_book": (RING, BOOK[0]),
+    "open_book": (RING, ENGINE.seal_book(RING, BOOK[0]).content),
+    "check_plain": (BOOK[0],),
+}
+
+# For each type of value, what must not be taken for it.
+WRONG: dict[type, tuple[Any, ...]] = {
+    bytes: (None, 16, "text", [1, 2], 1.5, VERSION),
+    int: (None, "1", b"1", 1.0, VERSION, KeyNumber(1)),
+    Version: (None, 1, True, b"\x00\x01", KeyNumber(1)),
+    KeyNumber: (None, 1, True, b"\x00\x01", Version(1)),
+}
+
+
+def call(name: str, *values: Any) -> Any:
+    """The result of a call by its name."""
+    if name == "ring":
+        return ENGINE.ring(Sitting(*values))
+    return getattr(ENGINE, name)(*values)
+
+
+def xor(a: bytes, b: bytes) -> bytes:
+    """The xor of two strings of one length."""
+    return bytes(x ^ y for x, y in zip(a, b))
+
+
+def bl1(key: bytes, data: bytes) -> bytes:
+    """Two blocks, the second xor the first's encryption."""
+    left = ENGINE.encrypt(key, data[:8])
+    return left + ENGINE.encrypt(key, xor(data[8:], left))
+
+
+def sealed(key: bytes, data: bytes) -> bytes:
+    """The text of expanded data: byte 8 is left out, where byte 0 is rightmost."""
+    text = bl1(key, data)
+    return text[:7] + text[8:]
+
+
+class Results(unittest.TestCase):
+    """What the calls answer."""
+
+    def test_cipher(self) -> None:
+        encrypted = bytes.fromhex("d184108a86befa5a")
+        self.assertEqual(ENGINE.encrypt(upward(16), BLOCK), encrypted)
+        self.assertEqual(ENGINE.decrypt(upward(16), encrypted), BLOCK)
+
+    def test_session_keys(self) -> None:
+        key = bl1(ROOT, EXP2)
+        self.assertEqual(ENGINE.ta11(ROOT, upward(10)), key)
+        self.assertEqual(ENGINE.ta21(ROOT, upward(10)[::-1]), key)
+        self.assertEqual(ENGINE.ta41(ROOT, upward(10)), key)
+
+    def test_responses(self) -> None:
+        out = bl1(ROOT, EXP2)
+        for name in ("ta12", "ta22"):
+            with self.subTest(name):
+                answer = call(name, ROOT, upward(10), RESPONSE_MASK, KEY_MASK)
+                self.assertEqual((answer.response, answer.key), (out[:4], out[4:14]))
+
+    def test_seals(self) -> None:
+        under10 = xor(upward(10), b"\x07\x08" * 5)
+        under16 = xor(ROOT, b"\x07\x08" * 8)
+        key, group_key = upward(10), upward(12)
+        kind1 = sealed(EXP4, EXP1 + b"\0")
+        kind2 = sealed(ROOT, EXP3 + b"\0")
+        wide = sealed(ROOT, X16)
+
+        self.assertEqual(ENGINE.ta31(key, VERSION, under10), kind1)
+        self.assertEqual(ENGINE.ta51(key, VERSION, under16, KeyNumber(0x0B)), kind2)
+        self.assertEqual(ENGINE.ta81(key, VERSION, under16, KeyNumber(0x0B0C)), wide)
+        self.assertEqual(ENGINE.ta91(group_key, VERSION, under16), wide)
+
+        self.assertEqual(ENGINE.ta32(kind1, under10, VERSION), (key, False))
+        self.assertEqual(ENGINE.ta52(kind2, under16, VERSION), (key, 0x0B, False))
+        self.assertEqual(ENGINE.ta82(wide, under16, VERSION), (key, 0x0B0C, False))
+        self.assertEqual(ENGINE.ta92(wide, under16, VERSION), (group_key, False))
+
+    def test_flags(self) -> None:
+        for name in ("ta32", "ta52", "ta82", "ta92"):
+            with self.subTest(name):
+                self.assertIs(call(name, *ACCEPTED[name]).flag, True)
+
+    def test_identities(self) -> None:
+        # The first record of the sample sitting.
+        common_key = bytes(range(0xC0, 0xCA))
+        self.assertEqual(ENGINE.ta61(common_key, 1), 0xA29AFC)
+        self.assertEqual(ENGINE.ta61_inverse(common_key, 0xA29AFC), 1)
+
+    def test_keys_from_keys(self) -> None:
+        a, b = upward(10), KEY
+        key = a[:6] + xor(a[6:], b[:4]) + b[4:]
+        self.assertEqual(ENGINE.ta71(a, b), ENGINE.ta11(key, xor(a, b))[3:13])
+        seed = xor(KEY, bytes.fromhex("123456" * 3 + "00"))
+        self.assertEqual(ENGINE.ta101(ROOT, KEY, 0x123456), ENGINE.ta11(ROOT, seed))
+
+    def test_mixing(self) -> None:
+        repeated = bytes.fromhex("12345" * 6 + "12")
+        self.assertEqual(ENGINE.tb1(0x12345, 20), repeated)
+        self.assertEqual(ENGINE.tb2(ROOT), ROOT)
+        self.assertEqual(ENGINE.tb3(ROOT, 0x12345, 20), xor(ROOT, repeated))
+        self.assertEqual(ENGINE.tb4(upward(10), KEY), xor(upward(10), KEY))
+        self.assertEqual(ENGINE.tb7(upward(12)), TB7)
+
+    def test_cells(self) -> None:
+        one = bytes.fromhex("00 00 00 01 00 00 40 00 10 00")
+        self.assertEqual(ENGINE.tb5(bytes(10), 0, 0, 1), one)
+        self.assertEqual(ENGINE.tb5(KEY, 0, 0, 1), xor(KEY, one))
+        widest = ENGINE.tb5(bytes(10), 0x3FFF, 0xFFF, 0x3F)
+        self.assertEqual(widest, b"\xff" * 10)
+        carried = bytes.fromhex("ab c1 23 45 6a bc 12 34 56 56")
+        self.assertEqual(ENGINE.tb6(KEY, 0xABC, 0x123456), xor(KEY, carried))
+
+    def test_ring(self) -> None:
+        root, rs, rso, rand1, rand2, c, *masks = SITTING
+        first = ENGINE.ta12(ENGINE.ta11(root, rs), rand1, *masks)
+        second = ENGINE.ta22(ENGINE.ta21(root, rs), rand2, *masks)
+        ring = ENGINE.tb4(first.key, second.key) + ENGINE.ta41(root, rso) + c
+        self.assertEqual(ENGINE.ring(SITTING), (ring, first.response, second.response))
+
+    def test_books(self) -> None:
+        kind1, others, c = RING[:10], RING[10:26], RING[26:]
+        texts = [
+            ENGINE.ta31(upward(10), VERSION, kind1),
+            ENGINE.ta51(upward(10), VERSION, others, KeyNumber(31)),
+            ENGINE.ta81(upward(10), VERSION, others, KeyNumber(0x0B0C)),
+            ENGINE.ta91(KEY + b"ok", VERSION, others),
+        ]
+        identity = ENGINE.ta61(c, 0x123456).to_bytes(3, "big")
+        wanted = b"".join(
+            bytes([kind]) + identity + b"\x07\x08" + text for kind, text in enumerate(texts, 1)
+        )
+        plain = b"".join(BOOK)
+        self.assertEqual(ENGINE.seal_book(RING, plain), (4, wanted))
+        self.assertEqual(ENGINE.open_book(RING, wanted), (4, plain))
+        self.assertEqual(ENGINE.check_plain(plain), 4)
+
+    def test_longest_and_empty_books(self) -> None:
+        for plain in (b"", BOOK[3] * 1024):
+            sealed_book = ENGINE.seal_book(RING, plain)
+            self.assertEqual(sealed_book.records, len(plain) // 18)
+            self.assertEqual(ENGINE.open_book(RING, sealed_book.content).content, plain)
+            self.assertEqual(ENGINE.check_plain(plain), len(plain) // 18)
+
+
+class Refusals(unittest.TestCase):
+    """What the calls refuse."""
+
+    def refuses(self, number: int, index: int | None, name: str, *values: Any) -> None:
+        """The call is refused so."""
+        with self.subTest(number=number, call=name):
+            with self.assertRaises(Refused) as caught:
+                call(name, *values)
+            refused = caught.exception
+            wanted = (number, index, taa1.NAMES[number])
+            self.assertEqual((refused.number, refused.index, refused.name), wanted)
+
+    def test_books(self) -> None:
+        good = BOOK[3]
+        self.refuses(1, 0, "check_plain", bytes(18 * 1024 + 1))
+        self.refuses(1, 0, "open_book", RING, bytes(21 * 1024 + 1))
+        self.refuses(2, 0, "seal_book", RING, good[1:])
+        self.refuses(3, 1, "seal_book", RING, good + bytes(18))
+        self.refuses(4, 2, "check_plain", good * 2 + record(1, upward(12)))
+        self.refuses(5, 1, "seal_book", RING, good + record(2, bytes(11) + b"\x20"))
+        self.refuses(6, 0, "open_book", RING, b"\x01" * 21)
+        self.refuses(11, 0, "seal_book", RING[1:], good)
+
+    def test_single_calls(self) -> None:
+        self.refuses(5, None, "ta51", KEY, VERSION, ROOT, KeyNumber(32))
+        self.refuses(7, None, "ta12", ROOT, KEY, 0x7000, KEY_MASK)
+        self.refuses(8, None, "ta22", ROOT, KEY, 0x3C00, KEY_MASK)
+        self.refuses(7, None, "ring", *SITTING[:6], KEY_MASK, RESPONSE_MASK)
+        self.refuses(9, None, "tb1", 1, 15)
+        self.refuses(9, None, "tb3", ROOT, 1, 33)
+        self.refuses(10, None, "ta61", KEY, 1 << 24)
+        self.refuses(10, None, "tb1", 1 << 16, 16)
+
+    def test_lengths(self) -> None:
+        """A string of a wrong length, in each place that has a fixed one."""
+        for name, values in ACCEPTED.items():
+            for at, value in enumerate(values):
+                if isinstance(value, bytes) and value not in (BOOK[0], ACCEPTED["open_book"][1]):
+                    index = 0 if name.endswith("book") else None
+                    self.refuses(11, index, name, *values[:at], value[1:], *values[at + 1 :])
+
+    def test_short_output(self) -> None:
+        """Only a call with too little room is refused so, and the module makes room."""
+        with self.assertRaises(Refused) as caught:
+            ENGINE._book("seal_book", RING, BOOK[0], 0)
+        self.assertEqual(str(caught.exception), "refused 12 at 0 (output shorter than the result)")
+
+    def test_names(self) -> None:
+        self.assertEqual(list(taa1.NAMES), list(range(1, 13)))
+
+    def test_text(self) -> None:
+        self.assertEqual(str(Refused(9)), "refused 9 (width not 16 to 32)")
+        self.assertEqual(str(Refused(3, 0)), "refused 3 at 0 (kind not 1 to 4)")
+
+    def test_copies(self) -> None:
+        again: list[Callable[[Any], Any]] = [
+            copy.copy,
+            copy.deepcopy,
+            lambda refused: pickle.loads(pickle.dumps(refused)),
+        ]
+        for refused in (Refused(9), Refused(3, 7)):
+            for made in (make(refused) for make in again):
+                self.assertIs(type(made), Refused)
+                self.assertEqual(vars(made), vars(refused))
+                self.assertEqual(str(made), str(refused))
+
+
+class Values(unittest.TestCase):
+    """What the calls take."""
+
+    def test_every_call(self) -> None:
+        """ACCEPTED, which the tests below go by, has each call, and each accepts it."""
+        public = {name for name in vars(taa1.Engine) if not name.startswith("_")}
+        self.assertEqual(set(ACCEPTED), public)
+        self.assertEqual(len(public), 30)
+        for name, values in ACCEPTED.items():
+            with self.subTest(name):
+                call(name, *values)
+
+    def test_wrong_types(self) -> None:
+        for name, values in ACCEPTED.items():
+            for at, value in enumerate(values):
+                for wrong in WRONG[type(value)]:
+                    with self.subTest(call=name, argument=at + 1, value=wrong):
+                        text = f"^{name}, argument {at + 1}: .* expected, not "
+                        with self.assertRaisesRegex(TypeError, text):
+                            call(name, *values[:at], wrong, *values[at + 1 :])
+
+    def test_sittings(self) -> None:
+        for wrong in (None, bytes(70), tuple(SITTING)):
+            with self.assertRaisesRegex(TypeError, "Sitting expected"):
+                ENGINE.ring(wrong)  # type: ignore[arg-type]
+
+    def test_byte_strings(self) -> None:
+        """Any kind of byte string is taken, also a view with gaps."""
+        kinds: list[Callable[[bytes], Any]] = [
+            bytearray,
+            memoryview,
+            lambda value: memoryview(bytes(b for byte in value for b in (byte, 0)))[::2],
+        ]
+        for name, values in ACCEPTED.items():
+            wanted = call(name, *values)
+            for kind in kinds:
+                with self.subTest(name):
+                    made = (kind(value) if isinstance(value, bytes) else value for value in values)
+                    self.assertEqual(call(name, *made), wanted)
+
+    def test_wide_integers(self) -> None:
+        """The widest that fits goes to the engine, which refuses it."""
+        for name, values in ACCEPTED.items():
+            bits = 16 if name in ("ta12", "ta22", "ring") else 64
+            for at, value in enumerate(values):
+                if not isinstance(value, int):
+                    continue
+                for wide, error in (
+                    ((1 << bits) - 1, Refused),
+                    (1 << bits, OverflowError),
+                    (1 << 20000, OverflowError),
+                    (-1, OverflowError),
+                ):
+                    with self.subTest(call=name, argument=at + 1), self.assertRaises(error):
+                        call(name, *values[:at], wide, *values[at + 1 :])
+
+    def test_booleans(self) -> None:
+        self.assertEqual(ENGINE.ta61(KEY, True), ENGINE.ta61(KEY, 1))
+
+    def test_numbers(self) -> None:
+        for kind in (Version, KeyNumber):
+            with self.subTest(kind.__name__):
+                self.assertEqual(kind(0xFFFF), kind(0xFFFF))
+                for wide in (-1, 0x10000):
+                    self.assertRaises(OverflowError, kind, wide)
+                for wrong in (None, "1", 1.0, b"1", kind(1)):
+                    self.assertRaises(TypeError, kind, wrong)
+        self.assertNotEqual(Version(1), KeyNumber(1))
+
+    def test_libraries(self) -> None:
+        self.assertRaises(OSError, taa1.Engine, "/no/such/library")
+
+
+if __name__ == "__main__":
+    unittest.main()
