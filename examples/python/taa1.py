@@ -119,7 +119,7 @@ class UnsealedNumbered(NamedTuple):
     """A key and its number. A set flag says that the text is not what sealing gives."""
 
     key: bytes
-    number: int
+    number: KeyNumber
     flag: bool
 
 
@@ -137,10 +137,16 @@ class _Written(NamedTuple):
     length: int
 
 
+def _numbered(key: bytes, number: int, flag: bool) -> UnsealedNumbered:
+    """The result from an answer's fields."""
+    return UnsealedNumbered(key, KeyNumber(number), flag)
+
+
 def _answer(result: Callable[..., Any], **fields: Any) -> type[ctypes.Structure]:
     """The struct of an answer: the refusal's number, then the fields that the result has."""
     members = [("refusal", c_uint32), *fields.items()]
-    return type("Answer", (ctypes.Structure,), {"_fields_": members, "result": result})
+    body = {"_fields_": members, "result": staticmethod(result)}
+    return type("Answer", (ctypes.Structure,), body)
 
 
 _BYTES8 = _answer(bytes, bytes=c_uint8 * 8)
@@ -150,7 +156,7 @@ _BYTES16 = _answer(bytes, bytes=c_uint8 * 16)
 _AUTHENTICATION = _answer(Authentication, response=c_uint8 * 4, key=c_uint8 * 10)
 _IDENTITY = _answer(int, identity=c_uint32)
 _UNSEALED = _answer(Unsealed, key=c_uint8 * 10, flag=c_bool)
-_UNSEALED_NUMBERED = _answer(UnsealedNumbered, key=c_uint8 * 10, number=c_uint16, flag=c_bool)
+_UNSEALED_NUMBERED = _answer(_numbered, key=c_uint8 * 10, number=c_uint16, flag=c_bool)
 _UNSEALED_GROUP = _answer(Unsealed, key=c_uint8 * 12, flag=c_bool)
 _RING_MADE = _answer(RingMade, ring=c_uint8 * 36, response1=c_uint8 * 4, response2=c_uint8 * 4)
 _BOOK = _answer(_Written, index=c_size_t, written=c_size_t)

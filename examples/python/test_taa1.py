@@ -156,8 +156,8 @@ class Results(unittest.TestCase):
         self.assertEqual(ENGINE.ta91(group_key, VERSION, under16), wide)
 
         self.assertEqual(ENGINE.ta32(kind1, under10, VERSION), (key, False))
-        self.assertEqual(ENGINE.ta52(kind2, under16, VERSION), (key, 0x0B, False))
-        self.assertEqual(ENGINE.ta82(wide, under16, VERSION), (key, 0x0B0C, False))
+        self.assertEqual(ENGINE.ta52(kind2, under16, VERSION), (key, KeyNumber(0x0B), False))
+        self.assertEqual(ENGINE.ta82(wide, under16, VERSION), (key, KeyNumber(0x0B0C), False))
         self.assertEqual(ENGINE.ta92(wide, under16, VERSION), (group_key, False))
 
     def test_flags(self) -> None:
