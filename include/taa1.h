@@ -1,7 +1,7 @@
 /*
  * The TAA1 engine for hosts in C and C++; link with libengine.a.
  *
- * A byte string goes in as a pointer and a length. Any length may be handed
+ * Byte strings are passed as a pointer and a length. Any length may be handed
  * in: the call tests it and refuses a wrong one. The pointer must be good for
  * the length, and may be null where that is 0. The leftmost byte of a string
  * stands first. A length in brackets, in the comments below, is the one that
@@ -120,8 +120,8 @@ typedef struct {
 } taa1_ring_made;
 
 /*
- * The index is that of the first offending record on a refusal (0 for 1, 2, 11
- * and 12), and the number of records where the book is accepted.
+ * The index: in a refused book, that of the first offending record (0 for 1, 2, 11
+ * and 12); in an accepted one, how many records it has.
  */
 typedef struct {
     uint32_t refusal;
@@ -296,7 +296,7 @@ taa1_ring_made taa1_ring(const uint8_t *root, size_t root_length,
  * byte and a number of 0 to 31 (kind 2), a key [10] and a number of two bytes
  * (kind 3), or a group key [12] (kind 4). Numbers have the high byte first.
  *
- * A sealed record has 21 bytes: kind, TA61 of the identity under c, version,
+ * A sealed record has 21 bytes: kind, encrypted identity (TA61 under c), version,
  * and the sealed text [15] of the kind's call.
  *
  * The output must not overlap an input. It may be longer than the result: the
