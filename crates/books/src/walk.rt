@@ -23,7 +23,7 @@ impl Direction {
     pub const SEALED: usize = 21;
 
     // The bytes of a record that comes in.
-    pub fn size(self) -> usize
+    pub(crate) fn size(self) -> usize
         ensures { λ r. ⌜ r ≡ sizeOf self ⌝ }
     {
         match self {
@@ -33,7 +33,7 @@ impl Direction {
     }
 
     // The bytes of a record that goes out.
-    pub fn to(self) -> usize
+    pub(crate) fn to(self) -> usize
         ensures { λ r. ⌜ r ≡ toOf self ⌝ }
     {
         match self {
@@ -69,7 +69,7 @@ pub struct Stop {
     pub index: usize,
 }
 
-pub fn scan(way: Direction, ring: &[u8; 36], book: &[u8], n: usize) -> Stop
+pub(crate) fn scan(way: Direction, ring: &[u8; 36], book: &[u8], n: usize) -> Stop
     requires { ⌜ sizeOf way * n ≤ length (now book) ⌝ }
     ensures { λ s. ⌜ Stopped n (faultAt (now (ring .entry)) way (now (book .entry))) (s .number) (s .index) ⌝ }
 {
@@ -113,7 +113,7 @@ fn write_with(
 }
 
 // The identity strings are made once for a book, and for no empty one.
-pub fn write(way: Direction, ring: &[u8; 36], book: &[u8], n: usize, out: &mut [u8])
+pub(crate) fn write(way: Direction, ring: &[u8; 36], book: &[u8], n: usize, out: &mut [u8])
     requires { ⌜ (sizeOf way * n ≤ length (now book)) × (toOf way * n ≤ length (now out)) ⌝ }
     ensures { λ _. ⌜ now (out .exit) ≡ each n (sizeOf way) (wayOf (now (ring .entry)) way .convert) (now (book .entry)) ++ drop (toOf way * n) (now (out .entry)) ⌝ }
 {

@@ -161,7 +161,7 @@ fn rounds(keys: &[u8; 192], h: Halves, back: bool) -> Halves
 }
 
 // The block through sixteen rounds; `back` takes the round keys in reverse order.
-pub fn crypt(keys: &[u8; 192], block: [u8; 8], back: bool) -> [u8; 8]
+pub(crate) fn crypt(keys: &[u8; 192], block: [u8; 8], back: bool) -> [u8; 8]
     ensures { λ r. ⌜ r ≡ cryptOf (λ i. roundKey (now (keys .entry)) (placeOf back i)) block ⌝ }
 {
     joined(rounds(keys, split(block), back))

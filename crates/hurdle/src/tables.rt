@@ -720,7 +720,7 @@ pub const MASKS: [u8; 192] = [
 ];
 
 // An entry of a table. Naming a constant copies it whole, so callers copy it once, out of their loops.
-pub fn entry(s: &[u8; 256], x: u8) -> u8
+pub(crate) fn entry(s: &[u8; 256], x: u8) -> u8
     ensures { λ r. ⌜ r ≡ now (s .entry) ! x ⌝ }
 {
     s[x as usize]

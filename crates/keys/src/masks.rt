@@ -6,7 +6,7 @@ ghost use Rattle.standard.specs.Derivation.{chosen};
 ghost use Rattle.standard.specs.Refusals.{maskTests, first};
 
 // The number of the first test that the masks fail; 0 if none.
-pub fn refusal_of(response_mask: u16, key_mask: u16) -> u32
+pub(crate) fn refusal_of(response_mask: u16, key_mask: u16) -> u32
     ensures { λ r. ⌜ r ≡ first (maskTests «response_mask» «key_mask») ⌝ }
 {
     let counted = (u16::count_ones(response_mask) == 4) & (u16::count_ones(key_mask) == 10);
@@ -36,7 +36,7 @@ fn gather(mask: u16, output: &[u8; 16], out: &mut [u8])
 }
 
 // The response: four bytes, as the mask has four ones.
-pub fn chosen4(mask: u16, output: [u8; 16]) -> [u8; 4]
+pub(crate) fn chosen4(mask: u16, output: [u8; 16]) -> [u8; 4]
     requires { ⌜ ones mask ≡ 4 ⌝ }
     ensures { λ r. ⌜ r ≡ chosen mask output ⌝ }
 {
@@ -46,7 +46,7 @@ pub fn chosen4(mask: u16, output: [u8; 16]) -> [u8; 4]
 }
 
 // The key: ten bytes, as the mask has ten ones.
-pub fn chosen10(mask: u16, output: [u8; 16]) -> [u8; 10]
+pub(crate) fn chosen10(mask: u16, output: [u8; 16]) -> [u8; 10]
     requires { ⌜ ones mask ≡ 10 ⌝ }
     ensures { λ r. ⌜ r ≡ chosen mask output ⌝ }
 {

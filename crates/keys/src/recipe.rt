@@ -38,7 +38,7 @@ fn joined(d: [u8; 10], o: [u8; 16], c: [u8; 10]) -> [u8; 36]
 }
 
 // D, O and C, and both responses.
-pub fn make(
+pub(crate) fn make(
     root: [u8; 16],
     rs: [u8; 10],
     rso: [u8; 10],

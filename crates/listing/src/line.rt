@@ -13,7 +13,7 @@ pub struct Line {
     pub len: usize,
 }
 
-pub fn empty() -> Line
+pub(crate) fn empty() -> Line
     ensures { λ l. ⌜ shown l ≡ [] ⌝ }
 {
     Line {
@@ -23,7 +23,7 @@ pub fn empty() -> Line
 }
 
 // The length of its text.
-pub fn size(l: Line) -> usize
+pub(crate) fn size(l: Line) -> usize
     ensures { λ r. ⌜ r ≡ length (shown l) ⌝ }
 {
     let n = l.len;
@@ -42,7 +42,7 @@ fn byte(l: Line, b: u8) -> Line
     Line { bytes, len: n + 1 }
 }
 
-pub fn word(l: Line, w: &[u8]) -> Line
+pub(crate) fn word(l: Line, w: &[u8]) -> Line
     ensures { λ r. ⌜ shown r ≡ take 160 (shown l ++ now (w .entry)) ⌝ }
 {
     let mut r = l;
@@ -69,7 +69,7 @@ fn digits(l: Line, places: usize, x: u64) -> Line
     byte(front, last)
 }
 
-pub fn decimal(l: Line, x: u64) -> Line
+pub(crate) fn decimal(l: Line, x: u64) -> Line
     ensures { λ r. ⌜ shown r ≡ take 160 (shown l ++ decimalOf x) ⌝ }
 {
     digits(l, 20, x)
@@ -90,7 +90,7 @@ fn hex_byte(l: Line, b: u8) -> Line
 }
 
 // The n bytes of a record from index `from` on.
-pub fn hex(l: Line, p: &[u8; 18], from: usize, n: usize) -> Line
+pub(crate) fn hex(l: Line, p: &[u8; 18], from: usize, n: usize) -> Line
     requires { ⌜ from + n ≤ 18 ⌝ }
     ensures { λ r. ⌜ shown r ≡ take 160 (shown l ++ hexOf from n (now (p .entry))) ⌝ }
 {

@@ -8,7 +8,7 @@ ghost use Rattle.standard.specs.Mixing.{tb1, tb5, tb6};
 ghost use Rattle.standard.specs.Refusals.{fits, wide as wideOf};
 
 // The value has at most `width` bits.
-pub fn fits_in(value: u64, width: u64) -> bool
+pub(crate) fn fits_in(value: u64, width: u64) -> bool
     requires { ⌜ width < 64 ⌝ }
     ensures { λ r. ⌜ r ≡ fits width value ⌝ }
 {
@@ -16,14 +16,14 @@ pub fn fits_in(value: u64, width: u64) -> bool
 }
 
 // A width that TB1 takes.
-pub fn wide(width: u64) -> bool
+pub(crate) fn wide(width: u64) -> bool
     ensures { λ r. ⌜ r ≡ wideOf width ⌝ }
 {
     (16 <= width) & (width <= 32)
 }
 
 // TB1: the value again and again. Any eight bits of the row stand in two copies, with `right` bits after them.
-pub fn repeated(value: u64, width: u64) -> [u8; 16]
+pub(crate) fn repeated(value: u64, width: u64) -> [u8; 16]
     requires { ⌜ (16 ≤ width) × (width ≤ 32) × (value < 2 ^ width) ⌝ }
     ensures { λ r. ⌜ r ≡ tb1 value width ⌝ }
 {
@@ -55,7 +55,12 @@ fn halves10(left: u64, right: u64) -> [u8; 10]
 }
 
 // TB5 in two halves of 40 bits, the second carrier cut after 8 of its 12. A product makes room for the next field.
-pub fn cell(cipher_key: [u8; 10], location_area: u64, carrier: u64, colour_code: u64) -> [u8; 10]
+pub(crate) fn cell(
+    cipher_key: [u8; 10],
+    location_area: u64,
+    carrier: u64,
+    colour_code: u64,
+) -> [u8; 10]
     requires { ⌜ («location_area» < 2 ^ 14) × (carrier < 2 ^ 12) × («colour_code» < 2 ^ 6) ⌝ }
     ensures { λ r. ⌜ r ≡ tb5 «cipher_key» «location_area» carrier «colour_code» ⌝ }
 {
@@ -66,7 +71,7 @@ pub fn cell(cipher_key: [u8; 10], location_area: u64, carrier: u64, colour_code:
 }
 
 // TB6 in two halves of 40 bits, the second carrier cut after 4 of its 12.
-pub fn member(cipher_key: [u8; 10], carrier: u64, identity: u64) -> [u8; 10]
+pub(crate) fn member(cipher_key: [u8; 10], carrier: u64, identity: u64) -> [u8; 10]
     requires { ⌜ (carrier < 2 ^ 12) × (identity < 2 ^ 24) ⌝ }
     ensures { λ r. ⌜ r ≡ tb6 «cipher_key» carrier identity ⌝ }
 {

@@ -39,7 +39,7 @@ fn ring_o(r: &[u8; 36]) -> [u8; 16]
     ]
 }
 
-pub fn ring_c(r: &[u8; 36]) -> [u8; 10]
+pub(crate) fn ring_c(r: &[u8; 36]) -> [u8; 10]
     ensures { λ k. ⌜ k ≡ commonKey (now (r .entry)) ⌝ }
 {
     [
@@ -57,7 +57,7 @@ pub fn ring_c(r: &[u8; 36]) -> [u8; 10]
 }
 
 // The core's key for a kind, from the ring's sealing key for it.
-pub fn core_key(kind: Kind, r: &[u8; 36], version: Version) -> [u8; 16]
+pub(crate) fn core_key(kind: Kind, r: &[u8; 36], version: Version) -> [u8; 16]
     ensures { λ k. ⌜ k ≡ form kind .key (sealingKey kind (now (r .entry))) (bytesOf 2 (version .0)) ⌝ }
 {
     match kind {
@@ -68,13 +68,13 @@ pub fn core_key(kind: Kind, r: &[u8; 36], version: Version) -> [u8; 16]
     }
 }
 
-pub fn version_of(high: u8, low: u8) -> Version
+pub(crate) fn version_of(high: u8, low: u8) -> Version
     ensures { λ v. ⌜ bytesOf 2 (v .0) ≡ high ∷ low ∷ [] ⌝ }
 {
     Version(256 * (high as u16) + (low as u16))
 }
 
-pub fn body_part(p: [u8; 18]) -> [u8; 12]
+pub(crate) fn body_part(p: [u8; 18]) -> [u8; 12]
     ensures { λ b. ⌜ b ≡ part 6 12 p ⌝ }
 {
     [
@@ -93,7 +93,7 @@ pub fn body_part(p: [u8; 18]) -> [u8; 12]
     ]
 }
 
-pub fn text_part(t: [u8; 21]) -> [u8; 15]
+pub(crate) fn text_part(t: [u8; 21]) -> [u8; 15]
     ensures { λ x. ⌜ x ≡ part 6 15 t ⌝ }
 {
     [
@@ -123,7 +123,7 @@ pub struct Front {
     pub low: u8,
 }
 
-pub fn sealed_record(f: Front, x: [u8; 15]) -> [u8; 21]
+pub(crate) fn sealed_record(f: Front, x: [u8; 15]) -> [u8; 21]
     ensures { λ t. ⌜ t ≡ f .kind ∷ part 0 3 (f .identity) ++ (f .high ∷ f .low ∷ part 0 15 x) ⌝ }
 {
     let i = f.identity;
@@ -152,7 +152,7 @@ pub fn sealed_record(f: Front, x: [u8; 15]) -> [u8; 21]
     ]
 }
 
-pub fn plain_record(f: Front, b: [u8; 12]) -> [u8; 18]
+pub(crate) fn plain_record(f: Front, b: [u8; 12]) -> [u8; 18]
     ensures { λ p. ⌜ p ≡ f .kind ∷ part 0 3 (f .identity) ++ (f .high ∷ f .low ∷ part 0 12 b) ⌝ }
 {
     let i = f.identity;

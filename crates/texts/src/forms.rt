@@ -72,7 +72,7 @@ fn input81(b: [u8; 12]) -> [u8; 16]
     ]
 }
 
-pub fn input_of(kind: Kind, b: [u8; 12]) -> [u8; 16]
+pub(crate) fn input_of(kind: Kind, b: [u8; 12]) -> [u8; 16]
     ensures { λ r. ⌜ r ≡ form kind .input b ⌝ }
 {
     match kind {
@@ -140,7 +140,7 @@ fn body81(u: [u8; 15]) -> [u8; 12]
     ]
 }
 
-pub fn body_of(kind: Kind, u: [u8; 15]) -> [u8; 12]
+pub(crate) fn body_of(kind: Kind, u: [u8; 15]) -> [u8; 12]
     ensures { λ r. ⌜ r ≡ form kind .shrink u ⌝ }
 {
     match kind {
@@ -179,7 +179,7 @@ fn clear81(u: [u8; 15]) -> bool
         & (u[14] == u[10] ^ u[11] ^ u[12] ^ u[13])
 }
 
-pub fn is_clear(kind: Kind, u: [u8; 15]) -> bool
+pub(crate) fn is_clear(kind: Kind, u: [u8; 15]) -> bool
     ensures { λ r. ⌜ r ≡ form kind .clear u ⌝ }
 {
     match kind {
