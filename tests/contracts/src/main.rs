@@ -1,5 +1,6 @@
-//! Reads the crates' sources: each function that another crate can call has an
-//! `ensures` and no `requires`, and docs/READING.md has the table of them all.
+//! Reads the crates' sources: each public function has an `ensures` and no
+//! `requires`, one that stays in its crate is `pub(crate)`, and docs/READING.md
+//! has the table of the public ones.
 //!
 //!     contracts          checks; the last line: N passed, M failed
 //!     contracts table    prints the table
@@ -86,9 +87,16 @@ fn statement(clause: &str, aliases: &[(&str, &str)]) -> String {
     said
 }
 
-/// Adds the functions of one file that `exported` lets out of the crate.
-fn functions(path: &str, source: &str, exported: &dyn Fn(&str) -> bool, all: &mut Vec<Function>) {
+/// Adds the public functions of one file. The answer has those that `exported`
+/// does not let out of the crate: they should say so, by `pub(crate)`.
+fn functions(
+    path: &str,
+    source: &str,
+    exported: &dyn Fn(&str) -> bool,
+    all: &mut Vec<Function>,
+) -> Vec<String> {
     let aliases = aliases(source);
+    let mut hidden = Vec::new();
     let mut owner = None;
     let mut lines = source.lines().peekable();
     while let Some(line) = lines.next() {
@@ -112,7 +120,7 @@ fn functions(path: &str, source: &str, exported: &dyn Fn(&str) -> bool, all: &mu
             }
         }
         if !exported(owner.unwrap_or(name)) {
-            continue;
+            hidden.push(format!("{path}: {name} is pub, but not exported"));
         }
         let said = |word: &str| {
             let of_word = clauses.iter().filter(|clause| clause.starts_with(word));
@@ -125,6 +133,7 @@ fn functions(path: &str, source: &str, exported: &dyn Fn(&str) -> bool, all: &mu
             ensures: said("ensures"),
         });
     }
+    hidden
 }
 
 /// Whether a line makes something public in a way that is not understood here.
@@ -140,17 +149,17 @@ fn is_odd(line: &str) -> bool {
 
 fn odd_lines(path: &Path, source: &str) -> Vec<String> {
     let odd = source.lines().map(str::trim).filter(|line| is_odd(line));
-    odd.map(|line| format!("{}: {line}", path.display()))
+    odd.map(|line| format!("{}: not understood: {line}", path.display()))
         .collect()
 }
 
-/// The public functions of a library, in the order of its files, and the lines
-/// that cannot be read.
+/// The public functions of a library, in the order of its files. The answer is
+/// what is wrong with them.
 fn of_crate(name: &str, folder: &Path, all: &mut Vec<Function>) -> Vec<String> {
     let path = folder.join("lib.rt");
     let main = read(&path);
-    functions(name, &main, &|_| true, all);
     let mut odd = odd_lines(&path, &main);
+    odd.extend(functions(name, &main, &|_| true, all));
     for line in main.lines() {
         let open = name_after(line, "pub mod ");
         let Some(module) = open.or(name_after(line, "mod ")) else {
@@ -166,7 +175,7 @@ fn of_crate(name: &str, folder: &Path, all: &mut Vec<Function>) -> Vec<String> {
                     .lines()
                     .any(|line| line == format!("pub use {module}::{item};"))
         };
-        functions(&path, &source, &exported, all);
+        odd.extend(functions(&path, &source, &exported, all));
     }
     odd
 }
@@ -201,7 +210,7 @@ fn main() -> ExitCode {
     }
 
     for line in &odd {
-        println!("not understood: {line}");
+        println!("{line}");
     }
     let mut failed = 0;
     for function in &all {
