@@ -11,6 +11,7 @@ from __future__ import annotations
 
 import os
 import sys
+from typing import Any, Callable
 
 import taa1
 
@@ -41,40 +42,36 @@ def parse(data: bytes) -> taa1.Sitting:
     )
 
 
+def must(what: str, call: Callable[..., Any], *inputs: Any) -> Any:
+    """The result of a call; ends the program if it is refused."""
+    try:
+        return call(*inputs)
+    except taa1.Refused as refused:
+        sys.exit(f"sitting: {what}: {refused}")
+
+
 def play(engine: taa1.Engine, folder: str) -> None:
     """Plays the sitting of a folder."""
     sitting = read(folder, "sitting.bin")
     plain = read(folder, "plain.book")
     candidate = read(folder, "candidate.book")
 
-    try:
-        ring, response1, response2 = engine.ring(parse(sitting))
-    except taa1.Refused as refused:
-        sys.exit(f"sitting: sitting.bin: {refused}")
+    ring, response1, response2 = must("sitting.bin", engine.ring, parse(sitting))
     print("ring", ring.hex())
     print("response 1", response1.hex())
     print("response 2", response2.hex())
 
-    try:
-        records, sealed = engine.seal_book(ring, plain)
-    except taa1.Refused as refused:
-        sys.exit(f"sitting: plain.book: {refused}")
+    records, sealed = must("plain.book", engine.seal_book, ring, plain)
     print(f"sealed {records} records, {len(sealed)} bytes")
     for at in range(0, len(sealed), taa1.SEALED_RECORD):
         print("sealed", sealed[at : at + taa1.SEALED_RECORD].hex())
 
-    try:
-        records, opened = engine.open_book(ring, sealed)
-    except taa1.Refused as refused:
-        sys.exit(f"sitting: the sealed book: {refused}")
+    records, opened = must("the sealed book", engine.open_book, ring, sealed)
     if opened != plain:
         sys.exit("sitting: the opened book is not the plain book")
     print(f"opened {records} records, {len(opened)} bytes: the plain book")
 
-    try:
-        records, again = engine.seal_book(ring, opened)
-    except taa1.Refused as refused:
-        sys.exit(f"sitting: the opened book: {refused}")
+    records, again = must("the opened book", engine.seal_book, ring, opened)
     if again != sealed:
         sys.exit("sitting: the book sealed again is another")
     print(f"sealed again {records} records, {len(again)} bytes: the same bytes")
