@@ -194,6 +194,15 @@ fn table(all: &[Function]) -> String {
 }
 
 fn main() -> ExitCode {
+    let arguments: Vec<_> = std::env::args_os().skip(1).collect();
+    let print = match &arguments[..] {
+        [] => false,
+        [word] if word == "table" => true,
+        _ => {
+            eprintln!("usage: contracts [table]");
+            return ExitCode::from(2);
+        }
+    };
     let root = Path::new(env!("CARGO_MANIFEST_DIR")).join("../..");
     let mut all = Vec::new();
     let mut odd = Vec::new();
@@ -204,7 +213,7 @@ fn main() -> ExitCode {
             odd.extend(of_crate(name, &folder, &mut all));
         }
     }
-    if std::env::args().nth(1).as_deref() == Some("table") {
+    if print {
         print!("{}", table(&all));
         return ExitCode::SUCCESS;
     }

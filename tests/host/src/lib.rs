@@ -1,5 +1,6 @@
 //! What the programs around the engine share: its calls, an independent
-//! implementation, random and damaged inputs, and the counting of comparisons.
+//! implementation, random and damaged inputs, their settings, and the counting of
+//! comparisons.
 
 pub mod books;
 pub mod both;
@@ -7,5 +8,6 @@ pub mod damaged;
 pub mod engine;
 pub mod hurdle;
 pub mod random;
+pub mod settings;
 pub mod taa1;
 pub mod tally;

@@ -1,5 +1,7 @@
 //! Random inputs from a seed, the same on every run.
 
+use crate::settings;
+
 /// Splitmix64.
 pub struct Random(u64);
 
@@ -11,10 +13,7 @@ impl Random {
     /// The seed is the environment's `TAA1_SEED`, or 1; it is printed, so that
     /// a run can be repeated.
     pub fn from_environment() -> Self {
-        let seed = match std::env::var("TAA1_SEED") {
-            Ok(text) => text.parse().expect("TAA1_SEED must be a number"),
-            Err(_) => 1,
-        };
+        let seed = settings::variable("TAA1_SEED", "a number", 1);
         println!("seed {seed}");
         Random::new(seed)
     }

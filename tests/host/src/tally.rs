@@ -1,6 +1,8 @@
 //! Counts comparisons in named groups, and the groups.
 
+use crate::settings;
 use std::fmt::Debug;
+use std::num::NonZeroUsize;
 use std::process::ExitCode;
 
 /// How many failed comparisons of a group are shown.
@@ -25,12 +27,9 @@ impl Tally {
     /// With `TAA1_EVERY` in the environment only every so many-th comparison of
     /// a group is made, for slow machines such as valgrind.
     pub fn from_environment() -> Self {
-        let every = match std::env::var("TAA1_EVERY") {
-            Ok(text) => text.parse().expect("TAA1_EVERY must be a number"),
-            Err(_) => 1,
-        };
+        let every = settings::variable("TAA1_EVERY", "a number above 0", NonZeroUsize::MIN);
         Tally {
-            every,
+            every: every.get(),
             made: 0,
             passed: 0,
             failed: 0,

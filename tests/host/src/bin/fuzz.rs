@@ -3,6 +3,7 @@
 
 use host::both::{check_plain, sealed, Call, MOST, OPEN, SEAL};
 use host::random::Random;
+use host::settings;
 use host::tally::{Group, Tally};
 use std::process::ExitCode;
 use std::time::{Duration, Instant};
@@ -11,16 +12,14 @@ use std::time::{Duration, Instant};
 const EDGES: [u8; 9] = [0, 1, 2, 3, 4, 5, 31, 32, 255];
 
 fn main() -> ExitCode {
-    let seconds = std::env::args().nth(1).map_or(60, |text| {
-        text.parse().expect("the argument must be a number")
-    });
-    let end = Instant::now() + Duration::from_secs(seconds);
+    let limit = Duration::from_secs(settings::argument("usage: fuzz [SECONDS]", 60));
+    let start = Instant::now();
     let mut random = Random::from_environment();
     let mut tally = Tally::from_environment();
     // How many books had which answer.
     let mut answers = [[0; 13]; 2];
     tally.group("books changed at random", |group| {
-        while Instant::now() < end {
+        while start.elapsed() < limit {
             for (call, answers) in [&SEAL, &OPEN].into_iter().zip(&mut answers) {
                 let case = Case::random(&mut random, call);
                 case.compare(group);

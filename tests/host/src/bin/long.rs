@@ -4,13 +4,12 @@
 use host::compare;
 use host::engine;
 use host::random::Random;
+use host::settings;
 use host::tally::{Group, Tally};
 use std::process::ExitCode;
 
 fn main() -> ExitCode {
-    let times = std::env::args().nth(1).map_or(10_000_000, |text| {
-        text.parse().expect("the argument must be a number")
-    });
+    let times = settings::argument("usage: long [TIMES]", 10_000_000);
     let mut random = Random::from_environment();
     let mut tally = Tally::from_environment();
     tally.group("single calls", |group| {
