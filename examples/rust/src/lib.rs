@@ -2,7 +2,7 @@
 //!
 //! A byte string may have any length: the engine refuses a wrong one.
 
-mod raw;
+pub mod raw;
 mod refusal;
 
 pub use refusal::{BookRefusal, Refusal};
@@ -21,6 +21,18 @@ pub struct Version(pub u16);
 #[repr(C)]
 #[derive(Clone, Copy, Debug, PartialEq, Eq)]
 pub struct KeyNumber(pub u16);
+
+impl From<u16> for Version {
+    fn from(version: u16) -> Self {
+        Version(version)
+    }
+}
+
+impl From<u16> for KeyNumber {
+    fn from(number: u16) -> Self {
+        KeyNumber(number)
+    }
+}
 
 /// What a ring is made from: a root of 16 bytes, five strings of 10, two masks.
 #[derive(Clone, Copy, Debug)]
@@ -336,7 +348,7 @@ fn unsealed<const N: usize>(answer: raw::Unsealed<N>) -> Result<Unsealed<N>, Ref
     Refusal::test(answer.refusal)?;
     Ok(Unsealed {
         key: answer.key,
-        flag: answer.flag,
+        flag: answer.flag != 0,
     })
 }
 
@@ -345,7 +357,7 @@ fn numbered(answer: raw::UnsealedNumbered) -> Result<UnsealedNumbered, Refusal> 
     Ok(UnsealedNumbered {
         key: answer.key,
         number: KeyNumber(answer.number),
-        flag: answer.flag,
+        flag: answer.flag != 0,
     })
 }
 

@@ -1,15 +1,21 @@
-//! The calls as `include/taa1.h` declares them. A byte string is a pointer and
-//! a length, never `&[u8]`: Rust's slices do not pass this way.
+//! The calls as `include/taa1.h` declares them, for the functions of this package
+//! and for hosts that need the calls themselves. A byte string is a pointer and a
+//! length, never `&[u8]`: Rust's slices do not pass this way.
 
 use crate::{KeyNumber, Version};
 
+/// C's bool. A byte here, since Rust's bool may be nothing but 0 and 1.
+pub type Flag = u8;
+
 #[repr(C)]
+#[derive(Clone, Copy, Debug, PartialEq, Eq)]
 pub struct Bytes<const N: usize> {
     pub refusal: u32,
     pub bytes: [u8; N],
 }
 
 #[repr(C)]
+#[derive(Clone, Copy, Debug, PartialEq, Eq)]
 pub struct Authentication {
     pub refusal: u32,
     pub response: [u8; 4],
@@ -17,27 +23,31 @@ pub struct Authentication {
 }
 
 #[repr(C)]
+#[derive(Clone, Copy, Debug, PartialEq, Eq)]
 pub struct Identity {
     pub refusal: u32,
     pub identity: u32,
 }
 
 #[repr(C)]
+#[derive(Clone, Copy, Debug, PartialEq, Eq)]
 pub struct Unsealed<const N: usize> {
     pub refusal: u32,
     pub key: [u8; N],
-    pub flag: bool,
+    pub flag: Flag,
 }
 
 #[repr(C)]
+#[derive(Clone, Copy, Debug, PartialEq, Eq)]
 pub struct UnsealedNumbered {
     pub refusal: u32,
     pub key: [u8; 10],
     pub number: u16,
-    pub flag: bool,
+    pub flag: Flag,
 }
 
 #[repr(C)]
+#[derive(Clone, Copy, Debug, PartialEq, Eq)]
 pub struct RingMade {
     pub refusal: u32,
     pub ring: [u8; 36],
@@ -46,13 +56,55 @@ pub struct RingMade {
 }
 
 #[repr(C)]
+#[derive(Clone, Copy, Debug, PartialEq, Eq)]
 pub struct BookAnswer {
     pub refusal: u32,
     pub index: usize,
     pub written: usize,
 }
 
-/// Declares calls: `[name]` is a byte string and `{name}` an output.
+/// Hands the declarations of all calls to a macro: `[name]` is a byte string and
+/// `{name}` an output, which are a pointer and a length each.
+#[macro_export]
+macro_rules! calls {
+    ($macro:ident) => {
+        $macro! {
+            encrypt([key], [block]) -> Bytes<8>;
+            decrypt([key], [block]) -> Bytes<8>;
+            ta11([root], [seed]) -> Bytes<16>;
+            ta21([root], [seed]) -> Bytes<16>;
+            ta41([root], [seed]) -> Bytes<16>;
+            ta12([session_key], [challenge], response_mask: u16, key_mask: u16) -> Authentication;
+            ta22([session_key], [challenge], response_mask: u16, key_mask: u16) -> Authentication;
+            ta31([cipher_key], version: Version, [sealing_key]) -> Bytes<15>;
+            ta32([text], [sealing_key], version: Version) -> Unsealed<10>;
+            ta51([cipher_key], version: Version, [sealing_key], number: KeyNumber) -> Bytes<15>;
+            ta52([text], [sealing_key], version: Version) -> UnsealedNumbered;
+            ta61([common_key], identity: u64) -> Identity;
+            ta61_inverse([common_key], encrypted_identity: u64) -> Identity;
+            ta71([key1], [key2]) -> Bytes<10>;
+            ta81([cipher_key], version: Version, [sealing_key], number: KeyNumber) -> Bytes<15>;
+            ta82([text], [sealing_key], version: Version) -> UnsealedNumbered;
+            ta91([group_key], version: Version, [sealing_key]) -> Bytes<15>;
+            ta92([text], [sealing_key], version: Version) -> Unsealed<12>;
+            ta101([ks], [gck0], mni: u64) -> Bytes<16>;
+            tb1(value: u64, width: u64) -> Bytes<16>;
+            tb2([input]) -> Bytes<16>;
+            tb3([input], value: u64, width: u64) -> Bytes<16>;
+            tb4([input1], [input2]) -> Bytes<10>;
+            tb5([cipher_key], location_area: u64, carrier: u64, colour_code: u64) -> Bytes<10>;
+            tb6([cipher_key], carrier: u64, identity: u64) -> Bytes<10>;
+            tb7([group_key]) -> Bytes<16>;
+            ring(
+                [root], [rs], [rso], [rand1], [rand2], [c], response_mask: u16, key_mask: u16
+            ) -> RingMade;
+            seal_book([ring], [plain], {out}) -> BookAnswer;
+            open_book([ring], [sealed], {out}) -> BookAnswer;
+            check_plain([plain]) -> BookAnswer;
+        }
+    };
+}
+
 macro_rules! declare {
     ($($call:ident(
         $($([$bytes:ident])? $({$out:ident})? $($value:ident: $type:ty)?),*
@@ -70,37 +122,4 @@ macro_rules! declare {
     };
 }
 
-declare! {
-    encrypt([key], [block]) -> Bytes<8>;
-    decrypt([key], [block]) -> Bytes<8>;
-    ta11([root], [seed]) -> Bytes<16>;
-    ta21([root], [seed]) -> Bytes<16>;
-    ta41([root], [seed]) -> Bytes<16>;
-    ta12([session_key], [challenge], response_mask: u16, key_mask: u16) -> Authentication;
-    ta22([session_key], [challenge], response_mask: u16, key_mask: u16) -> Authentication;
-    ta31([cipher_key], version: Version, [sealing_key]) -> Bytes<15>;
-    ta32([text], [sealing_key], version: Version) -> Unsealed<10>;
-    ta51([cipher_key], version: Version, [sealing_key], number: KeyNumber) -> Bytes<15>;
-    ta52([text], [sealing_key], version: Version) -> UnsealedNumbered;
-    ta61([common_key], identity: u64) -> Identity;
-    ta61_inverse([common_key], encrypted_identity: u64) -> Identity;
-    ta71([key1], [key2]) -> Bytes<10>;
-    ta81([cipher_key], version: Version, [sealing_key], number: KeyNumber) -> Bytes<15>;
-    ta82([text], [sealing_key], version: Version) -> UnsealedNumbered;
-    ta91([group_key], version: Version, [sealing_key]) -> Bytes<15>;
-    ta92([text], [sealing_key], version: Version) -> Unsealed<12>;
-    ta101([ks], [gck0], mni: u64) -> Bytes<16>;
-    tb1(value: u64, width: u64) -> Bytes<16>;
-    tb2([input]) -> Bytes<16>;
-    tb3([input], value: u64, width: u64) -> Bytes<16>;
-    tb4([input1], [input2]) -> Bytes<10>;
-    tb5([cipher_key], location_area: u64, carrier: u64, colour_code: u64) -> Bytes<10>;
-    tb6([cipher_key], carrier: u64, identity: u64) -> Bytes<10>;
-    tb7([group_key]) -> Bytes<16>;
-    ring(
-        [root], [rs], [rso], [rand1], [rand2], [c], response_mask: u16, key_mask: u16
-    ) -> RingMade;
-    seal_book([ring], [plain], {out}) -> BookAnswer;
-    open_book([ring], [sealed], {out}) -> BookAnswer;
-    check_plain([plain]) -> BookAnswer;
-}
+calls!(declare);

@@ -2,7 +2,7 @@
 
 use crate::edges;
 use host::compare;
-use host::engine::{self, Bytes8};
+use host::engine::{self, accepted};
 use host::random::Random;
 use host::tally::{Group, Tally};
 
@@ -38,7 +38,7 @@ fn both(group: &mut Group, key: &[u8], block: &[u8]) {
 
 fn there_and_back(group: &mut Group, key: [u8; 16], block: [u8; 8]) {
     let there = engine::encrypt(&key, &block).bytes;
-    compare!(group, decrypt([key], [there]), Bytes8::accepted(block));
+    compare!(group, decrypt([key], [there]), accepted(block));
     let there = engine::decrypt(&key, &block).bytes;
-    compare!(group, encrypt([key], [there]), Bytes8::accepted(block));
+    compare!(group, encrypt([key], [there]), accepted(block));
 }

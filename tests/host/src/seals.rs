@@ -3,7 +3,7 @@
 use crate::edges;
 use host::compare;
 use host::damaged::{flipped, sealed, under_version};
-use host::engine::{self, Unsealed, UnsealedGroup, UnsealedNumbered};
+use host::engine::{self, Unsealed, UnsealedNumbered};
 use host::random::Random;
 use host::taa1;
 use host::tally::{Group, Tally};
@@ -99,7 +99,7 @@ const KINDS: [Kind; 4] = [
         cipher_key: |inputs| under_version(fixed(inputs.sealing_key), inputs.version),
     },
     Kind {
-        calls: calls!(ta91, ta92, UnsealedGroup { key }),
+        calls: calls!(ta91, ta92, Unsealed { key }),
         key_length: 12,
         sealing_key_length: 16,
         highest_number: 0,

@@ -1,6 +1,6 @@
 //! HURDLE-II.
 
-use host::engine::Bytes8;
+use host::engine::accepted;
 use host::random::Random;
 use host::tally::Tally;
 use peer::osmo;
@@ -11,14 +11,14 @@ pub fn run(tally: &mut Tally, random: &mut Random) {
     tally.group("encrypt beside osmo-tetra", |group| {
         for _ in 0..PAIRS {
             let (key, block) = (random.bytes(), random.bytes());
-            let wanted = Bytes8::accepted(osmo::encrypt(&key, &block));
+            let wanted = accepted(osmo::encrypt(&key, &block));
             compare_three!(group, encrypt([key], [block]), wanted);
         }
     });
     tally.group("decrypt beside osmo-tetra", |group| {
         for _ in 0..PAIRS {
             let (key, block) = (random.bytes(), random.bytes());
-            let wanted = Bytes8::accepted(osmo::decrypt(&key, &block));
+            let wanted = accepted(osmo::decrypt(&key, &block));
             compare_three!(group, decrypt([key], [block]), wanted);
         }
     });

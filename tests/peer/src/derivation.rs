@@ -1,6 +1,6 @@
 //! Session keys, responses and derived keys.
 
-use host::engine::{self, Authentication, Bytes};
+use host::engine::{self, accepted, Authentication};
 use host::random::Random;
 use host::taa1;
 use host::tally::Tally;
@@ -32,7 +32,7 @@ pub fn run(tally: &mut Tally, random: &mut Random) {
     tally.group("ta11, ta41 beside osmo-tetra", |group| {
         for _ in 0..TIMES {
             let (root, seed) = (random.bytes(), random.bytes());
-            let wanted = Bytes::accepted(osmo::ta11_ta41(&root, &seed));
+            let wanted = accepted(osmo::ta11_ta41(&root, &seed));
             compare_three!(group, ta11([root], [seed]), wanted);
             compare_three!(group, ta41([root], [seed]), wanted);
         }
@@ -40,7 +40,7 @@ pub fn run(tally: &mut Tally, random: &mut Random) {
     tally.group("ta21 beside osmo-tetra", |group| {
         for _ in 0..TIMES {
             let (root, seed) = (random.bytes(), random.bytes());
-            let wanted = Bytes::accepted(osmo::ta21(&root, &seed));
+            let wanted = accepted(osmo::ta21(&root, &seed));
             compare_three!(group, ta21([root], [seed]), wanted);
         }
     });
@@ -65,7 +65,7 @@ pub fn run(tally: &mut Tally, random: &mut Random) {
     tally.group("ta71 beside osmo-tetra", |group| {
         for _ in 0..TIMES {
             let (key1, key2) = (random.bytes(), random.bytes());
-            let wanted = Bytes::accepted(osmo::ta71(&key1, &key2));
+            let wanted = accepted(osmo::ta71(&key1, &key2));
             compare_three!(group, ta71([key1], [key2]), wanted);
         }
     });

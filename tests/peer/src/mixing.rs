@@ -1,6 +1,6 @@
 //! Keys mixed without the cipher.
 
-use host::engine::Bytes;
+use host::engine::accepted;
 use host::random::Random;
 use host::tally::Tally;
 use peer::osmo;
@@ -11,7 +11,7 @@ pub fn run(tally: &mut Tally, random: &mut Random) {
     tally.group("tb4 beside osmo-tetra", |group| {
         for _ in 0..TIMES {
             let (input1, input2) = (random.bytes(), random.bytes());
-            let wanted = Bytes::accepted(osmo::tb4(&input1, &input2));
+            let wanted = accepted(osmo::tb4(&input1, &input2));
             compare_three!(group, tb4([input1], [input2]), wanted);
         }
     });
@@ -20,7 +20,7 @@ pub fn run(tally: &mut Tally, random: &mut Random) {
             let key = random.bytes();
             let (location_area, carrier) = (random.number() >> 50, random.number() >> 52);
             let colour_code = random.number() >> 58;
-            let wanted = Bytes::accepted(osmo::tb5(
+            let wanted = accepted(osmo::tb5(
                 &right(carrier),
                 &right(location_area),
                 &right(colour_code),
@@ -37,14 +37,14 @@ pub fn run(tally: &mut Tally, random: &mut Random) {
         for _ in 0..TIMES {
             let (key, carrier, identity) =
                 (random.bytes(), random.number() >> 52, random.number() >> 40);
-            let wanted = Bytes::accepted(osmo::tb6(&key, &right(carrier), &right(identity)));
+            let wanted = accepted(osmo::tb6(&key, &right(carrier), &right(identity)));
             compare_three!(group, tb6([key], carrier, identity), wanted);
         }
     });
     tally.group("tb7 beside osmo-tetra", |group| {
         for _ in 0..TIMES {
             let key = random.bytes();
-            let wanted = Bytes::accepted(osmo::tb7(&key));
+            let wanted = accepted(osmo::tb7(&key));
             compare_three!(group, tb7([key]), wanted);
         }
     });

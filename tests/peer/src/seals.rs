@@ -1,7 +1,7 @@
 //! Seals, and unseals of right, of damaged and of random texts.
 
 use host::damaged::{flipped, sealed, under_version};
-use host::engine::{Bytes, Unsealed, UnsealedGroup, UnsealedNumbered};
+use host::engine::{accepted, Unsealed, UnsealedNumbered};
 use host::random::Random;
 use host::taa1::{exp1, exp3, exp4, x16};
 use host::tally::Tally;
@@ -18,7 +18,7 @@ pub fn run(tally: &mut Tally, random: &mut Random) {
             let osmo_key = osmo::repaired(&sealing_key, version);
             let osmo_version = version.to_be_bytes();
             let text = osmo::ta31(&key, &osmo_version, &osmo_key);
-            let wanted = Bytes::accepted(text);
+            let wanted = accepted(text);
             compare_three!(group, ta31([key], version, [sealing_key]), wanted);
             let cipher_key = exp4(&under_version(sealing_key, version));
             let damaged = damaged(random, &cipher_key, &exp1(&key));
@@ -40,7 +40,7 @@ pub fn run(tally: &mut Tally, random: &mut Random) {
             let number = u16::from(byte % 32);
             let osmo_version = version.to_be_bytes();
             let text = osmo::ta51(&key, &osmo_version, &sealing_key, &[byte % 32]);
-            let wanted = Bytes::accepted(text);
+            let wanted = accepted(text);
             compare_three!(group, ta51([key], version, [sealing_key], number), wanted);
             let cipher_key = under_version(sealing_key, version);
             let expanded = exp3(&from_fn(|i| if i < 10 { key[i] } else { byte }));
@@ -66,7 +66,7 @@ pub fn run(tally: &mut Tally, random: &mut Random) {
             let osmo_version = version.to_be_bytes();
             let osmo_number = number.to_be_bytes();
             let text = osmo::ta81(&key, &osmo_version, &osmo_number, &sealing_key);
-            let wanted = Bytes::accepted(text);
+            let wanted = accepted(text);
             compare_three!(group, ta81([key], version, [sealing_key], number), wanted);
             let cipher_key = under_version(sealing_key, version);
             let body = from_fn(|i| if i < 10 { key[i] } else { osmo_number[i - 10] });
@@ -89,12 +89,12 @@ pub fn run(tally: &mut Tally, random: &mut Random) {
             let version = random.number() as u16;
             let osmo_version = version.to_be_bytes();
             let text = osmo::ta91(&key, &osmo_version, &sealing_key);
-            let wanted = Bytes::accepted(text);
+            let wanted = accepted(text);
             compare_three!(group, ta91([key], version, [sealing_key]), wanted);
             let damaged = damaged(random, &under_version(sealing_key, version), &x16(&key));
             for text in [text, damaged, random.bytes()] {
                 let (key, [flag]) = osmo::ta92(&text, &osmo_version, &sealing_key);
-                let wanted = UnsealedGroup {
+                let wanted = Unsealed {
                     refusal: 0,
                     key,
                     flag,
