@@ -1,5 +1,7 @@
 /*
- * The TAA1 engine for hosts in C and C++; link with libengine.a.
+ * The TAA1 engine for hosts in C and C++; link with libengine.a, which runs on
+ * x86-64 Linux. The calls share nothing, so any number of threads may make them
+ * at once.
  *
  * Byte strings are passed as a pointer and a length. Any length may be handed
  * in: the call tests it and refuses a wrong one. The pointer must be good for
@@ -26,12 +28,30 @@
 extern "C" {
 #endif
 
+/* ---- Constants ---- */
+
+enum {
+    TAA1_RING_BYTES = 36,
+    TAA1_PLAIN_RECORD_BYTES = 18,
+    TAA1_SEALED_RECORD_BYTES = 21,
+    TAA1_MOST_RECORDS = 1024, /* of a book */
+    TAA1_SITTING_BYTES = 70   /* of a file with what taa1_ring takes */
+};
+
+/* The kinds of a record, by the call that seals the key. */
+enum taa1_kind {
+    TAA1_KIND_TA31 = 1,
+    TAA1_KIND_TA51 = 2,
+    TAA1_KIND_TA81 = 3,
+    TAA1_KIND_TA91 = 4
+};
+
 /* The values of `refusal`. */
 enum taa1_refusal {
     TAA1_ACCEPTED = 0,
 
     /* caused by the candidate */
-    TAA1_BOOK_TOO_LONG = 1,  /* a book is longer than 1,024 records */
+    TAA1_BOOK_TOO_LONG = 1,  /* a book is longer than TAA1_MOST_RECORDS records */
     TAA1_BOOK_NOT_WHOLE = 2, /* its length is not a whole number of records */
     TAA1_WRONG_KIND = 3,     /* a kind is not 1 to 4 */
     TAA1_NOT_ZERO = 4,       /* a byte that fills up a body is not zero */
@@ -48,6 +68,26 @@ enum taa1_refusal {
     TAA1_WRONG_LENGTH = 11, /* an input has another length than its call takes */
     TAA1_OUTPUT_SHORT = 12  /* the output is shorter than the result */
 };
+
+/* What a refusal means, in the words of the programs. */
+static inline const char *taa1_refusal_text(uint32_t refusal)
+{
+    switch (refusal) {
+    case TAA1_BOOK_TOO_LONG: return "book longer than 1,024 records";
+    case TAA1_BOOK_NOT_WHOLE: return "book not a whole number of records";
+    case TAA1_WRONG_KIND: return "kind not 1 to 4";
+    case TAA1_NOT_ZERO: return "body byte not zero";
+    case TAA1_WRONG_NUMBER: return "kind 2 number above 31";
+    case TAA1_FLAG_SET: return "flag set while opening a book";
+    case TAA1_WRONG_MASK: return "mask with a wrong number of ones";
+    case TAA1_SHARED_BIT: return "masks that share a bit";
+    case TAA1_WRONG_WIDTH: return "width not 16 to 32";
+    case TAA1_VALUE_WIDE: return "value too wide for its field";
+    case TAA1_WRONG_LENGTH: return "input of a wrong length";
+    case TAA1_OUTPUT_SHORT: return "output shorter than the result";
+    default: return "not in the list";
+    }
+}
 
 /* ---- Versions and key numbers: two types, so that none is taken for the other ---- */
 
@@ -114,7 +154,7 @@ typedef struct {
 
 typedef struct {
     uint32_t refusal;
-    uint8_t ring[36];
+    uint8_t ring[TAA1_RING_BYTES];
     uint8_t response1[4];
     uint8_t response2[4];
 } taa1_ring_made;
@@ -289,7 +329,7 @@ taa1_ring_made taa1_ring(const uint8_t *root, size_t root_length,
                          uint16_t response_mask, uint16_t key_mask);
 
 /*
- * ---- Books: up to 1,024 records under a ring [36], as taa1_ring makes it ----
+ * ---- Books: up to TAA1_MOST_RECORDS under a ring [TAA1_RING_BYTES] of taa1_ring ----
  *
  * A plain record has 18 bytes: kind (1 to 4), identity (3), version (2), body
  * (12). The body is a key [10] and two zero bytes (kind 1), a key [10], a zero
@@ -304,12 +344,12 @@ taa1_ring_made taa1_ring(const uint8_t *root, size_t root_length,
  * is 0. A refusal leaves it unchanged.
  */
 
-/* Seals a plain book; writes 21 bytes for each record. */
+/* Seals a plain book; writes TAA1_SEALED_RECORD_BYTES for each record. */
 taa1_book_answer taa1_seal_book(const uint8_t *ring, size_t ring_length,
                                 const uint8_t *plain, size_t plain_length,
                                 uint8_t *out, size_t out_length);
 
-/* Opens a sealed book, if each record in it does; writes 18 bytes for each. */
+/* Opens a sealed book, if each record in it does; writes TAA1_PLAIN_RECORD_BYTES for each. */
 taa1_book_answer taa1_open_book(const uint8_t *ring, size_t ring_length,
                                 const uint8_t *sealed, size_t sealed_length,
                                 uint8_t *out, size_t out_length);

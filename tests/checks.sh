@@ -12,6 +12,17 @@ same() {
     fi
 }
 
+# constant NAME: a number that the header names
+constant() {
+    sed -n "s/^ *TAA1_$1 = \([0-9]*\).*/\1/p" include/taa1.h
+}
+
+ring_bytes=$(constant RING_BYTES)
+plain_record=$(constant PLAIN_RECORD_BYTES)
+sealed_record=$(constant SEALED_RECORD_BYTES)
+most=$(constant MOST_RECORDS)
+sitting_bytes=$(constant SITTING_BYTES)
+
 # The last line: N passed, M failed.
 counts() {
     echo "$passed passed, $failed failed"

@@ -149,13 +149,13 @@ static bool is(taa1_book_answer answer, uint32_t refusal, size_t index, size_t w
 
 static string plain_book(size_t records, bool at_end)
 {
-    string plain = writable(18 * records, at_end);
+    string plain = writable(TAA1_PLAIN_RECORD_BYTES * records, at_end);
     for (size_t i = 0; i < records; i++) {
-        uint8_t *record = plain.bytes + 18 * i;
+        uint8_t *record = plain.bytes + TAA1_PLAIN_RECORD_BYTES * i;
         record[0] = (uint8_t)(1 + i % 4);
-        if (record[0] == 1)
+        if (record[0] == TAA1_KIND_TA31)
             record[16] = record[17] = 0;
-        if (record[0] == 2) {
+        if (record[0] == TAA1_KIND_TA51) {
             record[16] = 0;
             record[17] %= 32;
         }
@@ -166,15 +166,17 @@ static string plain_book(size_t records, bool at_end)
 
 static void books(bool at_end, size_t records)
 {
-    string ring = input(36, at_end);
+    string ring = input(TAA1_RING_BYTES, at_end);
     string plain = plain_book(records, at_end);
-    string sealed = writable(21 * records, at_end);
-    string opened = writable(18 * records, at_end);
+    string sealed = writable(TAA1_SEALED_RECORD_BYTES * records, at_end);
+    string opened = writable(TAA1_PLAIN_RECORD_BYTES * records, at_end);
 
     CHECK(is(taa1_check_plain(S(plain)), TAA1_ACCEPTED, records, 0));
-    CHECK(is(taa1_seal_book(S(ring), S(plain), S(sealed)), TAA1_ACCEPTED, records, 21 * records));
+    CHECK(is(taa1_seal_book(S(ring), S(plain), S(sealed)), TAA1_ACCEPTED, records,
+             sealed.length));
     protect(sealed, PROT_READ);
-    CHECK(is(taa1_open_book(S(ring), S(sealed), S(opened)), TAA1_ACCEPTED, records, 18 * records));
+    CHECK(is(taa1_open_book(S(ring), S(sealed), S(opened)), TAA1_ACCEPTED, records,
+             opened.length));
     CHECK(memcmp(opened.bytes, plain.bytes, plain.length) == 0);
 
     if (records > 0) {
@@ -191,10 +193,10 @@ static void books(bool at_end, size_t records)
         protect(sealed, PROT_READ | PROT_WRITE);
         sealed.bytes[sealed.length - 1] ^= 1;
         CHECK(is(taa1_open_book(S(ring), S(sealed), S(opened)), TAA1_FLAG_SET, records - 1, 0));
-        sealed.bytes[sealed.length - 21] = 0;
+        sealed.bytes[sealed.length - TAA1_SEALED_RECORD_BYTES] = 0;
         CHECK(is(taa1_open_book(S(ring), S(sealed), S(opened)), TAA1_WRONG_KIND, records - 1, 0));
         protect(plain, PROT_READ | PROT_WRITE);
-        plain.bytes[plain.length - 18] = 5;
+        plain.bytes[plain.length - TAA1_PLAIN_RECORD_BYTES] = TAA1_KIND_TA91 + 1;
         protect(sealed, PROT_READ);
         CHECK(is(taa1_seal_book(S(ring), S(plain), S(sealed)), TAA1_WRONG_KIND, records - 1, 0));
         CHECK(is(taa1_check_plain(S(plain)), TAA1_WRONG_KIND, records - 1, 0));
@@ -208,9 +210,9 @@ static void books(bool at_end, size_t records)
 
 static void too_long(bool at_end)
 {
-    string ring = input(36, at_end);
-    string plain = plain_book(1025, at_end);
-    string out = input(21 * 1025, at_end);
+    string ring = input(TAA1_RING_BYTES, at_end);
+    string plain = plain_book(TAA1_MOST_RECORDS + 1, at_end);
+    string out = input(TAA1_SEALED_RECORD_BYTES * (TAA1_MOST_RECORDS + 1), at_end);
     CHECK(is(taa1_check_plain(S(plain)), TAA1_BOOK_TOO_LONG, 0, 0));
     CHECK(is(taa1_seal_book(S(ring), S(plain), S(out)), TAA1_BOOK_TOO_LONG, 0, 0));
     CHECK(is(taa1_open_book(S(ring), S(out), S(plain)), TAA1_BOOK_TOO_LONG, 0, 0));
@@ -221,7 +223,7 @@ static void too_long(bool at_end)
 
 static void nulls(void)
 {
-    string ring = input(36, true);
+    string ring = input(TAA1_RING_BYTES, true);
     CHECK(taa1_encrypt(NULL, 0, NULL, 0).refusal == TAA1_WRONG_LENGTH);
     CHECK(is(taa1_check_plain(NULL, 0), TAA1_ACCEPTED, 0, 0));
     CHECK(is(taa1_seal_book(S(ring), NULL, 0, NULL, 0), TAA1_ACCEPTED, 0, 0));
@@ -230,9 +232,16 @@ static void nulls(void)
     give_back(ring);
 }
 
+static void texts(void)
+{
+    CHECK(strcmp(taa1_refusal_text(TAA1_OUTPUT_SHORT), "output shorter than the result") == 0);
+    CHECK(strcmp(taa1_refusal_text(TAA1_ACCEPTED), "not in the list") == 0);
+    CHECK(strcmp(taa1_refusal_text(UINT32_MAX), "not in the list") == 0);
+}
+
 int main(void)
 {
-    static const size_t records[] = {0, 1, 2, 3, 4, 5, 17, 1023, 1024};
+    static const size_t records[] = {0, 1, 2, 3, 4, 5, 17, TAA1_MOST_RECORDS - 1, TAA1_MOST_RECORDS};
     srand(1);
     for (int at_end = 0; at_end < 2; at_end++) {
         for (int longer = -8; longer <= 8; longer++)
@@ -242,6 +251,7 @@ int main(void)
         too_long(at_end);
     }
     nulls();
+    texts();
     printf("%zu checks between guard pages, %zu failed\n", checks, failures);
     return failures != 0;
 }

@@ -8,7 +8,7 @@ mod osmo;
 mod ours;
 mod rust;
 
-use host::both::{self, MOST};
+use host::both::{self, MOST, RING};
 use host::random::Random;
 use std::time::{Duration, Instant};
 
@@ -35,7 +35,7 @@ struct Inputs {
     keys: Vec<[u8; 16]>,
     block: [u8; 8],
     text: [u8; 15],
-    ring: [u8; 36],
+    ring: [u8; RING],
     plain: Vec<u8>,
     sealed: Vec<u8>,
 }

@@ -10,7 +10,7 @@
 
 #include "taa1.h"
 
-enum { SITTING = 70, PLAIN = 18, SEALED = 21, LONGEST = 1024 * SEALED };
+enum { LONGEST = TAA1_MOST_RECORDS * TAA1_SEALED_RECORD_BYTES };
 
 /* A file's bytes. One more than the longest book has, so that the engine sees
  * that a book is too long. */
@@ -18,21 +18,6 @@ typedef struct {
     size_t length;
     uint8_t bytes[LONGEST + 1];
 } contents;
-
-static const char *const names[] = {
-    [TAA1_BOOK_TOO_LONG] = "book longer than 1,024 records",
-    [TAA1_BOOK_NOT_WHOLE] = "book not a whole number of records",
-    [TAA1_WRONG_KIND] = "kind not 1 to 4",
-    [TAA1_NOT_ZERO] = "body byte not zero",
-    [TAA1_WRONG_NUMBER] = "kind 2 number above 31",
-    [TAA1_FLAG_SET] = "flag set while opening a book",
-    [TAA1_WRONG_MASK] = "mask with a wrong number of ones",
-    [TAA1_SHARED_BIT] = "masks that share a bit",
-    [TAA1_WRONG_WIDTH] = "width not 16 to 32",
-    [TAA1_VALUE_WIDE] = "value too wide for its field",
-    [TAA1_WRONG_LENGTH] = "input of a wrong length",
-    [TAA1_OUTPUT_SHORT] = "output shorter than the result",
-};
 
 static void fail(const char *what, const char *why) {
     fprintf(stderr, "sitting: %s%s\n", what, why);
@@ -66,7 +51,7 @@ static void print_hex(const char *name, const uint8_t *bytes, size_t length) {
 
 static void print_refusal(FILE *stream, taa1_book_answer answer) {
     fprintf(stream, "refused %u at %zu (%s)\n", (unsigned)answer.refusal, answer.index,
-            names[answer.refusal]);
+            taa1_refusal_text(answer.refusal));
 }
 
 /* Ends the program if a book that the engine must accept is refused. */
@@ -79,8 +64,9 @@ static void must_accept(const char *book, taa1_book_answer answer) {
 }
 
 static taa1_ring_made make_ring(const contents *sitting) {
-    if (sitting->length != SITTING) {
-        fail("sitting.bin", " does not have 70 bytes");
+    if (sitting->length != TAA1_SITTING_BYTES) {
+        fprintf(stderr, "sitting: sitting.bin does not have %d bytes\n", TAA1_SITTING_BYTES);
+        exit(EXIT_FAILURE);
     }
     const uint8_t *at = sitting->bytes;
     uint16_t response_mask = (uint16_t)(at[66] << 8 | at[67]);
@@ -89,7 +75,7 @@ static taa1_ring_made make_ring(const contents *sitting) {
                                     at + 56, 10, response_mask, key_mask);
     if (made.refusal != TAA1_ACCEPTED) {
         fprintf(stderr, "sitting: sitting.bin: refused %u (%s)\n", (unsigned)made.refusal,
-                names[made.refusal]);
+                taa1_refusal_text(made.refusal));
         exit(EXIT_FAILURE);
     }
     return made;
@@ -115,8 +101,8 @@ int main(int argc, char **argv) {
     must_accept("plain.book", answer);
     const size_t sealed_length = answer.written;
     printf("sealed %zu records, %zu bytes\n", answer.index, sealed_length);
-    for (size_t at = 0; at < sealed_length; at += SEALED) {
-        print_hex("sealed", sealed + at, SEALED);
+    for (size_t at = 0; at < sealed_length; at += TAA1_SEALED_RECORD_BYTES) {
+        print_hex("sealed", sealed + at, TAA1_SEALED_RECORD_BYTES);
     }
 
     answer = taa1_open_book(ring, ring_length, sealed, sealed_length, opened, sizeof opened);

@@ -28,8 +28,8 @@ def read(folder: str, name: str) -> bytes:
 
 def parse(data: bytes) -> taa1.Sitting:
     """The sitting in the bytes of sitting.bin."""
-    if len(data) != 70:
-        sys.exit("sitting: sitting.bin does not have 70 bytes")
+    if len(data) != taa1.SITTING_BYTES:
+        sys.exit(f"sitting: sitting.bin does not have {taa1.SITTING_BYTES} bytes")
     return taa1.Sitting(
         root=data[:16],
         rs=data[16:26],
@@ -63,8 +63,8 @@ def play(engine: taa1.Engine, folder: str) -> None:
 
     records, sealed = must("plain.book", engine.seal_book, ring, plain)
     print(f"sealed {records} records, {len(sealed)} bytes")
-    for at in range(0, len(sealed), taa1.SEALED_RECORD):
-        print("sealed", sealed[at : at + taa1.SEALED_RECORD].hex())
+    for at in range(0, len(sealed), taa1.SEALED_RECORD_BYTES):
+        print("sealed", sealed[at : at + taa1.SEALED_RECORD_BYTES].hex())
 
     records, opened = must("the sealed book", engine.open_book, ring, sealed)
     if opened != plain:

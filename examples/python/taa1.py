@@ -5,28 +5,58 @@ from __future__ import annotations
 import ctypes
 from ctypes import c_bool, c_char, c_char_p, c_size_t, c_uint8, c_uint16, c_uint32, c_uint64
 from dataclasses import dataclass
+from enum import IntEnum
 from typing import Any, Callable, NamedTuple, Union
 
 Bytes = Union[bytes, bytearray, memoryview]
 
-NAMES = {
-    1: "book longer than 1,024 records",
-    2: "book not a whole number of records",
-    3: "kind not 1 to 4",
-    4: "body byte not zero",
-    5: "kind 2 number above 31",
-    6: "flag set while opening a book",
-    7: "mask with a wrong number of ones",
-    8: "masks that share a bit",
-    9: "width not 16 to 32",
-    10: "value too wide for its field",
-    11: "input of a wrong length",
-    12: "output shorter than the result",
-}
+RING_BYTES = 36
+PLAIN_RECORD_BYTES = 18
+SEALED_RECORD_BYTES = 21
+MOST_RECORDS = 1024  # of a book
+SITTING_BYTES = 70  # of a file with what a ring is made from
 
-MOST_RECORDS = 1024
-PLAIN_RECORD = 18
-SEALED_RECORD = 21
+
+class Kind(IntEnum):
+    """The kinds of a record, by the call that seals the key."""
+
+    TA31 = 1
+    TA51 = 2
+    TA81 = 3
+    TA91 = 4
+
+
+class Refusal(IntEnum):
+    """Why the engine refuses a call."""
+
+    BOOK_TOO_LONG = 1
+    BOOK_NOT_WHOLE = 2
+    WRONG_KIND = 3
+    NOT_ZERO = 4
+    WRONG_NUMBER = 5
+    FLAG_SET = 6
+    WRONG_MASK = 7
+    SHARED_BIT = 8
+    WRONG_WIDTH = 9
+    VALUE_WIDE = 10
+    WRONG_LENGTH = 11
+    OUTPUT_SHORT = 12
+
+
+NAMES: dict[int, str] = {
+    Refusal.BOOK_TOO_LONG: "book longer than 1,024 records",
+    Refusal.BOOK_NOT_WHOLE: "book not a whole number of records",
+    Refusal.WRONG_KIND: "kind not 1 to 4",
+    Refusal.NOT_ZERO: "body byte not zero",
+    Refusal.WRONG_NUMBER: "kind 2 number above 31",
+    Refusal.FLAG_SET: "flag set while opening a book",
+    Refusal.WRONG_MASK: "mask with a wrong number of ones",
+    Refusal.SHARED_BIT: "masks that share a bit",
+    Refusal.WRONG_WIDTH: "width not 16 to 32",
+    Refusal.VALUE_WIDE: "value too wide for its field",
+    Refusal.WRONG_LENGTH: "input of a wrong length",
+    Refusal.OUTPUT_SHORT: "output shorter than the result",
+}
 
 
 class Refused(Exception):
@@ -158,7 +188,9 @@ _IDENTITY = _answer(int, identity=c_uint32)
 _UNSEALED = _answer(Unsealed, key=c_uint8 * 10, flag=c_bool)
 _UNSEALED_NUMBERED = _answer(_numbered, key=c_uint8 * 10, number=c_uint16, flag=c_bool)
 _UNSEALED_GROUP = _answer(Unsealed, key=c_uint8 * 12, flag=c_bool)
-_RING_MADE = _answer(RingMade, ring=c_uint8 * 36, response1=c_uint8 * 4, response2=c_uint8 * 4)
+_RING_MADE = _answer(
+    RingMade, ring=c_uint8 * RING_BYTES, response1=c_uint8 * 4, response2=c_uint8 * 4
+)
 _BOOK = _answer(_Written, index=c_size_t, written=c_size_t)
 
 
@@ -228,6 +260,8 @@ def _pass(kind: Any, value: Any) -> tuple[Any, ...]:
 
 class Engine:
     """The engine's calls. A refusal is raised as `Refused`.
+
+    The calls share nothing, so any number of threads may make them at once.
 
     A byte string is bytes, bytearray or memoryview. A value of a wrong type is a
     TypeError; a bool counts as an int. An integer that does not fit C's type,
@@ -388,12 +422,12 @@ class Engine:
         return self._call("ring", *_expect(sitting, Sitting))
 
     def seal_book(self, ring: Bytes, plain: Bytes) -> Book:
-        """A plain book, sealed under a ring of 36 bytes."""
-        return self._book("seal_book", ring, plain, SEALED_RECORD)
+        """A plain book, sealed under a ring of RING_BYTES."""
+        return self._book("seal_book", ring, plain, SEALED_RECORD_BYTES)
 
     def open_book(self, ring: Bytes, sealed: Bytes) -> Book:
         """The plain book of a sealed one."""
-        return self._book("open_book", ring, sealed, PLAIN_RECORD)
+        return self._book("open_book", ring, sealed, PLAIN_RECORD_BYTES)
 
     def check_plain(self, plain: Bytes) -> int:
         """The number of records of a well-formed plain book."""

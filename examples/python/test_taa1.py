@@ -12,7 +12,19 @@ import unittest
 from typing import Any, Callable
 
 import taa1
-from taa1 import KeyNumber, Refused, Sitting, Version
+from taa1 import (
+    MOST_RECORDS,
+    PLAIN_RECORD_BYTES,
+    RING_BYTES,
+    SEALED_RECORD_BYTES,
+    SITTING_BYTES,
+    KeyNumber,
+    Kind,
+    Refusal,
+    Refused,
+    Sitting,
+    Version,
+)
 
 ENGINE = taa1.Engine(os.path.abspath(os.environ["TAA1_LIBRARY"]))
 
@@ -39,19 +51,19 @@ KEY_MASK = 0x0FFC
 SITTING = Sitting(
     ROOT, upward(10), KEY, b"challenge1", b"challenge2", b"common key", RESPONSE_MASK, KEY_MASK
 )
-RING = upward(36)
+RING = upward(RING_BYTES)
 
 
-def record(kind: int, body: bytes) -> bytes:
+def record(kind: Kind, body: bytes) -> bytes:
     """A plain record of the identity 123456 and the version 0708."""
     return bytes([kind, 0x12, 0x34, 0x56, 7, 8]) + body
 
 
 BOOK = [
-    record(1, upward(10) + bytes(2)),
-    record(2, upward(10) + b"\x00\x1f"),
-    record(3, upward(10) + b"\x0b\x0c"),
-    record(4, KEY + b"ok"),
+    record(Kind.TA31, upward(10) + bytes(2)),
+    record(Kind.TA51, upward(10) + b"\x00\x1f"),
+    record(Kind.TA81, upward(10) + b"\x0b\x0c"),
+    record(Kind.TA91, KEY + b"ok"),
 ]
 
 # For each call, values that it accepts.
@@ -212,7 +224,7 @@ class Results(unittest.TestCase):
         ]
         identity = ENGINE.ta61(c, 0x123456).to_bytes(3, "big")
         wanted = b"".join(
-            bytes([kind]) + identity + b"\x07\x08" + text for kind, text in enumerate(texts, 1)
+            bytes([kind]) + identity + b"\x07\x08" + text for kind, text in zip(Kind, texts)
         )
         plain = b"".join(BOOK)
         self.assertEqual(ENGINE.seal_book(RING, plain), (4, wanted))
@@ -220,11 +232,12 @@ class Results(unittest.TestCase):
         self.assertEqual(ENGINE.check_plain(plain), 4)
 
     def test_longest_and_empty_books(self) -> None:
-        for plain in (b"", BOOK[3] * 1024):
+        for plain in (b"", BOOK[3] * MOST_RECORDS):
             sealed_book = ENGINE.seal_book(RING, plain)
-            self.assertEqual(sealed_book.records, len(plain) // 18)
+            records = len(plain) // PLAIN_RECORD_BYTES
+            self.assertEqual(sealed_book.records, records)
             self.assertEqual(ENGINE.open_book(RING, sealed_book.content).content, plain)
-            self.assertEqual(ENGINE.check_plain(plain), len(plain) // 18)
+            self.assertEqual(ENGINE.check_plain(plain), records)
 
 
 class Refusals(unittest.TestCase):
@@ -241,24 +254,27 @@ class Refusals(unittest.TestCase):
 
     def test_books(self) -> None:
         good = BOOK[3]
-        self.refuses(1, 0, "check_plain", bytes(18 * 1024 + 1))
-        self.refuses(1, 0, "open_book", RING, bytes(21 * 1024 + 1))
-        self.refuses(2, 0, "seal_book", RING, good[1:])
-        self.refuses(3, 1, "seal_book", RING, good + bytes(18))
-        self.refuses(4, 2, "check_plain", good * 2 + record(1, upward(12)))
-        self.refuses(5, 1, "seal_book", RING, good + record(2, bytes(11) + b"\x20"))
-        self.refuses(6, 0, "open_book", RING, b"\x01" * 21)
-        self.refuses(11, 0, "seal_book", RING[1:], good)
+        plain_long = bytes(PLAIN_RECORD_BYTES * MOST_RECORDS + 1)
+        sealed_long = bytes(SEALED_RECORD_BYTES * MOST_RECORDS + 1)
+        number_32 = record(Kind.TA51, bytes(11) + b"\x20")
+        self.refuses(Refusal.BOOK_TOO_LONG, 0, "check_plain", plain_long)
+        self.refuses(Refusal.BOOK_TOO_LONG, 0, "open_book", RING, sealed_long)
+        self.refuses(Refusal.BOOK_NOT_WHOLE, 0, "seal_book", RING, good[1:])
+        self.refuses(Refusal.WRONG_KIND, 1, "seal_book", RING, good + bytes(PLAIN_RECORD_BYTES))
+        self.refuses(Refusal.NOT_ZERO, 2, "check_plain", good * 2 + record(Kind.TA31, upward(12)))
+        self.refuses(Refusal.WRONG_NUMBER, 1, "seal_book", RING, good + number_32)
+        self.refuses(Refusal.FLAG_SET, 0, "open_book", RING, b"\x01" * SEALED_RECORD_BYTES)
+        self.refuses(Refusal.WRONG_LENGTH, 0, "seal_book", RING[1:], good)
 
     def test_single_calls(self) -> None:
-        self.refuses(5, None, "ta51", KEY, VERSION, ROOT, KeyNumber(32))
-        self.refuses(7, None, "ta12", ROOT, KEY, 0x7000, KEY_MASK)
-        self.refuses(8, None, "ta22", ROOT, KEY, 0x3C00, KEY_MASK)
-        self.refuses(7, None, "ring", *SITTING[:6], KEY_MASK, RESPONSE_MASK)
-        self.refuses(9, None, "tb1", 1, 15)
-        self.refuses(9, None, "tb3", ROOT, 1, 33)
-        self.refuses(10, None, "ta61", KEY, 1 << 24)
-        self.refuses(10, None, "tb1", 1 << 16, 16)
+        self.refuses(Refusal.WRONG_NUMBER, None, "ta51", KEY, VERSION, ROOT, KeyNumber(32))
+        self.refuses(Refusal.WRONG_MASK, None, "ta12", ROOT, KEY, 0x7000, KEY_MASK)
+        self.refuses(Refusal.SHARED_BIT, None, "ta22", ROOT, KEY, 0x3C00, KEY_MASK)
+        self.refuses(Refusal.WRONG_MASK, None, "ring", *SITTING[:6], KEY_MASK, RESPONSE_MASK)
+        self.refuses(Refusal.WRONG_WIDTH, None, "tb1", 1, 15)
+        self.refuses(Refusal.WRONG_WIDTH, None, "tb3", ROOT, 1, 33)
+        self.refuses(Refusal.VALUE_WIDE, None, "ta61", KEY, 1 << 24)
+        self.refuses(Refusal.VALUE_WIDE, None, "tb1", 1 << 16, 16)
 
     def test_lengths(self) -> None:
         """A string of a wrong length, in each place that has a fixed one."""
@@ -266,7 +282,8 @@ class Refusals(unittest.TestCase):
             for at, value in enumerate(values):
                 if isinstance(value, bytes) and value not in (BOOK[0], ACCEPTED["open_book"][1]):
                     index = 0 if name.endswith("book") else None
-                    self.refuses(11, index, name, *values[:at], value[1:], *values[at + 1 :])
+                    others = (*values[:at], value[1:], *values[at + 1 :])
+                    self.refuses(Refusal.WRONG_LENGTH, index, name, *others)
 
     def test_short_output(self) -> None:
         """Only a call with too little room is refused so, and the module makes room."""
@@ -275,11 +292,11 @@ class Refusals(unittest.TestCase):
         self.assertEqual(str(caught.exception), "refused 12 at 0 (output shorter than the result)")
 
     def test_names(self) -> None:
-        self.assertEqual(list(taa1.NAMES), list(range(1, 13)))
+        self.assertEqual(list(taa1.NAMES), list(Refusal))
 
     def test_text(self) -> None:
-        self.assertEqual(str(Refused(9)), "refused 9 (width not 16 to 32)")
-        self.assertEqual(str(Refused(3, 0)), "refused 3 at 0 (kind not 1 to 4)")
+        self.assertEqual(str(Refused(Refusal.WRONG_WIDTH)), "refused 9 (width not 16 to 32)")
+        self.assertEqual(str(Refused(Refusal.WRONG_KIND, 0)), "refused 3 at 0 (kind not 1 to 4)")
 
     def test_copies(self) -> None:
         again: list[Callable[[Any], Any]] = [
@@ -316,7 +333,7 @@ class Values(unittest.TestCase):
                             call(name, *values[:at], wrong, *values[at + 1 :])
 
     def test_sittings(self) -> None:
-        for wrong in (None, bytes(70), tuple(SITTING)):
+        for wrong in (None, bytes(SITTING_BYTES), tuple(SITTING)):
             with self.assertRaisesRegex(TypeError, "Sitting expected"):
                 ENGINE.ring(wrong)  # type: ignore[arg-type]
 

@@ -1,16 +1,30 @@
 //! The TAA1 engine for Rust hosts: safe functions over `libengine.a`.
 //!
-//! A byte string may have any length: the engine refuses a wrong one.
+//! A byte string may have any length: the engine refuses a wrong one. The calls
+//! share nothing, so any number of threads may make them at once.
 
 pub mod raw;
 mod refusal;
 
 pub use refusal::{BookRefusal, Refusal};
 
-/// Bytes of a plain record.
-pub const PLAIN_RECORD: usize = 18;
-/// Bytes of a sealed record.
-pub const SEALED_RECORD: usize = 21;
+pub const RING_BYTES: usize = 36;
+pub const PLAIN_RECORD_BYTES: usize = 18;
+pub const SEALED_RECORD_BYTES: usize = 21;
+/// The most records of a book.
+pub const MOST_RECORDS: usize = 1024;
+/// Bytes of a file with what a ring is made from.
+pub const SITTING_BYTES: usize = 70;
+
+/// The kinds of a record, by the call that seals the key.
+#[repr(u8)]
+#[derive(Clone, Copy, Debug, PartialEq, Eq)]
+pub enum Kind {
+    Ta31 = 1,
+    Ta51 = 2,
+    Ta81 = 3,
+    Ta91 = 4,
+}
 
 /// A version. Not interchangeable with a key number.
 #[repr(C)]
@@ -50,7 +64,7 @@ pub struct Sitting<'a> {
 /// A ring and both responses.
 #[derive(Clone, Copy, Debug, PartialEq, Eq)]
 pub struct RingMade {
-    pub ring: [u8; 36],
+    pub ring: [u8; RING_BYTES],
     pub response1: [u8; 4],
     pub response2: [u8; 4],
 }
@@ -312,16 +326,16 @@ pub fn ring(sitting: &Sitting) -> Result<RingMade, Refusal> {
     })
 }
 
-/// A plain book, sealed under a ring of 36 bytes.
+/// A plain book, sealed under a ring of [`RING_BYTES`].
 pub fn seal_book(ring: &[u8], plain: &[u8]) -> Result<Book, BookRefusal> {
-    let mut out = vec![0; plain.len() / PLAIN_RECORD * SEALED_RECORD];
+    let mut out = vec![0; plain.len() / PLAIN_RECORD_BYTES * SEALED_RECORD_BYTES];
     let answer = call!(seal_book([ring], [plain], { out }));
     book(answer, out)
 }
 
 /// The plain book of a sealed one.
 pub fn open_book(ring: &[u8], sealed: &[u8]) -> Result<Book, BookRefusal> {
-    let mut out = vec![0; sealed.len() / SEALED_RECORD * PLAIN_RECORD];
+    let mut out = vec![0; sealed.len() / SEALED_RECORD_BYTES * PLAIN_RECORD_BYTES];
     let answer = call!(open_book([ring], [sealed], { out }));
     book(answer, out)
 }
@@ -387,8 +401,8 @@ mod tests {
     /// The calls above make room enough, so only this one meets the refusal.
     #[test]
     fn short_outputs_are_refused() {
-        let (ring, plain) = ([0; 36], [4; PLAIN_RECORD]);
-        let mut out = vec![0; SEALED_RECORD - 1];
+        let (ring, plain) = ([0; RING_BYTES], [4; PLAIN_RECORD_BYTES]);
+        let mut out = vec![0; SEALED_RECORD_BYTES - 1];
         let refused = Err(BookRefusal {
             refusal: Refusal::OutputShort,
             index: 0,

@@ -2,7 +2,7 @@
 //! and for hosts that need the calls themselves. A byte string is a pointer and a
 //! length, never `&[u8]`: Rust's slices do not pass this way.
 
-use crate::{KeyNumber, Version};
+use crate::{KeyNumber, Version, RING_BYTES};
 
 /// C's bool. A byte here, since Rust's bool may be nothing but 0 and 1.
 pub type Flag = u8;
@@ -50,7 +50,7 @@ pub struct UnsealedNumbered {
 #[derive(Clone, Copy, Debug, PartialEq, Eq)]
 pub struct RingMade {
     pub refusal: u32,
-    pub ring: [u8; 36],
+    pub ring: [u8; RING_BYTES],
     pub response1: [u8; 4],
     pub response2: [u8; 4],
 }

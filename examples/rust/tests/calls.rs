@@ -1,10 +1,11 @@
 //! Every call and the refusals through the wrapper.
 
 use std::array::from_fn;
+use std::thread;
 
 use taa1::{
-    Authentication, Book, BookRefusal, KeyNumber, Refusal, RingMade, Sitting, Unsealed,
-    UnsealedNumbered, Version,
+    Authentication, Book, BookRefusal, KeyNumber, Kind, Refusal, RingMade, Sitting, Unsealed,
+    UnsealedNumbered, Version, MOST_RECORDS, PLAIN_RECORD_BYTES, RING_BYTES, SEALED_RECORD_BYTES,
 };
 
 const ROOT: [u8; 16] = *b"a root or key...";
@@ -51,8 +52,8 @@ fn sealed(key: [u8; 16], data: [u8; 16]) -> [u8; 15] {
 }
 
 /// A plain record of the identity 123456 and [`VERSION`].
-fn record(kind: u8, body: [u8; 12]) -> [u8; 18] {
-    let head = [kind, 0x12, 0x34, 0x56, 7, 8];
+fn record(kind: Kind, body: [u8; 12]) -> [u8; PLAIN_RECORD_BYTES] {
+    let head = [kind as u8, 0x12, 0x34, 0x56, 7, 8];
     [&head[..], &body].concat().try_into().unwrap()
 }
 
@@ -224,13 +225,13 @@ fn rings_are_made() {
 
 #[test]
 fn books_are_sealed_and_opened() {
-    let (ring, key, group_key) = (upward::<36>(), upward(), upward());
+    let (ring, key, group_key) = (upward::<RING_BYTES>(), upward(), upward());
     let (d, o, c) = (&ring[..10], &ring[10..26], &ring[26..]);
     let plain = [
-        record(1, body(key, [0, 0])),
-        record(2, body(key, [0, 31])),
-        record(3, body(key, [11, 12])),
-        record(4, group_key),
+        record(Kind::Ta31, body(key, [0, 0])),
+        record(Kind::Ta51, body(key, [0, 31])),
+        record(Kind::Ta81, body(key, [11, 12])),
+        record(Kind::Ta91, group_key),
     ]
     .concat();
     let texts = [
@@ -261,9 +262,9 @@ fn books_are_sealed_and_opened() {
 
 #[test]
 fn longest_and_empty_books_are_sealed_and_opened() {
-    let ring = upward::<36>();
-    for records in [0, 1024] {
-        let plain = record(4, upward()).repeat(records);
+    let ring = upward::<RING_BYTES>();
+    for records in [0, MOST_RECORDS] {
+        let plain = record(Kind::Ta91, upward()).repeat(records);
         assert_eq!(taa1::check_plain(&plain), Ok(records));
         let sealed = taa1::seal_book(&ring, &plain).unwrap();
         assert_eq!(sealed.records, records);
@@ -272,27 +273,48 @@ fn longest_and_empty_books_are_sealed_and_opened() {
     }
 }
 
+/// The calls share nothing: eight threads at once get what one gets.
+#[test]
+fn threads_do_not_meet() {
+    let play = |number: u8| {
+        let ring = [number; RING_BYTES];
+        let plain = record(Kind::Ta91, [number; 12]).repeat(MOST_RECORDS);
+        let sealed = taa1::seal_book(&ring, &plain).unwrap().bytes;
+        assert_eq!(taa1::open_book(&ring, &sealed).unwrap().bytes, plain);
+        sealed
+    };
+    let alone: Vec<_> = (0..8).map(play).collect();
+    thread::scope(|scope| {
+        for (number, wanted) in (0..).zip(&alone) {
+            scope.spawn(move || (0..20).for_each(|_| assert_eq!(&play(number), wanted)));
+        }
+    });
+}
+
 /// All but the short output, which cannot arise here.
 #[test]
 fn books_are_refused() {
     let refused = |refusal, index| Some(BookRefusal { refusal, index });
     let check = |plain: &[u8]| taa1::check_plain(plain).err();
-    let seal = |plain: &[u8]| taa1::seal_book(&upward::<36>(), plain).err();
-    let open = |sealed: &[u8]| taa1::open_book(&upward::<36>(), sealed).err();
-    let good = record(4, upward());
+    let seal = |plain: &[u8]| taa1::seal_book(&upward::<RING_BYTES>(), plain).err();
+    let open = |sealed: &[u8]| taa1::open_book(&upward::<RING_BYTES>(), sealed).err();
+    let good = record(Kind::Ta91, upward());
 
     let long = refused(Refusal::BookTooLong, 0);
-    assert_eq!(check(&[0; 18 * 1024 + 1]), long);
-    assert_eq!(open(&[0; 21 * 1024 + 1]), long);
+    assert_eq!(check(&[0; PLAIN_RECORD_BYTES * MOST_RECORDS + 1]), long);
+    assert_eq!(open(&[0; SEALED_RECORD_BYTES * MOST_RECORDS + 1]), long);
     assert_eq!(seal(&good[1..]), refused(Refusal::BookNotWhole, 0));
-    let kind = [good, [0; 18]].concat();
+    let kind = [good, [0; PLAIN_RECORD_BYTES]].concat();
     assert_eq!(seal(&kind), refused(Refusal::WrongKind, 1));
-    let end = [good, good, record(1, upward())].concat();
+    let end = [good, good, record(Kind::Ta31, upward())].concat();
     assert_eq!(check(&end), refused(Refusal::NotZero, 2));
-    let number = [good, record(2, body(KEY, [0, 32]))].concat();
+    let number = [good, record(Kind::Ta51, body(KEY, [0, 32]))].concat();
     assert_eq!(seal(&number), refused(Refusal::WrongNumber, 1));
-    assert_eq!(open(&[1; 21]), refused(Refusal::FlagSet, 0));
-    let short = taa1::seal_book(&upward::<35>(), &good).err();
+    assert_eq!(
+        open(&[1; SEALED_RECORD_BYTES]),
+        refused(Refusal::FlagSet, 0)
+    );
+    let short = taa1::seal_book(&upward::<{ RING_BYTES - 1 }>(), &good).err();
     assert_eq!(short, refused(Refusal::WrongLength, 0));
 }
 

@@ -1,7 +1,7 @@
 //! Books: sealing, opening, and the check of a plain book.
 
 use crate::edges;
-use host::both::{check_plain, sealed, Call, MOST, OPEN, PLAIN, SEAL, SEALED};
+use host::both::{check_plain, sealed, Call, MOST, OPEN, PLAIN, RING, SEAL, SEALED};
 use host::damaged::{self, flipped, under_version};
 use host::engine::null;
 use host::random::Random;
@@ -32,13 +32,13 @@ const ENDS: [(u8, [u8; 2]); 14] = [
 
 /// A ring, a plain book and its sealed form.
 struct Book {
-    ring: [u8; 36],
+    ring: [u8; RING],
     plain: Vec<u8>,
     sealed: Vec<u8>,
 }
 
 impl Book {
-    fn new(ring: [u8; 36], plain: Vec<u8>) -> Self {
+    fn new(ring: [u8; RING], plain: Vec<u8>) -> Self {
         let sealed = sealed(&ring, &plain);
         Book {
             ring,
@@ -113,7 +113,7 @@ pub fn run(tally: &mut Tally, random: &mut Random) {
     damage_groups(tally, random);
     tally.group("books (zeros, ones, single bits)", |group| {
         let book = Book::of_each_kind(random);
-        for ring in edges::strings::<36>() {
+        for ring in edges::strings::<RING>() {
             for (call, bytes) in book.forms() {
                 call.there_and_back(group, &ring, bytes);
             }
@@ -133,7 +133,7 @@ pub fn run(tally: &mut Tally, random: &mut Random) {
     });
     tally.group("books (garbage)", |group| {
         for i in 0..20_000 {
-            let (ring, length) = (random.bytes::<36>(), random.below(130));
+            let (ring, length) = (random.bytes::<RING>(), random.below(130));
             let mut bytes = random.vec(length);
             if i % 2 == 0 {
                 // The kinds at least are right, wherever a record may start.
@@ -198,8 +198,9 @@ fn lengths(group: &mut Group, random: &mut Random) {
 /// Refusals 11, 1, 2, 12 and 3, alone and together.
 fn orders(group: &mut Group, random: &mut Random) {
     let mut book = Book::random(random, MOST + 1);
-    let bytes = random.bytes::<{ 256 + 36 }>();
-    let rings = [0, 1, 35, 36, 37, 72, 256 + 36].map(|length| &bytes[..length]);
+    let bytes = random.bytes::<{ 256 + RING }>();
+    let rings =
+        [0, 1, RING - 1, RING, RING + 1, 2 * RING, 256 + RING].map(|length| &bytes[..length]);
     for round in 0..2 {
         for ring in rings.into_iter().chain([null(), &book.ring]) {
             for (call, bytes) in book.forms() {
@@ -240,7 +241,7 @@ fn with_end(random: &mut Random, (kind, end): (u8, [u8; 2])) -> [u8; PLAIN] {
 
 /// The first record with a fault decides, and in it 3 comes before 4 and 5 or 6.
 fn faults(group: &mut Group, random: &mut Random) {
-    let ring = random.bytes::<36>();
+    let ring = random.bytes::<RING>();
     for all in 0..ENDS.len().pow(3) {
         let ends = from_fn::<_, 3, _>(|i| ENDS[all / ENDS.len().pow(i as u32) % ENDS.len()]);
         let book = ends.map(|end| with_end(random, end)).concat();
@@ -258,7 +259,7 @@ fn faults(group: &mut Group, random: &mut Random) {
 
 /// A right sealed record of each kind; the same with a wrong text, a wrong
 /// version and the next kind; wrong kinds with right and with wrong texts.
-fn sealed_records(random: &mut Random, ring: &[u8; 36]) -> Vec<[u8; SEALED]> {
+fn sealed_records(random: &mut Random, ring: &[u8; RING]) -> Vec<[u8; SEALED]> {
     let right = KINDS.map(|kind| {
         let sealed = sealed(ring, &random.record(kind));
         from_fn::<u8, SEALED, _>(|i| sealed[i])
@@ -316,7 +317,7 @@ fn record_groups(tally: &mut Tally, random: &mut Random) {
         }
     });
     tally.group("books (every end of a body)", |group| {
-        let ring = random.bytes::<36>();
+        let ring = random.bytes::<RING>();
         for kind in KINDS {
             for byte in 0..=255 {
                 for other in [0, 1, 31, 32, 255] {
@@ -383,7 +384,7 @@ fn damage_groups(tally: &mut Tally, random: &mut Random) {
     });
     tally.group("books (each bit of the ring flipped)", |group| {
         let book = Book::of_each_kind(random);
-        for bit in 0..8 * 36 {
+        for bit in 0..8 * RING {
             let ring = flipped(book.ring, bit);
             for (call, bytes) in book.forms() {
                 for record in bytes.chunks(call.from) {
@@ -396,7 +397,7 @@ fn damage_groups(tally: &mut Tally, random: &mut Random) {
 
 /// What the cipher gets for a well-formed record: its key, and the record's key
 /// and number with their check bytes.
-fn expanded(ring: &[u8; 36], record: &[u8; PLAIN]) -> ([u8; 16], [u8; 15]) {
+fn expanded(ring: &[u8; RING], record: &[u8; PLAIN]) -> ([u8; 16], [u8; 15]) {
     let version = u16::from_be_bytes([record[4], record[5]]);
     let body: [u8; 12] = from_fn(|i| record[6 + i]);
     let d = under_version(from_fn(|i| ring[i]), version);

@@ -1,6 +1,6 @@
 //! Books of sealed keys and their listing, from document 01.
 
-use crate::taa1;
+use crate::taa1::{self, RING};
 use std::fmt::Write;
 
 /// Most records in a book.
@@ -31,7 +31,7 @@ struct Ring<'a> {
 
 impl<'a> Ring<'a> {
     fn of(ring: &'a [u8]) -> Result<Ring<'a>, Refusal> {
-        if ring.len() != 36 {
+        if ring.len() != RING {
             return Err((11, 0));
         }
         let (d, rest) = ring.split_at(10);
@@ -293,7 +293,7 @@ mod tests {
     fn sealed_books_open() {
         let mut random = Random::new(7);
         for records in [0, 1, 2, 3, 4, 5, 40] {
-            let (ring, plain) = (random.vec(36), random.plain_book(records));
+            let (ring, plain) = (random.vec(RING), random.plain_book(records));
             assert_eq!(
                 check_plain(&plain),
                 BookAnswer {
@@ -328,7 +328,7 @@ mod tests {
     /// A sealed record holds the single calls' results.
     #[test]
     fn record_by_hand() {
-        let ring: Vec<u8> = (0..36).collect();
+        let ring: Vec<u8> = (0..RING as u8).collect();
         let plain = [
             3, 0x12, 0x34, 0x56, 1, 2, 9, 8, 7, 6, 5, 4, 3, 2, 1, 0, 0xab, 0xcd,
         ];
@@ -345,7 +345,7 @@ mod tests {
     #[test]
     fn refusals_in_order() {
         let mut random = Random::new(8);
-        let (ring, plain) = (random.vec(36), random.plain_book(6));
+        let (ring, plain) = (random.vec(RING), random.plain_book(6));
         let mut good = vec![0; 6 * SEALED];
         assert_eq!(seal_book(&ring, &plain, &mut good).refusal, 0);
 
@@ -359,7 +359,7 @@ mod tests {
         assert_eq!(seal(&ring[1..], &long, 0), refused(11, 0));
         assert_eq!(seal(&ring, &long, 0), refused(1, 0));
         assert_eq!(seal(&ring, &[9; 17], 0), refused(2, 0));
-        assert_eq!(seal(&ring, &[9; 36], 41), refused(12, 0));
+        assert_eq!(seal(&ring, &[9; 2 * PLAIN], 2 * SEALED - 1), refused(12, 0));
         let mut faulty = plain.clone();
         faulty[5 * PLAIN] = 5;
         assert_eq!(seal(&ring, &faulty, 126), refused(3, 5));
@@ -401,7 +401,7 @@ mod tests {
     #[test]
     fn most_records() {
         let mut random = Random::new(9);
-        let (ring, plain) = (random.vec(36), random.plain_book(MOST + 1));
+        let (ring, plain) = (random.vec(RING), random.plain_book(MOST + 1));
         let mut sealed = vec![0; SEALED * (MOST + 1)];
         assert_eq!(seal_book(&ring, &plain, &mut sealed), refused(1, 0));
         assert_eq!(check_plain(&plain), refused(1, 0));

@@ -3,14 +3,11 @@
 use crate::books;
 use crate::engine::{self, null_out, BookAnswer};
 use crate::tally::Group;
+pub use interface::{
+    MOST_RECORDS as MOST, PLAIN_RECORD_BYTES as PLAIN, RING_BYTES as RING,
+    SEALED_RECORD_BYTES as SEALED,
+};
 use std::fmt::{Debug, Formatter, Result};
-
-/// Bytes of a plain record, and of a sealed one.
-pub const PLAIN: usize = 18;
-pub const SEALED: usize = 21;
-
-/// The most records of a book.
-pub const MOST: usize = 1024;
 
 /// Bytes on either side of an output, which no call may touch.
 const MARGIN: usize = 64;

@@ -1,5 +1,6 @@
 //! Random inputs from a seed, the same on every run.
 
+use crate::both::PLAIN;
 use crate::settings;
 
 /// Splitmix64.
@@ -50,7 +51,7 @@ impl Random {
     }
 
     /// A well-formed plain record of this kind.
-    pub fn record(&mut self, kind: u8) -> [u8; 18] {
+    pub fn record(&mut self, kind: u8) -> [u8; PLAIN] {
         let mut record = self.bytes();
         record[0] = kind;
         match kind {

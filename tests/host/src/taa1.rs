@@ -6,6 +6,9 @@
 use crate::hurdle;
 use std::array::from_fn;
 
+/// Bytes of a ring.
+pub const RING: usize = 36;
+
 /// Answer of one byte string.
 #[derive(Debug, Clone, Copy, PartialEq, Eq)]
 pub struct Bytes<const N: usize> {
@@ -59,7 +62,7 @@ pub struct UnsealedNumbered {
 #[derive(Debug, Clone, Copy, PartialEq, Eq)]
 pub struct RingMade {
     pub refusal: u32,
-    pub ring: [u8; 36],
+    pub ring: [u8; RING],
     pub response1: [u8; 4],
     pub response2: [u8; 4],
 }
@@ -121,7 +124,7 @@ impl Answer for RingMade {
     fn refused(refusal: u32) -> Self {
         RingMade {
             refusal,
-            ring: [0; 36],
+            ring: [0; RING],
             response1: [0; 4],
             response2: [0; 4],
         }

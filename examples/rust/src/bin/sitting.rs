@@ -9,7 +9,7 @@ use std::path::Path;
 use std::process::ExitCode;
 use std::{env, fs};
 
-use taa1::{Sitting, SEALED_RECORD};
+use taa1::{Sitting, SEALED_RECORD_BYTES, SITTING_BYTES};
 
 fn read(folder: &OsStr, name: &str) -> Result<Vec<u8>, String> {
     let mut path = folder.to_os_string();
@@ -20,7 +20,7 @@ fn read(folder: &OsStr, name: &str) -> Result<Vec<u8>, String> {
 
 /// The sitting in the bytes of sitting.bin.
 fn parse(bytes: &[u8]) -> Option<Sitting<'_>> {
-    if bytes.len() != 70 {
+    if bytes.len() != SITTING_BYTES {
         return None;
     }
     Some(Sitting {
@@ -45,7 +45,8 @@ fn play(folder: &OsStr, lines: &mut Vec<String>) -> Result<(), String> {
     let plain = read(folder, "plain.book")?;
     let candidate = read(folder, "candidate.book")?;
 
-    let sitting = parse(&sitting).ok_or("sitting.bin does not have 70 bytes")?;
+    let sitting = parse(&sitting)
+        .ok_or_else(|| format!("sitting.bin does not have {SITTING_BYTES} bytes"))?;
     let made = taa1::ring(&sitting).map_err(|e| format!("sitting.bin: {e}"))?;
     lines.push(format!("ring {}", hex(&made.ring)));
     lines.push(format!("response 1 {}", hex(&made.response1)));
@@ -54,7 +55,7 @@ fn play(folder: &OsStr, lines: &mut Vec<String>) -> Result<(), String> {
     let sealed = taa1::seal_book(&made.ring, &plain).map_err(|e| format!("plain.book: {e}"))?;
     let (records, length) = (sealed.records, sealed.bytes.len());
     lines.push(format!("sealed {records} records, {length} bytes"));
-    for record in sealed.bytes.chunks(SEALED_RECORD) {
+    for record in sealed.bytes.chunks(SEALED_RECORD_BYTES) {
         lines.push(format!("sealed {}", hex(record)));
     }
 

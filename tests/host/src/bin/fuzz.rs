@@ -1,7 +1,7 @@
 //! Changes right books at random and compares what becomes of them, for 60
 //! seconds or as many as the argument says.
 
-use host::both::{check_plain, sealed, Call, MOST, OPEN, SEAL};
+use host::both::{check_plain, sealed, Call, MOST, OPEN, RING, SEAL};
 use host::random::Random;
 use host::settings;
 use host::tally::{Group, Tally};
@@ -47,7 +47,7 @@ impl Case {
             0 => MOST - 1 + random.below(3),
             _ => random.below(8),
         };
-        let (ring, mut book) = (random.vec(36), random.plain_book(records));
+        let (ring, mut book) = (random.vec(RING), random.plain_book(records));
         if std::ptr::eq(call, &OPEN) {
             book = sealed(&ring, &book);
         }
