@@ -7,22 +7,22 @@ use crate::derivation::combined;
 use crate::derivation::core;
 use crate::derivation::int;
 use crate::derivation::reversed;
-use crate::masks::chosen4;
-use crate::masks::chosen10;
 use crate::masks::refusal_of;
+use crate::masks::split;
 use crate::recipe::make;
 use arrays::array10;
 use arrays::array16;
 use standard::Authentication;
 use standard::Bytes10;
 use standard::Bytes16;
+use standard::RingInputs;
 use standard::RingMade;
 use standard::refused_ring;
 use standard::refused10;
 use standard::refused16;
 ghost use mathlib.Core.Path.{_≡_};
 ghost use Rattle.standard.specs.Bytes.{zeros};
-ghost use Rattle.standard.specs.Derivation.{ta11Call, ta21Call, ta41Call, ta12Call, ta22Call, ta71Call, ta101Call, ringCall};
+ghost use Rattle.standard.specs.Derivation.{ta11Call, ta21Call, ta41Call, ta12Call, ta22Call, ta71Call, ta101Call, ringOf, ringCall};
 
 fn refused_split(number: u32) -> Authentication
     ensures { λ r. ⌜ r ≡ record { refusal = number; response = zeros 4; key = zeros 10 } ⌝ }
@@ -84,12 +84,11 @@ pub fn ta12(
     if number != 0 {
         return refused_split(number);
     }
-    let output = core(array16(session_key), array10(challenge));
-    Authentication {
-        refusal: 0,
-        response: chosen4(response_mask, output),
-        key: chosen10(key_mask, output),
-    }
+    split(
+        core(array16(session_key), array10(challenge)),
+        response_mask,
+        key_mask,
+    )
 }
 
 // TA22 does what TA12 does, under TA21's session key: its challenge is not reversed.
@@ -133,6 +132,17 @@ pub fn ta101(ks: &[u8], gck0: &[u8], mni: u64) -> Bytes16
     }
 }
 
+// The ring recipe on typed arrays.
+pub fn ring_of(x: RingInputs) -> RingMade
+    ensures { λ r. ⌜ r ≡ ringOf x ⌝ }
+{
+    let number = refusal_of(x.response_mask, x.key_mask);
+    if number != 0 {
+        return refused_ring(number);
+    }
+    make(x)
+}
+
 pub fn ring(
     root: &[u8],
     rs: &[u8],
@@ -154,18 +164,14 @@ pub fn ring(
     if !long {
         return refused_ring(11);
     }
-    let number = refusal_of(response_mask, key_mask);
-    if number != 0 {
-        return refused_ring(number);
-    }
-    make(
-        array16(root),
-        array10(rs),
-        array10(rso),
-        array10(rand1),
-        array10(rand2),
-        array10(c),
+    ring_of(RingInputs {
+        root: array16(root),
+        rs: array10(rs),
+        rso: array10(rso),
+        rand1: array10(rand1),
+        rand2: array10(rand2),
+        c: array10(c),
         response_mask,
         key_mask,
-    )
+    })
 }

@@ -1,8 +1,9 @@
 // The two masks of TA12 and TA22: their tests, and the bytes that they choose.
+use standard::Authentication;
 ghost use mathlib.Core.Path.{_≡_};
 ghost use lib.Count.{ones};
 ghost use lib.ListN.{length};
-ghost use Rattle.standard.specs.Derivation.{chosen};
+ghost use Rattle.standard.specs.Derivation.{chosen, split as splitOf};
 ghost use Rattle.standard.specs.Refusals.{maskTests, first};
 
 // The number of the first test that the masks fail; 0 if none.
@@ -36,7 +37,7 @@ fn gather(mask: u16, output: &[u8; 16], out: &mut [u8])
 }
 
 // The response: four bytes, as the mask has four ones.
-pub(crate) fn chosen4(mask: u16, output: [u8; 16]) -> [u8; 4]
+fn chosen4(mask: u16, output: [u8; 16]) -> [u8; 4]
     requires { ⌜ ones mask ≡ 4 ⌝ }
     ensures { λ r. ⌜ r ≡ chosen mask output ⌝ }
 {
@@ -46,11 +47,23 @@ pub(crate) fn chosen4(mask: u16, output: [u8; 16]) -> [u8; 4]
 }
 
 // The key: ten bytes, as the mask has ten ones.
-pub(crate) fn chosen10(mask: u16, output: [u8; 16]) -> [u8; 10]
+fn chosen10(mask: u16, output: [u8; 16]) -> [u8; 10]
     requires { ⌜ ones mask ≡ 10 ⌝ }
     ensures { λ r. ⌜ r ≡ chosen mask output ⌝ }
 {
     let mut out = [0u8; 10];
     gather(mask, &output, &mut out);
     out
+}
+
+// The response and the key, each chosen by its mask.
+pub(crate) fn split(output: [u8; 16], response_mask: u16, key_mask: u16) -> Authentication
+    requires { ⌜ (ones «response_mask» ≡ 4) × (ones «key_mask» ≡ 10) ⌝ }
+    ensures { λ r. ⌜ r ≡ splitOf «response_mask» «key_mask» output ⌝ }
+{
+    Authentication {
+        refusal: 0,
+        response: chosen4(response_mask, output),
+        key: chosen10(key_mask, output),
+    }
 }

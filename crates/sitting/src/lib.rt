@@ -1,7 +1,8 @@
 // The ring recipe on a sitting's file: root 16 bytes, RS, RSO, RAND1, RAND2 and C 10 each, response mask 2, key mask 2.
 use arrays::array10;
 use arrays::array16;
-use keys::ring;
+use keys::ring_of;
+use standard::RingInputs;
 use standard::RingMade;
 use standard::refused_ring;
 ghost use mathlib.Core.Path.{_≡_};
@@ -39,22 +40,14 @@ pub fn sitting_ring(s: &[u8]) -> RingMade
     if s.len() != SITTING {
         return refused_ring(11);
     }
-    let root = array16(s);
-    let rs = ten(s, 16);
-    let rso = ten(s, 26);
-    let rand1 = ten(s, 36);
-    let rand2 = ten(s, 46);
-    let c = ten(s, 56);
-    let response_mask = mask(s[66], s[67]);
-    let key_mask = mask(s[68], s[69]);
-    ring(
-        &root,
-        &rs,
-        &rso,
-        &rand1,
-        &rand2,
-        &c,
-        response_mask,
-        key_mask,
-    )
+    ring_of(RingInputs {
+        root: array16(s),
+        rs: ten(s, 16),
+        rso: ten(s, 26),
+        rand1: ten(s, 36),
+        rand2: ten(s, 46),
+        c: ten(s, 56),
+        response_mask: mask(s[66], s[67]),
+        key_mask: mask(s[68], s[69]),
+    })
 }

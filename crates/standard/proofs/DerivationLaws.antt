@@ -1,4 +1,4 @@
--- Masks: what their tests tell, and how many bytes they choose.
+-- Masks: what their tests tell, and how many bytes they choose. The ring recipe on strings of the right lengths.
 -- Assumes nothing.
 use mathlib.Core.Bool.{Bool, true, false, _&&_}
 use mathlib.Core.List.{List, [], _∷_}
@@ -13,10 +13,10 @@ use lib.Dec.{eqb}
 use lib.ListN.{length}
 use lib.Pow.{pow-pos, mod-pow-add}
 use borrow.Author.Tests.{eqb-true}
-use Rattle.standard.specs.Bytes.{byte, bit, choose}
-use Rattle.standard.specs.Derivation.{chosenOf, chosen}
+use Rattle.standard.specs.Bytes.{byte, bit, part, choose}
+use Rattle.standard.specs.Derivation.{chosenOf, chosen, ringOf, long6, ringCall}
 use Rattle.standard.specs.Refusals.{wrongMask, sharedBit, maskTests, first}
-use Rattle.standard.proofs.BytesLaws.{and-split}
+use Rattle.standard.proofs.BytesLaws.{long-spelled, and-split}
 
 first-test : (t u : Bool) → first ((t, wrongMask) ∷ (u, sharedBit) ∷ []) ≡ 0 → t ≡ true
 first-test true u e = refl
@@ -48,3 +48,25 @@ length-of (suc n) m o =
 pub length-chosen : (m : ℕ) (o : List ℕ) → m < 2 ^ 16 → length (chosen m o) ≡ ones m
 unfolding chosen
 length-chosen m o h = length-of 16 m o ∙ ap ones (mod-eq-of-lt h)
+
+-- ---- the ring recipe
+
+pub ring-long : (root rs rso rand1 rand2 c : List ℕ) (rm km : ℕ) → long6 root rs rso rand1 rand2 c ≡ true
+    → ringOf (record {
+      root = part 0 16 root;
+      rs = part 0 10 rs;
+      rso = part 0 10 rso;
+      rand1 = part 0 10 rand1;
+      rand2 = part 0 10 rand2;
+      c = part 0 10 c;
+      «response_mask» = rm;
+      «key_mask» = km;
+    }) ≡ ringCall root rs rso rand1 rand2 c rm km
+unfolding ringOf ringCall
+ring-long root rs rso rand1 rand2 c rm km t =
+    let s₅ = and-split _ _ t in
+    let s₄ = and-split _ _ (s₅ .0) in
+    let s₃ = and-split _ _ (s₄ .0) in
+    let s₂ = and-split _ _ (s₃ .0) in
+    let s₁ = and-split _ _ (s₂ .0) in
+    rw (long-spelled 16 root (s₁ .0), long-spelled 10 rs (s₁ .1), long-spelled 10 rso (s₂ .1), long-spelled 10 rand1 (s₃ .1), long-spelled 10 rand2 (s₄ .1), long-spelled 10 c (s₅ .1), t)

@@ -12,6 +12,7 @@ use Rattle.standard.specs.Refusals.{wrongLength, valueWide, long, fits, 
 use Rattle.standard.specs.declared.Authentication.{Authentication}
 use Rattle.standard.specs.declared.Bytes10.{Bytes10}
 use Rattle.standard.specs.declared.Bytes16.{Bytes16}
+use Rattle.standard.specs.declared.RingInputs.{RingInputs}
 use Rattle.standard.specs.declared.RingMade.{RingMade}
 
 -- ---- TA11, TA21, TA41 (5.6)
@@ -40,6 +41,10 @@ chosenOf (suc i) m o = choose (eqb (bit i m) 1) (byte 16 o i ∷ chosenOf i m o)
 unfoldable pub chosen : ℕ → List ℕ → List ℕ
 chosen m o = chosenOf 16 m o
 
+-- the response and the key of an output
+abbrev pub split : ℕ → ℕ → List ℕ → Authentication
+split rm km o = authentication 0 (chosen rm o) (chosen km o)
+
 -- ---- TA71 (5.13)
 
 -- A9..A4, A3 ⊕ B9 .. A0 ⊕ B6, B5..B0
@@ -60,15 +65,25 @@ ta101 ks gck0 mni = core ks (int gck0 mni)
 -- ---- the ring recipe: D, O, C, and both responses
 
 -- the outputs of TA12 and TA22 before their split
-abbrev pub output1 : (root rs rand1 : List ℕ) → List ℕ
-output1 root rs rand1 = core (ta11 root rs) rand1
+abbrev pub output1 : RingInputs → List ℕ
+output1 x = core (ta11 (x .root) (x .rs)) (x .rand1)
 
-abbrev pub output2 : (root rs rand2 : List ℕ) → List ℕ
-output2 root rs rand2 = core (ta21 root rs) rand2
+abbrev pub output2 : RingInputs → List ℕ
+output2 x = core (ta21 (x .root) (x .rs)) (x .rand2)
 
-unfoldable pub ring : (root rs rso rand1 rand2 c : List ℕ) (km : ℕ) → List ℕ
-ring root rs rso rand1 rand2 c km =
-    tb4 (chosen km (output1 root rs rand1)) (chosen km (output2 root rs rand2)) ++ part 0 16 (ta41 root rso) ++ part 0 10 c
+unfoldable pub ring : RingInputs → List ℕ
+ring x = tb4 (chosen (x .«key_mask») (output1 x)) (chosen (x .«key_mask») (output2 x)) ++ part 0 16 (ta41 (x .root) (x .rso)) ++ part 0 10 (x .c)
+
+-- the tests of the inputs besides their lengths
+abbrev pub ringTests : RingInputs → List (Bool × ℕ)
+ringTests x = maskTests (x .«response_mask») (x .«key_mask»)
+
+abbrev pub ringAnswer : ℕ → RingInputs → RingMade
+ringAnswer r x = ringMade r (ring x) (chosen (x .«response_mask») (output1 x)) (chosen (x .«response_mask») (output2 x))
+
+-- the recipe on inputs of the right lengths
+unfoldable pub ringOf : RingInputs → RingMade
+ringOf x = ringAnswer (first (ringTests x)) x
 
 -- ---- the calls
 
@@ -97,8 +112,11 @@ unfoldable pub ta101Call : List ℕ → List ℕ → ℕ → Bytes16
 ta101Call ks gck0 mni =
     answer16 (first ((long 16 ks && long 10 gck0, wrongLength) ∷ (fits 24 mni, valueWide) ∷ [])) (ta101 ks gck0 mni)
 
+-- the six strings have their lengths
+abbrev pub long6 : (root rs rso rand1 rand2 c : List ℕ) → Bool
+long6 root rs rso rand1 rand2 c = long 16 root && long 10 rs && long 10 rso && long 10 rand1 && long 10 rand2 && long 10 c
+
 unfoldable pub ringCall : (root rs rso rand1 rand2 c : List ℕ) (rm km : ℕ) → RingMade
 ringCall root rs rso rand1 rand2 c rm km =
-    ringMade
-    (first ((long 16 root && long 10 rs && long 10 rso && long 10 rand1 && long 10 rand2 && long 10 c, wrongLength) ∷ maskTests rm km))
-    (ring root rs rso rand1 rand2 c km) (chosen rm (output1 root rs rand1)) (chosen rm (output2 root rs rand2))
+    let x : RingInputs = record { root = root; rs = rs; rso = rso; rand1 = rand1; rand2 = rand2; c = c; «response_mask» = rm; «key_mask» = km } in
+    ringAnswer (first ((long6 root rs rso rand1 rand2 c, wrongLength) ∷ ringTests x)) x

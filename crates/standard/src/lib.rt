@@ -76,6 +76,18 @@ pub struct UnsealedGroup {
     pub flag: bool,
 }
 
+// What the ring recipe takes.
+pub struct RingInputs {
+    pub root: [u8; 16],
+    pub rs: [u8; 10],
+    pub rso: [u8; 10],
+    pub rand1: [u8; 10],
+    pub rand2: [u8; 10],
+    pub c: [u8; 10],
+    pub response_mask: u16,
+    pub key_mask: u16,
+}
+
 // What the ring recipe answers.
 #[repr(C)]
 pub struct RingMade {

@@ -46,27 +46,21 @@ array10-requires c κs = search needs
 core-requires : tie.Need-core-requires
 core-requires c κs = search needs
 
-chosen4-requires : tie.Need-chosen4-requires
-chosen4-requires c κs =
+split-requires : tie.Need-split-requires
+split-requires c κs =
     let accepted = c .before .before .before in
-    masks-ones _ _ (sym (accepted .before .refusal-of .ensures) ∙ accepted .if2 .left) .0
-
-chosen10-requires : tie.Need-chosen10-requires
-chosen10-requires c κs =
-    let accepted = c .before .before .before .before in
-    masks-ones _ _ (sym (accepted .before .refusal-of .ensures) ∙ accepted .if2 .left) .1
+    masks-ones _ _ (sym (accepted .before .refusal-of .ensures) ∙ accepted .if2 .left)
 
 returns-3 : tie.Need-returns-3
 unfolding ta12Call
 returns-3 c =
-    let made = c .before .before in
-    let accepted = made .before .before .before in
+    let accepted = c .before .before .before .before in
     let tested = accepted .before .before in
     let x = tested .before .before .before .args in
     let t : long 16 (now (x .session-key)) && long 10 (now (x .challenge)) ≡ true = not-false _ (tested .if1 .left) in
     let s = both-spelled 16 10 (now (x .session-key)) (now (x .challenge)) t in
     let m : first (maskTests (x .response-mask) (x .key-mask)) ≡ 0 = sym (accepted .before .refusal-of .ensures) ∙ accepted .if2 .left in
-    rw (c .chosen10 .ensures, c .before .chosen4 .ensures, made .core .ensures, made .before .array10 .ensures, made .before .before .array16 .ensures, s .0, s .1, t, m)
+    rw (c .split .ensures, c .before .core .ensures, c .before .before .array10 .ensures, c .before .before .before .array16 .ensures, s .0, s .1, t, m)
 
 pub ta12-spec : {M : Type 1} → statement M
 ta12-spec =
@@ -80,6 +74,5 @@ ta12-spec =
     array16-requires
     array10-requires
     core-requires
-    chosen4-requires
-    chosen10-requires
+    split-requires
     returns-3)

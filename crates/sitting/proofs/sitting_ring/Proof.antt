@@ -2,6 +2,7 @@
 -- Assumes nothing.
 use borrow.Author.Needs.{needs}
 use borrow.Author.Tests.{eq-eqb, ne-eqb}
+use Rattle.standard.specs.Derivation.{ringOf, ringCall}
 use Rattle.standard.specs.Programs.{sittingRing}
 use Rattle.sitting.proofs.sitting_ring.Statement.{statement}
 use Rattle.sitting.proofs.sitting_ring.Tie as tie
@@ -49,36 +50,17 @@ shared-slice-read-mask-4 c = search needs
 mask-requires-2 : tie.Need-mask-requires-2
 mask-requires-2 c κs = search needs
 
-slice-aggregate-ring : tie.Need-slice-aggregate-ring
-slice-aggregate-ring c = search needs
-
-slice-aggregate-ring-2 : tie.Need-slice-aggregate-ring-2
-slice-aggregate-ring-2 c = search needs
-
-slice-aggregate-ring-3 : tie.Need-slice-aggregate-ring-3
-slice-aggregate-ring-3 c = search needs
-
-slice-aggregate-ring-4 : tie.Need-slice-aggregate-ring-4
-slice-aggregate-ring-4 c = search needs
-
-slice-aggregate-ring-5 : tie.Need-slice-aggregate-ring-5
-slice-aggregate-ring-5 c = search needs
-
-slice-aggregate-ring-6 : tie.Need-slice-aggregate-ring-6
-slice-aggregate-ring-6 c = search needs
-
-ring-requires : tie.Need-ring-requires
-ring-requires c κs = search needs
+ring-of-requires : tie.Need-ring-of-requires
+ring-of-requires c κs = search needs
 
 returns-2 : tie.Need-returns-2
-unfolding sittingRing
+unfolding sittingRing ringOf ringCall
 returns-2 c =
-    let masks = c .before .before .before .before .before .before .before in
-    let mask = masks .before .before .before in
+    let mask = c .before .before .before .before in
     let c5 = mask .before .before .before in
     let c2 = c5 .before .before .before in
     let root = c2 .before .before in
-    rw (c .ring .ensures, masks .mask2 .ensures, mask .mask .ensures, c5 .ten5 .ensures, c5 .before .ten4 .ensures, c5 .before .before .ten3 .ensures, c2 .ten2 .ensures, c2 .before .ten .ensures, root .array16 .ensures, eq-eqb _ _ (root .before .if1 .left))
+    rw (c .ring-of .ensures, c .before .mask2 .ensures, mask .mask .ensures, c5 .ten5 .ensures, c5 .before .ten4 .ensures, c5 .before .before .ten3 .ensures, c2 .ten2 .ensures, c2 .before .ten .ensures, root .array16 .ensures, eq-eqb _ _ (root .before .if1 .left))
 
 pub sitting-ring-spec : {M : Type 1} → statement M
 sitting-ring-spec =
@@ -98,11 +80,5 @@ sitting-ring-spec =
     shared-slice-read-mask-3
     shared-slice-read-mask-4
     mask-requires-2
-    slice-aggregate-ring
-    slice-aggregate-ring-2
-    slice-aggregate-ring-3
-    slice-aggregate-ring-4
-    slice-aggregate-ring-5
-    slice-aggregate-ring-6
-    ring-requires
+    ring-of-requires
     returns-2)

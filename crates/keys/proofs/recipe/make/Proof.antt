@@ -1,21 +1,19 @@
 -- `keys::recipe::make` meets its contract.
 -- Assumes nothing.
+use mathlib.Core.Path.{_≡_}
 use borrow.Author.Needs.{needs}
-use Rattle.standard.specs.Derivation.{ring}
+use Rattle.standard.specs.Derivation.{split, output1, output2, ring}
 use Rattle.keys.proofs.recipe.make.Statement.{statement}
 use Rattle.keys.proofs.recipe.make.Tie as tie
 
-output1-requires : tie.Need-output1-requires
-output1-requires c κs = search needs
+half-requires : tie.Need-half-requires
+half-requires c κs = search needs
 
-output2-requires : tie.Need-output2-requires
-output2-requires c κs = search needs
+reversed-requires : tie.Need-reversed-requires
+reversed-requires c κs = search needs
 
-chosen10-requires : tie.Need-chosen10-requires
-chosen10-requires c κs = search needs
-
-chosen10-requires-2 : tie.Need-chosen10-requires-2
-chosen10-requires-2 c κs = search needs
+half-requires-2 : tie.Need-half-requires-2
+half-requires-2 c κs = search needs
 
 mix4-requires : tie.Need-mix4-requires
 mix4-requires c κs = search needs
@@ -26,31 +24,24 @@ core-requires c κs = search needs
 joined-requires : tie.Need-joined-requires
 joined-requires c κs = search needs
 
-chosen4-requires : tie.Need-chosen4-requires
-chosen4-requires c κs = search needs
-
-chosen4-requires-2 : tie.Need-chosen4-requires-2
-chosen4-requires-2 c κs = search needs
-
 returns : tie.Need-returns
 unfolding ring
 returns c =
-    let responses = c .before in
-    let keys = responses .before .before .before in
-    let outputs = keys .before .before in
-    rw (c .chosen42 .ensures, responses .chosen4 .ensures, responses .before .joined .ensures, responses .before .before .core .ensures, keys .mix4 .ensures, keys .before .chosen102 .ensures, outputs .chosen10 .ensures, outputs .before .output2 .ensures, outputs .before .before .output1 .ensures)
+    let mixed = c .before .before .before .before in
+    let second = mixed .before .before .before in
+    let x = second .before .before .before .before .before .before .before .before .before .args .x in
+    let o₁ : second .before .before .half .result ≡ split (x .«response_mask») (x .«key_mask») (output1 x) = second .before .before .half .ensures in
+    let o₂ : second .half2 .result ≡ split (x .«response_mask») (x .«key_mask») (output2 x) = rw (second .half2 .ensures, second .before .reversed .ensures) in
+    rw (c .joined .ensures, c .before .core .ensures, mixed .mix4 .ensures, o₂, o₁)
 
 pub make-spec : {M : Type 1} → statement M
 make-spec =
     tie.close
     (tie.spec
-    output1-requires
-    output2-requires
-    chosen10-requires
-    chosen10-requires-2
+    half-requires
+    reversed-requires
+    half-requires-2
     mix4-requires
     core-requires
     joined-requires
-    chosen4-requires
-    chosen4-requires-2
     returns)
