@@ -10,24 +10,7 @@ use Rattle.standard.specs.Seals.{keyLength}
 use Rattle.standard.specs.Text.{ascii}
 use Rattle.standard.specs.declared.Kind.{Kind}
 use Rattle.standard.specs.declared.Kind.the-variants.{Ta31, Ta51, Ta81, Ta91}
-
--- ---- numbers
-
--- the decimal digits of a number that has at most n, without leading zeros
-unfoldable pub digits : ℕ → ℕ → List ℕ
-digits zero x = []
-digits (suc n) x = choose (ltb x 10) [] (digits n (x / 10)) ++ ((48 + x % 10) ∷ [])
-
--- twenty are enough for 64 bits
-abbrev pub decimal : ℕ → List ℕ
-decimal x = digits 20 x
-
--- 0 to 9, then a to f
-unfoldable pub hexDigit : ℕ → ℕ
-hexDigit d = choose (ltb d 10) (48 + d) (87 + d)
-
-abbrev pub hexByte : ℕ → List ℕ
-hexByte b = hexDigit (b / 16) ∷ hexDigit (b % 16) ∷ []
+unfoldable pub use Rattle.standard.specs.Text.{digits, decimal, hexDigit, hexByte}
 
 -- n bytes from index `from` on
 unfoldable pub hex : ℕ → ℕ → List ℕ → List ℕ

@@ -105,6 +105,13 @@ pub struct BookAnswer {
     pub written: usize,
 }
 
+// What a call that writes a text answers.
+#[repr(C)]
+pub struct TextAnswer {
+    pub refusal: u32,
+    pub written: usize,
+}
+
 // The kinds of sealed key, named by the algorithm that seals them.
 pub enum Kind {
     Ta31,

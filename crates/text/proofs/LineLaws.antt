@@ -1,0 +1,138 @@
+-- Lines that grow at the end, and texts put over an output one behind the other.
+-- Assumes nothing.
+use mathlib.Core.Bool.{Bool, true, false}
+use mathlib.Core.List.{List, [], _∷_, _++_, append-nil}
+use mathlib.Core.Path.{_≡_, refl, sym, ap, _∙_}
+use Prim.Native.Nat.{ℕ, zero, suc, _+_, _-_, _/_, _%_, _<_, _≤_}
+use native.Mathlib.Numerals.{add-one, sub-one}
+use native.Mathlib.Omega.{arith}
+use lib.Dec.{ltb}
+use lib.ListN.{length, take, drop, set, length-append, length-take, length-drop, length-set, drop-of-length-le}
+use lib.Seq.{take-all, take-suc, take-suc-set, take-nil, drop-nil, append-snoc}
+use borrow.Author.Tests.{lt-ltb, le-ltb}
+use Rattle.standard.specs.Bytes.{_!_, choose}
+use Rattle.standard.specs.Text.{digits, hexByte, hex, textCall}
+use Rattle.standard.specs.declared.TextAnswer.{TextAnswer}
+use Rattle.text.specs.Lines.{shown, emptyLine, push, _▸_, front, over, putCall}
+use Rattle.text.specs.declared.Line.{Line}
+
+-- ---- one text behind the other
+
+pub none : (l : Line) → l ≡ l ▸ []
+unfolding _▸_
+none l = refl
+
+pub append : (l : Line) (v w : List ℕ) → l ▸ (v ++ w) ≡ l ▸ v ▸ w
+unfolding _▸_
+append l [] w = refl
+append l (b ∷ v) w = append (push l b) v w
+
+-- w behind v, where v is there
+pub behind : (l : Line) (v w : List ℕ) {r t : Line} → r ≡ l ▸ v → t ≡ r ▸ w → t ≡ l ▸ (v ++ w)
+behind l v w e f = f ∙ ap (λ (k : Line). k ▸ w) e ∙ sym (append l v w)
+
+-- a turn of a loop over s that writes the text g of each byte, which makes the text f of s
+pub next : (f : List ℕ → List ℕ) (g : ℕ → List ℕ) → ((s : List ℕ) (b : ℕ) → f (s ++ (b ∷ [])) ≡ f s ++ g b)
+    → (l : Line) (s : List ℕ) (i : ℕ) {r t : Line} → i < length s → r ≡ l ▸ f (take i s) → t ≡ r ▸ g (s ! i) → t ≡ l ▸ f (take (i + 1) s)
+next f g step l s i h p q =
+    behind l (f (take i s)) (g (s ! i)) p q
+    ∙ ap (λ (t : List ℕ). l ▸ t) (sym (step (take i s) (s ! i)) ∙ ap f (sym (take-suc s i 0 h) ∙ ap (λ (k : ℕ). take k s) (sym (add-one i))))
+
+pub hex-step : (s : List ℕ) (b : ℕ) → hex (s ++ (b ∷ [])) ≡ hex s ++ hexByte b
+unfolding hex
+hex-step [] b = refl
+hex-step (a ∷ s) b = ap (λ (t : List ℕ). hexByte a ++ t) (hex-step s b)
+
+-- ---- digits
+
+pub digits-none : (n x : ℕ) → n ≡ 0 → digits n x ≡ []
+unfolding digits
+digits-none n x e = ap (λ (k : ℕ). digits k x) e
+
+digits-some : (n x : ℕ) → (n ≡ 0 → ⊥) → digits n x ≡ choose (ltb x 10) [] (digits (n - 1) (x / 10)) ++ ((48 + x % 10) ∷ [])
+unfolding digits
+digits-some zero x h = absurd (h refl)
+digits-some (suc n) x h = rw sub-one
+
+pub digits-last : (n x : ℕ) → (n ≡ 0 → ⊥) → x < 10 → digits n x ≡ (48 + x % 10) ∷ []
+digits-last n x h l = digits-some n x h ∙ rw (lt-ltb x 10 l)
+
+pub digits-more : (n x : ℕ) → (n ≡ 0 → ⊥) → 10 ≤ x → digits n x ≡ digits (n - 1) (x / 10) ++ ((48 + x % 10) ∷ [])
+digits-more n x h l = digits-some n x h ∙ rw (le-ltb x 10 l)
+
+-- ---- what a line shows
+
+push-room : (l : Line) (b : ℕ) → l .len < 160 → push l b ≡ record { bytes = set (l .bytes) (l .len) b; len = l .len + 1 }
+push-room l b h = rw (lt-ltb _ _ h)
+
+-- a text for which the line has room
+room : (w : List ℕ) (l : Line) → length (l .bytes) ≡ 160 → l .len + length w ≤ 160 → shown (l ▸ w) ≡ shown l ++ w
+unfolding _▸_
+room [] l n h = sym (append-nil (shown l))
+room (b ∷ w) l n h =
+    ap (λ (k : Line). shown (k ▸ w)) (push-room l b (omega arith))
+    ∙ room w (record { bytes = set (l .bytes) (l .len) b; len = l .len + 1 }) (length-set (l .bytes) (l .len) b ∙ n) (omega arith)
+    ∙ rw (add-one, take-suc-set (l .bytes) (l .len) b (omega arith), append-snoc)
+
+pub uncut : (w : List ℕ) {l : Line} → l ≡ emptyLine ▸ w → length w ≤ 160 → shown l ≡ w
+uncut w e h = ap shown e ∙ room w emptyLine refl (omega arith)
+
+pub size-room : (bytes : List ℕ) (n : ℕ) → length bytes ≡ 160 → n < 160 → n ≡ length (take n bytes)
+size-room bytes n l h = simp length-take (omega arith)
+
+pub size-full : (bytes : List ℕ) (n : ℕ) → length bytes ≡ 160 → 160 ≤ n → 160 ≡ length (take n bytes)
+size-full bytes n l h = rw (take-all n bytes (omega arith)) (sym l)
+
+-- ---- texts over an output
+
+take-taken : (m : ℕ) (xs : List ℕ) → take (length (take m xs)) xs ≡ take m xs
+take-taken zero xs = refl
+take-taken (suc m) [] = refl
+take-taken (suc m) (x ∷ xs) = ap (_∷_ x) (take-taken m xs)
+
+pub size-most : (bytes : List ℕ) (m n : ℕ) → n ≡ length (take m bytes) → n ≤ length bytes
+size-most bytes m n e = omega (arith, length-take m bytes)
+
+-- behind the output's end nothing is put
+pub put-past : (w out : List ℕ) (at n : ℕ) → n ≡ length w → length out ≤ at → (n, out) ≡ putCall at w out
+put-past w out at n e h =
+    rw (e, take-all at out h, drop-of-length-le out {i = at} h, drop-nil (length w), append-nil)
+
+-- the copy of a line's text over the output's part from `at` on
+pub put-copy : (bytes out ys : List ℕ) (at m n : ℕ) → at ≤ length out → n ≡ length (take m bytes)
+    → ys ≡ front (take n bytes) (take (length out - at) (drop at out))
+    → (n, take at out ++ (ys ++ drop (length out - at) (drop at out))) ≡ putCall at (take m bytes) out
+put-copy bytes out ys at m n h e f = rw (f, own, rest, append-nil, text, e)
+  where
+    own : take (length out - at) (drop at out) ≡ drop at out
+    own = take-all (length out - at) (drop at out) (simp length-drop (omega arith))
+
+    rest : drop (length out - at) (drop at out) ≡ []
+    rest = drop-of-length-le (drop at out) {i = length out - at} (simp length-drop (omega arith))
+
+    text : take n bytes ≡ take m bytes
+    text = ap (λ (k : ℕ). take k bytes) e ∙ take-taken m bytes
+
+-- nothing yet, and one text behind the other
+pub front-none : (out : List ℕ) → front [] out ≡ out
+front-none out = rw take-nil
+
+pub front-next : (v w out : List ℕ) → over (length v) w (front v out) ≡ front (v ++ w) out
+front-next [] w out = ap (front w) (front-none out)
+front-next (b ∷ v) w [] = drop-nil (length w)
+front-next (b ∷ v) w (o ∷ out) = ap (_∷_ b) (front-next v w out)
+
+-- a text for which the output has room
+pub front-whole : (w out : List ℕ) → length w ≤ length out → front w out ≡ w ++ drop (length w) out
+front-whole w out h = rw (take-all (length out) w h)
+
+pub write-short : (w out : List ℕ) (n : ℕ) → n ≡ length w → length out < n → (record { refusal = 12; written = 0 }, out) ≡ textCall w out
+unfolding textCall
+write-short w out n e h = rw (lt-ltb (length out) (length w) (omega arith))
+
+abbrev accepted : ℕ × List ℕ → TextAnswer × List ℕ
+accepted x = (record { refusal = 0; written = x .0 }, x .1)
+
+pub write-whole : (w out : List ℕ) {exit : List ℕ} {n : ℕ} → length w ≤ length out → (n, exit) ≡ putCall 0 w out → accepted (n, exit) ≡ textCall w out
+unfolding textCall
+write-whole w out h e = rw (le-ltb (length out) (length w) h, ← front-whole w out h) (ap accepted e)
