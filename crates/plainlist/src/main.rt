@@ -4,8 +4,8 @@ use listing::list_plain;
 use programs::read_input;
 use programs::write_output;
 
-// The input has one byte more than the longest book, so that a longer one is seen to be longer; the output 160 bytes for each of 1,024
-// records, and 160 more.
+// The input has one byte more than the longest book, so that a longer one is seen to be longer; the output has
+// 160 bytes for each of 1,024 records and for the last line, and no line is so long.
 fn main() {
     if os::arg_count() > 1 {
         io::write_all(STDERR_FILENO, b"usage: plainlist <BOOK\n");
@@ -18,6 +18,13 @@ fn main() {
     }
     let n = input.len;
     let mut out = [0u8; 164000];
-    let length = list_plain(&plain[..n], &mut out);
-    write_output(b"plainlist", &out, length);
+    let answer = list_plain(&plain[..n], &mut out);
+    if answer.refusal != 0 {
+        io::write_all(
+            STDERR_FILENO,
+            b"plainlist: the listing is longer than its buffer\n",
+        );
+        return;
+    }
+    write_output(b"plainlist", &out, answer.written);
 }

@@ -154,7 +154,7 @@ pub fn tell(answer: BookAnswer) -> bool
     ensures { λ r. ⌜ r ≡ eqb (answer .refusal) 0 ⌝ }
 {
     let mut line = [0u8; 160];
-    let n = report(answer, &mut line);
-    put(STDERR_FILENO, &line, n);
+    let said = report(answer, &mut line);
+    put(STDERR_FILENO, &line, said.written);
     answer.refusal == 0
 }

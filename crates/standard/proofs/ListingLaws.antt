@@ -1,18 +1,20 @@
--- The listing of 01's example, two lines about answers, and the count that a listing call answers.
+-- The listing of 01's example, two lines about answers, and the count that a call for a text answers.
 -- Assumes nothing.
 use mathlib.Core.Bool.{Bool, true, false}
 use mathlib.Core.List.{List, [], _∷_, _++_}
 use mathlib.Core.Path.{_≡_, refl, sym, subst}
-use Prim.Native.Nat.{ℕ, _/_, _≤_}
+use Prim.Native.Nat.{ℕ, _≤_}
 use native.Mathlib.Omega.{arith}
 use lib.Dec.{ltb}
 use lib.ListN.{length, drop, length-append}
 use Rattle.standard.specs.Books.{plainFault, refused as refusedBook, answer, checkPlain}
 use Rattle.standard.specs.Bytes.{choose}
-use Rattle.standard.specs.Listing.{digits, hexDigit, hex, entryLine, entryLines, entriesLine, refusedLine, listing, listCall}
+use Rattle.standard.specs.Listing.{entryLine, entryLines, entriesLine, refusedLine, listing}
 use Rattle.standard.specs.Programs.{meaning, meaningLine, wroteLine, answerLine}
+use Rattle.standard.specs.Refusals.{outputShort}
 use Rattle.standard.specs.Seals.{kindOf}
-use Rattle.standard.specs.Text.{ascii}
+use Rattle.standard.specs.Text.{ascii, digits, hexDigit, hex, textCall}
+use Rattle.standard.specs.declared.TextAnswer.{TextAnswer}
 
 -- 01's book and the two lines that it prints; the same book with a byte that must be zero; the empty book
 pub record Listings : Type 0 where
@@ -35,14 +37,14 @@ pub reports : Reports
 unfolding digits answerLine wroteLine meaningLine meaning
 reports = record { wrote = refl; refused = refl }
 
--- the answer counts bytes of the output
-abbrev Within : ℕ × List ℕ → Type 0
-Within x = x .0 ≤ length (x .1)
+-- what a call that writes a text answers counts bytes of the output
+abbrev Within : TextAnswer × List ℕ → Type 0
+Within x = x .0 .written ≤ length (x .1)
 
-pub counted : (p out : List ℕ) {r : ℕ} {exit : List ℕ} → (r, exit) ≡ listCall p out → r ≤ length exit
-unfolding listCall
-counted p out e = subst Within (sym e) (go (ltb (length p / 18) (length out / 160)))
+pub counted : (t out : List ℕ) {r : TextAnswer} {exit : List ℕ} → (r, exit) ≡ textCall t out → r .written ≤ length exit
+unfolding textCall
+counted t out e = subst Within (sym e) (go (ltb (length out) (length t)))
   where
-    go : (t : Bool) → Within (choose t (length (listing p), listing p ++ drop (length (listing p)) out) (0, out))
-    go true = simp length-append (omega arith)
-    go false = omega arith
+    go : (s : Bool) → Within (choose s (record { refusal = outputShort; written = 0 }, out) (record { refusal = 0; written = length t }, t ++ drop (length t) out))
+    go true = omega arith
+    go false = simp length-append (omega arith)

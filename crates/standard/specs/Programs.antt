@@ -2,15 +2,15 @@
 -- Assumes nothing.
 use mathlib.Core.List.{List, [], _∷_, _++_}
 use Prim.Native.Nat.{ℕ, _+_, _*_}
-use lib.Dec.{eqb, ltb}
-use lib.ListN.{length, drop}
+use lib.Dec.{eqb}
 use Rattle.standard.specs.Bytes.{_!_, part, choose}
 use Rattle.standard.specs.Derivation.{ringCall}
-use Rattle.standard.specs.Listing.{decimal, refusedAt}
+use Rattle.standard.specs.Listing.{refusedAt}
 use Rattle.standard.specs.Refusals.{bookTooLong, bookNotWhole, wrongKind, notZero, wrongNumber, flagSet, wrongMask, sharedBit, wrongWidth, valueWide, wrongLength, outputShort, long, ringMade}
-use Rattle.standard.specs.Text.{ascii}
+use Rattle.standard.specs.Text.{ascii, decimal, textCall}
 use Rattle.standard.specs.declared.BookAnswer.{BookAnswer}
 use Rattle.standard.specs.declared.RingMade.{RingMade}
+use Rattle.standard.specs.declared.TextAnswer.{TextAnswer}
 
 -- ---- makering
 
@@ -61,7 +61,6 @@ wroteLine n = ascii "wrote " ++ decimal n ++ ascii " bytes\n"
 unfoldable pub answerLine : BookAnswer → List ℕ
 answerLine a = choose (eqb (a .refusal) 0) (wroteLine (a .written)) (meaningLine (a .refusal) (a .index))
 
--- The call: the length of the line, and the output at exit, the line and then the output's own rest. An output with fewer than 160 bytes
--- is left as it was.
-unfoldable pub reportCall : BookAnswer → List ℕ → ℕ × List ℕ
-reportCall a out = choose (ltb (length out) 160) (0, out) (length (answerLine a), answerLine a ++ drop (length (answerLine a)) out)
+-- the call: the line into an output
+abbrev pub reportCall : BookAnswer → List ℕ → TextAnswer × List ℕ
+reportCall a out = textCall (answerLine a) out

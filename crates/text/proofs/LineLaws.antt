@@ -1,19 +1,16 @@
 -- Lines that grow at the end, and texts put over an output one behind the other.
 -- Assumes nothing.
-use mathlib.Core.Bool.{Bool, true, false}
 use mathlib.Core.List.{List, [], _∷_, _++_, append-nil}
-use mathlib.Core.Path.{_≡_, refl, sym, ap, _∙_}
-use Prim.Native.Nat.{ℕ, zero, suc, _+_, _-_, _/_, _%_, _<_, _≤_}
-use native.Mathlib.Numerals.{add-one, sub-one}
+use mathlib.Core.Path.{_≡_, refl, sym, ap, ap₂, _∙_}
+use Prim.Native.Nat.{ℕ, zero, suc, _+_, _-_, _<_, _≤_}
+use native.Mathlib.Numerals.{add-one}
 use native.Mathlib.Omega.{arith}
-use lib.Dec.{ltb}
 use lib.ListN.{length, take, drop, set, length-append, length-take, length-drop, length-set, drop-of-length-le}
 use lib.Seq.{take-all, take-suc, take-suc-set, take-nil, drop-nil, append-snoc}
 use borrow.Author.Tests.{lt-ltb, le-ltb}
-use Rattle.standard.specs.Bytes.{_!_, choose}
-use Rattle.standard.specs.Text.{digits, hexByte, hex, textCall}
-use Rattle.standard.specs.declared.TextAnswer.{TextAnswer}
-use Rattle.text.specs.Lines.{shown, emptyLine, push, _▸_, front, over, putCall}
+use Rattle.standard.specs.Bytes.{_!_}
+use Rattle.standard.specs.Text.{textCall}
+use Rattle.text.specs.Lines.{room, shown, emptyLine, push, _▸_, front, over, putCall}
 use Rattle.text.specs.declared.Line.{Line}
 
 -- ---- one text behind the other
@@ -38,49 +35,27 @@ next f g step l s i h p q =
     behind l (f (take i s)) (g (s ! i)) p q
     ∙ ap (λ (t : List ℕ). l ▸ t) (sym (step (take i s) (s ! i)) ∙ ap f (sym (take-suc s i 0 h) ∙ ap (λ (k : ℕ). take k s) (sym (add-one i))))
 
-pub hex-step : (s : List ℕ) (b : ℕ) → hex (s ++ (b ∷ [])) ≡ hex s ++ hexByte b
-unfolding hex
-hex-step [] b = refl
-hex-step (a ∷ s) b = ap (λ (t : List ℕ). hexByte a ++ t) (hex-step s b)
-
--- ---- digits
-
-pub digits-none : (n x : ℕ) → n ≡ 0 → digits n x ≡ []
-unfolding digits
-digits-none n x e = ap (λ (k : ℕ). digits k x) e
-
-digits-some : (n x : ℕ) → (n ≡ 0 → ⊥) → digits n x ≡ choose (ltb x 10) [] (digits (n - 1) (x / 10)) ++ ((48 + x % 10) ∷ [])
-unfolding digits
-digits-some zero x h = absurd (h refl)
-digits-some (suc n) x h = rw sub-one
-
-pub digits-last : (n x : ℕ) → (n ≡ 0 → ⊥) → x < 10 → digits n x ≡ (48 + x % 10) ∷ []
-digits-last n x h l = digits-some n x h ∙ rw (lt-ltb x 10 l)
-
-pub digits-more : (n x : ℕ) → (n ≡ 0 → ⊥) → 10 ≤ x → digits n x ≡ digits (n - 1) (x / 10) ++ ((48 + x % 10) ∷ [])
-digits-more n x h l = digits-some n x h ∙ rw (le-ltb x 10 l)
-
 -- ---- what a line shows
 
-push-room : (l : Line) (b : ℕ) → l .len < 160 → push l b ≡ record { bytes = set (l .bytes) (l .len) b; len = l .len + 1 }
+push-room : (l : Line) (b : ℕ) → l .len < room → push l b ≡ record { bytes = set (l .bytes) (l .len) b; len = l .len + 1 }
 push-room l b h = rw (lt-ltb _ _ h)
 
 -- a text for which the line has room
-room : (w : List ℕ) (l : Line) → length (l .bytes) ≡ 160 → l .len + length w ≤ 160 → shown (l ▸ w) ≡ shown l ++ w
+fits : (w : List ℕ) (l : Line) → length (l .bytes) ≡ room → l .len + length w ≤ room → shown (l ▸ w) ≡ shown l ++ w
 unfolding _▸_
-room [] l n h = sym (append-nil (shown l))
-room (b ∷ w) l n h =
+fits [] l n h = sym (append-nil (shown l))
+fits (b ∷ w) l n h =
     ap (λ (k : Line). shown (k ▸ w)) (push-room l b (omega arith))
-    ∙ room w (record { bytes = set (l .bytes) (l .len) b; len = l .len + 1 }) (length-set (l .bytes) (l .len) b ∙ n) (omega arith)
+    ∙ fits w (record { bytes = set (l .bytes) (l .len) b; len = l .len + 1 }) (length-set (l .bytes) (l .len) b ∙ n) (omega arith)
     ∙ rw (add-one, take-suc-set (l .bytes) (l .len) b (omega arith), append-snoc)
 
-pub uncut : (w : List ℕ) {l : Line} → l ≡ emptyLine ▸ w → length w ≤ 160 → shown l ≡ w
-uncut w e h = ap shown e ∙ room w emptyLine refl (omega arith)
+pub uncut : (w : List ℕ) {l : Line} → l ≡ emptyLine ▸ w → length w ≤ room → shown l ≡ w
+uncut w e h = ap shown e ∙ fits w emptyLine refl (omega arith)
 
-pub size-room : (bytes : List ℕ) (n : ℕ) → length bytes ≡ 160 → n < 160 → n ≡ length (take n bytes)
+pub size-room : (bytes : List ℕ) (n : ℕ) → length bytes ≡ room → n < room → n ≡ length (take n bytes)
 size-room bytes n l h = simp length-take (omega arith)
 
-pub size-full : (bytes : List ℕ) (n : ℕ) → length bytes ≡ 160 → 160 ≤ n → 160 ≡ length (take n bytes)
+pub size-full : (bytes : List ℕ) (n : ℕ) → length bytes ≡ room → room ≤ n → room ≡ length (take n bytes)
 size-full bytes n l h = rw (take-all n bytes (omega arith)) (sym l)
 
 -- ---- texts over an output
@@ -113,26 +88,44 @@ put-copy bytes out ys at m n h e f = rw (f, own, rest, append-nil, text, e)
     text : take n bytes ≡ take m bytes
     text = ap (λ (k : ℕ). take k bytes) e ∙ take-taken m bytes
 
+-- what was put
+module _ (at : ℕ) (w out : List ℕ) {n : ℕ} {exit : List ℕ} (e : (n, exit) ≡ putCall at w out) where
+  pub put-length : n ≡ length w
+  put-length = ap (λ (x : ℕ × List ℕ). x .0) e
+
+  pub put-over : exit ≡ over at w out
+  put-over = ap (λ (x : ℕ × List ℕ). x .1) e
+
+  pub put-keeps : length exit ≡ length out
+  put-keeps = ap length put-over ∙ simp (length-append, length-take, length-drop) (omega arith)
+
 -- nothing yet, and one text behind the other
-pub front-none : (out : List ℕ) → front [] out ≡ out
+front-none : (out : List ℕ) → front [] out ≡ out
 front-none out = rw take-nil
 
-pub front-next : (v w out : List ℕ) → over (length v) w (front v out) ≡ front (v ++ w) out
+pub put-none : (out : List ℕ) → (0, out) ≡ putCall 0 [] out
+put-none out = rw front-none
+
+front-next : (v w out : List ℕ) → over (length v) w (front v out) ≡ front (v ++ w) out
 front-next [] w out = ap (front w) (front-none out)
 front-next (b ∷ v) w [] = drop-nil (length w)
 front-next (b ∷ v) w (o ∷ out) = ap (_∷_ b) (front-next v w out)
 
--- a text for which the output has room
-pub front-whole : (w out : List ℕ) → length w ≤ length out → front w out ≡ w ++ drop (length w) out
-front-whole w out h = rw (take-all (length out) w h)
+pub put-next : (v w out₀ : List ℕ) {at n : ℕ} {out exit : List ℕ} → (at, out) ≡ putCall 0 v out₀ → (n, exit) ≡ putCall at w out
+    → (at + n, exit) ≡ putCall 0 (v ++ w) out₀
+put-next v w out₀ {at} {n} {out} {exit} p q =
+    let a = put-length 0 v out₀ p in
+    let total : at + n ≡ length (v ++ w) = ap₂ _+_ a (put-length at w out q) ∙ sym (length-append v w) in
+    let bytes : exit ≡ front (v ++ w) out₀ = put-over at w out q ∙ ap₂ (λ (k : ℕ) (o : List ℕ). over k w o) a (put-over 0 v out₀ p) ∙ front-next v w out₀ in
+    rw (total, bytes)
 
-pub write-short : (w out : List ℕ) (n : ℕ) → n ≡ length w → length out < n → (record { refusal = 12; written = 0 }, out) ≡ textCall w out
+-- ---- the call for a text
+
+pub write-short : (w out : List ℕ) {n : ℕ} → n ≡ length w → length out < n → (record { refusal = 12; written = 0 }, out) ≡ textCall w out
 unfolding textCall
-write-short w out n e h = rw (lt-ltb (length out) (length w) (omega arith))
+write-short w out e h = rw (lt-ltb (length out) (length w) (omega arith))
 
-abbrev accepted : ℕ × List ℕ → TextAnswer × List ℕ
-accepted x = (record { refusal = 0; written = x .0 }, x .1)
-
-pub write-whole : (w out : List ℕ) {exit : List ℕ} {n : ℕ} → length w ≤ length out → (n, exit) ≡ putCall 0 w out → accepted (n, exit) ≡ textCall w out
+pub write-whole : (w out : List ℕ) {n : ℕ} {exit : List ℕ} → n ≡ length w → n ≤ length out → exit ≡ front w out
+    → (record { refusal = 0; written = n }, exit) ≡ textCall w out
 unfolding textCall
-write-whole w out h e = rw (le-ltb (length out) (length w) h, ← front-whole w out h) (ap accepted e)
+write-whole w out e h f = rw (le-ltb (length out) (length w) (omega arith), e, f, take-all (length out) w (omega arith))

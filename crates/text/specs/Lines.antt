@@ -8,16 +8,20 @@ use Rattle.standard.specs.Bytes.{choose}
 use Rattle.text.specs.declared.Line.{Line}
 
 infixl 60 _▸_
+-- the most bytes of a line
+abbrev pub room : ℕ
+room = 160
+
 -- the text of a line so far
 abbrev pub shown : Line → List ℕ
 shown l = take (l .len) (l .bytes)
 
 abbrev pub emptyLine : Line
-emptyLine = record { bytes = replicate 160 0; len = 0 }
+emptyLine = record { bytes = replicate room 0; len = 0 }
 
 -- a byte more; a full line stays as it is
 abbrev pub push : Line → ℕ → Line
-push l b = choose (ltb (l .len) 160) (record { bytes = set (l .bytes) (l .len) b; len = l .len + 1 }) l
+push l b = choose (ltb (l .len) room) (record { bytes = set (l .bytes) (l .len) b; len = l .len + 1 }) l
 
 -- a text more
 unfoldable pub _▸_ : Line → List ℕ → Line

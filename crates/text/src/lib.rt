@@ -8,11 +8,12 @@ ghost use lib.ListN.{length};
 ghost use Rattle.standard.specs.Text.{digits as digitsOf, decimal as decimalOf, hexDigit, hexByte, hex as hexOf, textCall};
 ghost use Rattle.text.specs.Lines.{shown, emptyLine, _▸_, putCall};
 
+// The most bytes of a line.
 const ROOM: usize = 160;
 
-// A line of text. It has 160 bytes at most: what would be the 161st is left out.
+// A line of text. What goes beyond its room is left out.
 pub struct Line {
-    pub bytes: [u8; 160],
+    pub bytes: [u8; ROOM],
     pub len: usize,
 }
 
@@ -28,7 +29,7 @@ impl Line {
         ensures { λ r. ⌜ r ≡ emptyLine ⌝ }
     {
         Line {
-            bytes: [0u8; 160],
+            bytes: [0u8; ROOM],
             len: 0,
         }
     }

@@ -1,44 +1,32 @@
 -- `listing::entry_line` meets its contract.
 -- Assumes nothing.
 use mathlib.Core.List.{List}
-use mathlib.Core.Path.{ap, _∙_}
 use Prim.Native.Nat.{ℕ}
+use native.Mathlib.Nat.{add-sub-cancel-left}
+use native.Mathlib.Omega.{arith}
+use denote.Ref.{now}
 use borrow.Author.Needs.{needs}
-use Rattle.listing.proofs.LineLaws.{entry-made}
+use Rattle.listing.proofs.ListLaws.{key-short, entry-short}
+use Rattle.standard.proofs.BytesLaws.{part-lent}
+use Rattle.standard.specs.Books.{recordKind}
 use Rattle.standard.specs.Listing.{entryLine}
+use Rattle.standard.specs.Seals.{keyLength}
+use Rattle.text.proofs.LineLaws.{append, uncut}
 use Rattle.listing.proofs.entry_line.Statement.{statement}
 use Rattle.listing.proofs.entry_line.Tie as tie
 
-array18-requires : tie.Need-array18-requires
-array18-requires c κs = search needs
-
-front-requires : tie.Need-front-requires
-front-requires c κs = search needs
-
-array-read-kind-of : tie.Need-array-read-kind-of
-array-read-kind-of c = search needs
-
-kind-of-requires : tie.Need-kind-of-requires
-kind-of-requires c κs = search needs
-
-back-requires : tie.Need-back-requires
-back-requires c κs = search needs
-
 returns : tie.Need-returns
+unfolding entryLine
 returns c =
-    let kind = c .before .before in
-    let record18 = kind .before .before .before in
-    let i = record18 .before .before .args .index in
-    let p : List ℕ = record18 .array18 .result in
-    entry-made i p (kind .kind-of .ensures) (kind .before .front .ensures) (c .back .ensures) ∙ ap (entryLine i) (record18 .array18 .ensures)
+    let x = c .before .before .before .before .before in
+    let p : List ℕ = now (x .args .p) in
+    let k = keyLength (recordKind p) in
+    let e = c .before .kind-of .ensures in
+    uncut (entryLine (x .args .index) p) {l = c .back .result}
+    (simp append (rw (← part-lent 1 3 p (omega (arith, x .pre)), ← part-lent 6 k p (omega (arith, x .pre, key-short (recordKind p))), ← add-sub-cancel-left 6 k, ← e, c .back .ensures, c .before .before .before .front .ensures)))
+    (entry-short (x .args .index) p)
 
 pub entry-line-spec : {M : Type 1} → statement M
 entry-line-spec =
     tie.close
-    (tie.spec
-    array18-requires
-    front-requires
-    array-read-kind-of
-    kind-of-requires
-    back-requires
-    returns)
+    (tie.spec (λ c κs. search needs) (λ c. search needs) (λ c κs. search needs) (λ c κs. search needs) returns)

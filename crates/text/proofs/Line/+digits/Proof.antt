@@ -7,7 +7,8 @@ use borrow.Author.Needs.{needs}
 use borrow.Fn.Kinds.{In}
 use borrow.Fn.PlainCycle.{Measures, is, falls, and}
 use Rattle.standard.specs.Text.{digits as digitsOf}
-use Rattle.text.proofs.LineLaws.{none, behind, digits-none, digits-last, digits-more}
+use Rattle.text.proofs.LineLaws.{none, behind}
+use Rattle.text.proofs.TextLaws.{digits-none, digits-last, digits-more}
 use Rattle.text.proofs.Line.digits.Reads as digits
 use Rattle.text.proofs.Line.digits.Kinds as digits-kinds
 use Rattle.text.proofs.Line.+digits.Lts-digits as digits-lts

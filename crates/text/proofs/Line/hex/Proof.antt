@@ -8,7 +8,8 @@ use lib.ListN.{length, take}
 use lib.Seq.{take-all}
 use denote.Ref.{now}
 use borrow.Author.Needs.{needs}
-use Rattle.text.proofs.LineLaws.{none, next, hex-step}
+use Rattle.text.proofs.LineLaws.{none, next}
+use Rattle.text.proofs.TextLaws.{hex-step}
 use Rattle.standard.specs.Text.{hexByte, hex}
 use Rattle.text.specs.Lines.{_▸_}
 use Rattle.text.proofs.Line.hex.Statement.{statement}

@@ -1,0 +1,141 @@
+-- The lines of the listing and of an answer: none is longer than a line may be, and the book's lines one behind the other.
+-- Assumes nothing.
+use mathlib.Core.Bool.{Bool, true, false, _&&_}
+use mathlib.Core.List.{List, [], _∷_, _++_}
+use mathlib.Core.Path.{_≡_, refl, sym, ap, ap₂, _∙_}
+use Prim.Native.Nat.{ℕ, zero, suc, _+_, _*_, _/_, _<_, _≤_}
+use native.Mathlib.Numerals.{add-one}
+use native.Mathlib.Omega.{arith}
+use lib.Dec.{eqb, leb}
+use lib.ListN.{length, length-append}
+use borrow.Author.Tests.{leb-true, eq-eqb, ne-eqb}
+use Rattle.standard.proofs.BytesLaws.{and-split, length-table}
+use Rattle.standard.specs.Books.{recordKind, recordAt, checkPlain}
+use Rattle.standard.specs.Bytes.{_!_, part, choose}
+use Rattle.standard.specs.Listing.{numberText, entryLine, entryLines, entriesLine, refusedLine, listing}
+use Rattle.standard.specs.Programs.{beside, meanings, meaning, meaningLine, wroteLine, answerLine}
+use Rattle.standard.specs.Seals.{keyLength}
+use Rattle.standard.specs.Text.{hex, textCall}
+use Rattle.standard.specs.declared.BookAnswer.{BookAnswer}
+use Rattle.standard.specs.declared.Kind.the-variants.{Ta31, Ta51, Ta81, Ta91}
+use Rattle.standard.specs.declared.Kind.{Kind}
+use Rattle.text.proofs.LineLaws.{put-length, put-over, put-none, put-next, write-short, write-whole}
+use Rattle.text.proofs.TextLaws.{digits-few, hex-twice}
+use Rattle.text.specs.Lines.{room, _▸_, putCall}
+use Rattle.text.specs.declared.Line.{Line}
+
+-- ---- lengths
+
+number-short : (k : Kind) (p : List ℕ) → length (numberText k p) ≤ 20
+number-short Ta31 p = omega arith
+number-short Ta51 p = digits-few 20 _
+number-short Ta81 p = digits-few 20 _
+number-short Ta91 p = omega arith
+
+pub key-short : (k : Kind) → keyLength k ≤ 12
+key-short Ta31 = omega arith
+key-short Ta51 = omega arith
+key-short Ta81 = omega arith
+key-short Ta91 = omega arith
+
+hex-part : (from n : ℕ) (p : List ℕ) → length (hex (part from n p)) ≡ n + n
+hex-part from n p = hex-twice (part from n p) ∙ rw length-table
+
+pub entry-short : (i : ℕ) (p : List ℕ) → length (entryLine i p) ≤ room
+unfolding entryLine
+entry-short i p =
+    let k = recordKind p in
+    simp length-append
+    (omega (arith, digits-few 20 i, digits-few 20 (p ! 0), digits-few 20 (256 * p ! 4 + p ! 5), hex-part 1 3 p, hex-part 6 (keyLength k) p, key-short k, number-short k p))
+
+pub entries-short : (n : ℕ) → length (entriesLine n) ≤ room
+unfolding entriesLine
+entries-short n = simp length-append (omega (arith, digits-few 20 n))
+
+pub refused-short : (number index : ℕ) → length (refusedLine number index) ≤ room
+unfolding refusedLine
+refused-short number index = simp length-append (omega (arith, digits-few 20 number, digits-few 20 index))
+
+abbrev allShort : List (ℕ × List ℕ) → Bool
+allShort [] = true
+allShort (t ∷ ts) = leb (length (t .1)) 34 && allShort ts
+
+beside-short : (n : ℕ) (ts : List (ℕ × List ℕ)) → allShort ts ≡ true → length (beside n ts) ≤ 34
+beside-short n [] e = omega arith
+beside-short n (t ∷ ts) e = go (eqb n (t .0)) (and-split _ _ e) (λ h. beside-short n ts h)
+  where
+    go : (b : Bool) → (leb (length (t .1)) 34 ≡ true) × (allShort ts ≡ true) → (allShort ts ≡ true → length (beside n ts) ≤ 34)
+        → length (choose b (t .1) (beside n ts)) ≤ 34
+    go true s k = leb-true _ _ (s .0)
+    go false s k = k (s .1)
+
+meaning-short : (n : ℕ) → length (meaning n) ≤ 34
+unfolding meaning
+meaning-short n = beside-short n meanings refl
+
+pub meaning-line-short : (number index : ℕ) → length (meaningLine number index) ≤ room
+unfolding meaningLine
+meaning-line-short number index =
+    simp length-append (omega (arith, digits-few 20 number, digits-few 20 index, meaning-short number))
+
+pub wrote-short : (n : ℕ) → length (wroteLine n) ≤ room
+unfolding wroteLine
+wrote-short n = simp length-append (omega (arith, digits-few 20 n))
+
+-- ---- the lines one behind the other
+
+pub lines-short : (n : ℕ) (p : List ℕ) → length (entryLines n p) ≤ room * n
+unfolding entryLines
+lines-short zero p = omega arith
+lines-short (suc n) p = simp length-append (omega (arith, lines-short n p, entry-short n (recordAt 18 p n)))
+
+pub lines-none : (p out : List ℕ) → (0, out) ≡ putCall 0 (entryLines 0 p) out
+unfolding entryLines
+lines-none p out = put-none out
+
+-- one record's line more
+pub lines-next : (i : ℕ) (p out₀ : List ℕ) {at n : ℕ} {line out exit : List ℕ} → line ≡ entryLine i (recordAt 18 p i)
+    → (at, out) ≡ putCall 0 (entryLines i p) out₀ → (n, exit) ≡ putCall at line out → (at + n, exit) ≡ putCall 0 (entryLines (i + 1) p) out₀
+unfolding entryLines
+lines-next i p out₀ e f g = rw (add-one, ← e) (put-next (entryLines i p) _ out₀ f g)
+
+abbrev entriesText : ℕ → List ℕ → List ℕ
+entriesText n p = entryLines n p ++ entriesLine n
+
+-- the lines' length, from an output of no bytes, and then the lines in the output
+module _ (n : ℕ) (p : List ℕ) {none last : List ℕ} {k s : ℕ} (e : (k, none) ≡ putCall 0 (entryLines n p) []) (f : last ≡ entriesLine n) (g : s ≡ length last) where
+  total : k + s ≡ length (entriesText n p)
+  total = ap₂ _+_ (put-length 0 (entryLines n p) [] e) (g ∙ ap length f) ∙ sym (length-append (entryLines n p) (entriesLine n))
+
+  module _ (out : List ℕ) where
+    pub entries-refused : length out < k + s → (record { refusal = 12; written = 0 }, out) ≡ textCall (entriesText n p) out
+    entries-refused h = write-short (entriesText n p) out total h
+
+    pub entries-written : k + s ≤ length out → {at m : ℕ} {out₁ exit : List ℕ} → (at, out₁) ≡ putCall 0 (entryLines n p) out → (m, exit) ≡ putCall at last out₁
+        → (record { refusal = 0; written = k + s }, exit) ≡ textCall (entriesText n p) out
+    entries-written h a b = write-whole (entriesText n p) out total h (put-over 0 (entriesText n p) out (put-next (entryLines n p) (entriesLine n) out a (rw f at b)))
+
+-- ---- the calls
+
+-- the text beside a number that the code knows
+pub said : (l : Line) (n k : ℕ) {r : Line} → n ≡ k → r ≡ l ▸ beside k meanings → r ≡ l ▸ meaning n
+unfolding meaning
+said l n k e f = f ∙ ap (λ (j : ℕ). l ▸ beside j meanings) (sym e)
+
+module _ (p : List ℕ) {a : BookAnswer} (e : a ≡ checkPlain p) where
+  pub listing-refused : (a .refusal ≡ 0 → ⊥) → listing p ≡ refusedLine (a .refusal) (a .index)
+  unfolding listing
+  listing-refused r = rw (← e, ne-eqb _ _ r)
+
+  pub listing-entries : a .refusal ≡ 0 → listing p ≡ entryLines (length p / 18) p ++ entriesLine (length p / 18)
+  unfolding listing
+  listing-entries z = rw (← e, eq-eqb _ _ z)
+
+module _ (a : BookAnswer) where
+  pub answer-refused : (a .refusal ≡ 0 → ⊥) → answerLine a ≡ meaningLine (a .refusal) (a .index)
+  unfolding answerLine
+  answer-refused r = rw (ne-eqb _ _ r)
+
+  pub answer-wrote : a .refusal ≡ 0 → answerLine a ≡ wroteLine (a .written)
+  unfolding answerLine
+  answer-wrote z = rw (eq-eqb _ _ z)
