@@ -6,7 +6,7 @@ use std::num::wrapping_add_u8;
 ghost use mathlib.Core.List.{[], _∷_, _++_};
 ghost use mathlib.Core.Path.{_≡_};
 ghost use Rattle.standard.specs.Bytes.{_!_, _⊕_, _⊞_, part, xors};
-ghost use Rattle.standard.specs.Cores.{bl1 as bl1Of, bl2 as bl2Of};
+ghost use Rattle.standard.specs.Cores.{bl1With, bl1 as bl1Of, bl2 as bl2Of};
 ghost use Rattle.standard.specs.Expansions.{exp1, exp2 as exp2Of, exp4 as exp4Of, sumAt, xorOf};
 ghost use Rattle.cores.specs.Steps.{Sums as SumsOf, withSums};
 
@@ -151,13 +151,20 @@ fn joined(l: [u8; 8], r: [u8; 8]) -> [u8; 16]
     ]
 }
 
+// BL1 under round keys that were laid out before.
+pub fn bl1_with(keys: &[u8; 192], x: [u8; 16]) -> [u8; 16]
+    ensures { λ r. ⌜ r ≡ bl1With (now (keys .entry)) x ⌝ }
+{
+    let l = encrypt_with(keys, left(x));
+    let r = encrypt_with(keys, xor8(right(x), l));
+    joined(l, r)
+}
+
 pub fn bl1(key: [u8; 16], x: [u8; 16]) -> [u8; 16]
     ensures { λ r. ⌜ r ≡ bl1Of key x ⌝ }
 {
     let keys = schedule(key);
-    let l = encrypt_with(&keys, left(x));
-    let r = encrypt_with(&keys, xor8(right(x), l));
-    joined(l, r)
+    bl1_with(&keys, x)
 }
 
 // The left block of y, its last byte ⊕ that of r.

@@ -3,23 +3,30 @@
 use mathlib.Core.Bool.{Bool, true, _&&_}
 use mathlib.Core.List.{List, [], _∷_, _++_}
 use mathlib.Core.Path.{_≡_, refl, sym, ap, ap₂, _∙_}
-use Prim.Native.Nat.{ℕ, suc, _+_, _*_, _/_, _%_, _^_, _≤_, _<_}
+use Prim.Native.Nat.{ℕ, suc, _+_, _-_, _*_, _/_, _%_, _^_, _≤_, _<_}
 use native.Mathlib.Numerals.{add-one}
 use native.Mathlib.Omega.{arith}
-use lib.Bits.{bitXor, bitAnd, xor-shr, xor-mod}
+use lib.Bits.{bitXor, bitAnd, xor-zero-r, xor-shr, xor-mod}
 use lib.Dec.{eqb, leb}
-use lib.ListN.{length}
+use lib.ListN.{length, take, drop}
 use borrow.Author.Tests.{eqb-true, leb-true}
 use Rattle.standard.specs.Bytes.{_!_, byte, bit, _⊕_, _⊞_, part, xors}
 use Rattle.standard.specs.Hurdle.{S, E, T, ofBits, Y, f, Halves, round, rounds, crypt, roundKey}
-use Rattle.standard.proofs.BytesLaws.{and-split, every, every-at}
-use Rattle.hurdle.specs.Steps.{bytes4, Four, Spread, nibble, Nibbles, gathered, Gathered, HalvesOf, place, Turned}
+use Rattle.standard.proofs.BytesLaws.{lent-part, and-split, every, every-at}
+use Rattle.hurdle.specs.Steps.{bytes4, Linked, Four, Spread, nibble, Nibbles, gathered, Gathered, HalvesOf, place, Turned}
 
 -- ---- the chain
 
-pub chain-next : (x k : List ℕ) (j : ℕ) {t r : ℕ} → t ≡ T x k j → r ≡ S ! ((E x (suc j) ⊞ byte 12 k (suc j)) ⊕ t) → r ≡ T x k (suc j)
+chain-next : (x k : List ℕ) (j : ℕ) {t r : ℕ} → t ≡ T x k j → r ≡ S ! ((E x (suc j) ⊞ byte 12 k (suc j)) ⊕ t) → r ≡ T x k (suc j)
 unfolding T
 chain-next x k j p q = q ∙ rw p
+
+-- T3, from four links of which the first is one after 0
+pub chain-start : (x k : List ℕ) {a b c d : ℕ} → Linked 0 (E x 0) (E x 1) (E x 2) (E x 3) k 8 a b c d → d ≡ T x k 3
+unfolding T
+chain-start x k {a} h =
+    let t₀ : a ≡ T x k 0 = h .first ∙ ap (_!_ S) (xor-zero-r (E x 0 ⊞ byte 12 k 0)) in
+    chain-next x k 2 (chain-next x k 1 (chain-next x k 0 t₀ (h .second)) (h .third)) (h .fourth)
 
 -- four links after Tj, from the links' results
 pub chain-four : (x k : List ℕ) (j : ℕ) {t a b c d : ℕ} → t ≡ T x k j
@@ -110,10 +117,14 @@ unfolding round rounds
 round-more k i h l r y e p =
     ap (λ (z : List ℕ). (bytes4 r, z)) (bytes4-xor l y ∙ ap (xors 4 (bytes4 l)) e) ∙ ap (round (k i)) p ∙ rw add-one refl
 
-pub turned-more : {back : Bool} {keys : List ℕ} {l₀ r₀ i n l r : ℕ} (y : ℕ) → n ≡ place back i → bytes4 y ≡ f (bytes4 r) (roundKey keys n)
+-- the round key is lent as a part of those laid out
+pub turned-more : {back : Bool} {keys : List ℕ} {l₀ r₀ i n l r : ℕ} (y : ℕ) → n ≡ place back i → n * 12 + 12 ≤ length keys
+    → bytes4 y ≡ f (bytes4 r) (take (n * 12 + 12 - n * 12) (drop (n * 12) keys))
     → Turned back keys l₀ r₀ i l r → Turned back keys l₀ r₀ (i + 1) r (bitXor l y)
-turned-more {back} {keys} {l₀} {r₀} {i} {n} {l} {r} y e p h =
-    record { is = round-more (λ m. roundKey keys (place back m)) i _ l r y (p ∙ ap (λ (m : ℕ). f (bytes4 r) (roundKey keys m)) e) (h .is) }
+turned-more {back} {keys} {l₀} {r₀} {i} {n} {l} {r} y e fits p h =
+    let k : take (n * 12 + 12 - n * 12) (drop (n * 12) keys) ≡ roundKey keys (place back i) =
+    lent-part (n * 12) 12 keys fits ∙ ap (roundKey keys) e in
+    record { is = round-more (λ m. roundKey keys (place back m)) i _ l r y (p ∙ ap (f (bytes4 r)) k) (h .is) }
 
 -- the halves, the rounds and the halves exchanged are the block
 pub crypted : {back : Bool} {keys b out : List ℕ} {l r l₁ r₁ : ℕ} → HalvesOf b l r → Turned back keys l r 16 l₁ r₁

@@ -4,10 +4,11 @@ use crate::tables::entry;
 use std::num::wrapping_add_u8;
 ghost use mathlib.Core.List.{[], _∷_, _++_};
 ghost use mathlib.Core.Path.{_≡_};
-ghost use Prim.Native.Nat.{_<_};
+ghost use Prim.Native.Nat.{_+_, _<_, _≤_};
+ghost use lib.ListN.{length};
 ghost use Rattle.standard.specs.Bytes.{_!_, _⊕_, _⊞_};
-ghost use Rattle.standard.specs.Hurdle.{S as sOf, T, f as fOf, crypt as cryptOf, roundKey};
-ghost use Rattle.hurdle.specs.Steps.{bytes4, place as placeOf, Four as FourOf, Spread, Nibbles, Gathered, HalvesOf, Turned};
+ghost use Rattle.standard.specs.Hurdle.{S as sOf, f as fOf, crypt as cryptOf, roundKey};
+ghost use Rattle.hurdle.specs.Steps.{bytes4, place as placeOf, Linked, Spread, Nibbles, Gathered, HalvesOf, Turned};
 
 // S[(e + k) ⊕ t].
 fn link(s: &[u8; 256], t: u8, e: u8, k: u8) -> u8
@@ -17,55 +18,20 @@ fn link(s: &[u8; 256], t: u8, e: u8, k: u8) -> u8
     entry(s, wrapping_add_u8(e, k) ^ t)
 }
 
-// T3 of the chain on x under round key i.
-fn first_four(s: &[u8; 256], x: u32, keys: &[u8; 192], i: usize) -> u8
-    requires { ⌜ now s ≡ sOf ⌝ }
-    requires { ⌜ i < 16 ⌝ }
-    ensures { λ r. ⌜ r ≡ T (bytes4 x) (roundKey (now (keys .entry)) i) 3 ⌝ }
-{
-    let at = i * 12;
-    let t0 = entry(s, wrapping_add_u8((x % 256) as u8, keys[at + 11]));
-    let t1 = link(s, t0, (x / 256 % 256) as u8, keys[at + 10]);
-    let t2 = link(s, t1, (x / 65536 % 256) as u8, keys[at + 9]);
-    link(s, t2, (x / 16777216 % 256) as u8, keys[at + 8])
-}
+// Four bytes, in the order of the chain.
+struct Four(u8, u8, u8, u8);
 
-// Four bytes of the chain, the first as a.
-struct Four {
-    a: u8,
-    b: u8,
-    c: u8,
-    d: u8,
-}
-
-// T4 to T7; t is T3.
-fn second_four(s: &[u8; 256], t: u8, x: u32, keys: &[u8; 192], i: usize) -> Four
+// Four links of the chain after t, from four bytes of E and those of the round key from index `at` on, the last one first.
+fn links(s: &[u8; 256], t: u8, e: Four, k: &[u8], at: usize) -> Four
     requires { ⌜ now s ≡ sOf ⌝ }
-    requires { ⌜ i < 16 ⌝ }
-    requires { ⌜ t ≡ T (bytes4 x) (roundKey (now keys) i) 3 ⌝ }
-    ensures { λ r. ⌜ FourOf (bytes4 x) (roundKey (now (keys .entry)) i) 4 (r .a) (r .b) (r .c) (r .d) ⌝ }
+    requires { ⌜ at + 4 ≤ length (now k) ⌝ }
+    ensures { λ r. ⌜ Linked t (e .0) (e .1) (e .2) (e .3) (now (k .entry)) at (r .0) (r .1) (r .2) (r .3) ⌝ }
 {
-    let at = i * 12;
-    let a = link(s, t, (x % 256) as u8, keys[at + 7]);
-    let b = link(s, a, (x / 65536 % 256) as u8, keys[at + 6]);
-    let c = link(s, b, (x / 256 % 256) as u8, keys[at + 5]);
-    let d = link(s, c, (x / 16777216 % 256) as u8, keys[at + 4]);
-    Four { a, b, c, d }
-}
-
-// T8 to T11; t is T7.
-fn third_four(s: &[u8; 256], t: u8, x: u32, keys: &[u8; 192], i: usize) -> Four
-    requires { ⌜ now s ≡ sOf ⌝ }
-    requires { ⌜ i < 16 ⌝ }
-    requires { ⌜ t ≡ T (bytes4 x) (roundKey (now keys) i) 7 ⌝ }
-    ensures { λ r. ⌜ FourOf (bytes4 x) (roundKey (now (keys .entry)) i) 8 (r .a) (r .b) (r .c) (r .d) ⌝ }
-{
-    let at = i * 12;
-    let a = link(s, t, (x / 65536 % 256) as u8, keys[at + 3]);
-    let b = link(s, a, (x % 256) as u8, keys[at + 2]);
-    let c = link(s, b, (x / 16777216 % 256) as u8, keys[at + 1]);
-    let d = link(s, c, (x / 256 % 256) as u8, keys[at]);
-    Four { a, b, c, d }
+    let a = link(s, t, e.0, k[at + 3]);
+    let b = link(s, a, e.1, k[at + 2]);
+    let c = link(s, b, e.2, k[at + 1]);
+    let d = link(s, c, e.3, k[at]);
+    Four(a, b, c, d)
 }
 
 // Bit n of t, for n 0 to 3, as the lowest bit of byte n of a word.
@@ -77,27 +43,31 @@ fn spread(t: u8) -> u32
 
 // Byte n of the word has bit n of each of the four.
 fn nibbles(t: Four) -> u32
-    ensures { λ r. ⌜ Nibbles (t .a) (t .b) (t .c) (t .d) r ⌝ }
+    ensures { λ r. ⌜ Nibbles (t .0) (t .1) (t .2) (t .3) r ⌝ }
 {
-    spread(t.a) + 2 * spread(t.b) + 4 * spread(t.c) + 8 * spread(t.d)
+    spread(t.0) + 2 * spread(t.1) + 4 * spread(t.2) + 8 * spread(t.3)
 }
 
 // Bit m of byte n is bit n of T(m+4).
 fn gather(q: Four, r: Four) -> u32
-    ensures { λ y. ⌜ Gathered (q .a) (q .b) (q .c) (q .d) (r .a) (r .b) (r .c) (r .d) y ⌝ }
+    ensures { λ y. ⌜ Gathered (q .0) (q .1) (q .2) (q .3) (r .0) (r .1) (r .2) (r .3) y ⌝ }
 {
     nibbles(q) + 16 * nibbles(r)
 }
 
-// f of a half and round key i.
-fn f(s: &[u8; 256], x: u32, keys: &[u8; 192], i: usize) -> u32
+// f of a half and a round key of twelve bytes. The chain's first link is one after 0.
+fn f(s: &[u8; 256], x: u32, k: &[u8]) -> u32
     requires { ⌜ now s ≡ sOf ⌝ }
-    requires { ⌜ i < 16 ⌝ }
-    ensures { λ r. ⌜ bytes4 r ≡ fOf (bytes4 x) (roundKey (now (keys .entry)) i) ⌝ }
+    requires { ⌜ length (now k) ≡ 12 ⌝ }
+    ensures { λ r. ⌜ bytes4 r ≡ fOf (bytes4 x) (now (k .entry)) ⌝ }
 {
-    let t = first_four(s, x, keys, i);
-    let q = second_four(s, t, x, keys, i);
-    let r = third_four(s, q.d, x, keys, i);
+    let x3 = (x / 16777216 % 256) as u8;
+    let x2 = (x / 65536 % 256) as u8;
+    let x1 = (x / 256 % 256) as u8;
+    let x0 = (x % 256) as u8;
+    let p = links(s, 0, Four(x0, x1, x2, x3), k, 8);
+    let q = links(s, p.3, Four(x0, x2, x1, x3), k, 4);
+    let r = links(s, q.3, Four(x2, x0, x3, x1), k, 0);
     gather(q, r)
 }
 
@@ -150,10 +120,12 @@ fn rounds(keys: &[u8; 192], h: Halves, back: bool) -> Halves
     ensures { λ o. ⌜ Turned back (now (keys .entry)) (h .l) (h .r) 16 (o .l) (o .r) ⌝ }
 {
     let s = S;
+    let laid = &keys[..];
     let mut l = h.l;
     let mut r = h.r;
     for i in 0..16 {
-        let next = l ^ f(&s, r, keys, place(back, i));
+        let at = place(back, i) * 12;
+        let next = l ^ f(&s, r, &laid[at..at + 12]);
         l = r;
         r = next;
     }

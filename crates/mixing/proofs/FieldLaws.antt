@@ -1,23 +1,16 @@
--- What tests tell, and TB5 and TB6 made in two halves of 40 bits.
+-- A width that passes its test, and TB5 and TB6 made in two halves of 40 bits.
 -- Assumes nothing.
-use mathlib.Core.Bool.{Bool, true, false, not}
+use mathlib.Core.Bool.{true}
 use mathlib.Core.List.{List, _++_}
 use mathlib.Core.Path.{_≡_, sym, ap, _∙_}
 use Prim.Native.Nat.{ℕ, _+_, _*_, _/_, _%_, _^_, _<_, _≤_}
 use native.Mathlib.Omega.{arith}
-use borrow.Author.Tests.{leb-true, not-true, not-false}
+use borrow.Author.Tests.{leb-true}
 use Rattle.standard.proofs.BytesLaws.{and-split}
 use Rattle.standard.proofs.MixingLaws.{bytes-cat}
 use Rattle.standard.specs.Bytes.{xors, bytesOf}
 use Rattle.standard.specs.Mixing.{tb5, tb6}
 use Rattle.standard.specs.Refusals.{wide}
-
--- a test that a call answered
-pub failed : {r t : Bool} → r ≡ t → not r ≡ true → t ≡ false
-failed {r} e h = sym e ∙ not-true r h
-
-pub passed : {r t : Bool} → r ≡ t → not r ≡ false → t ≡ true
-passed {r} e h = sym e ∙ not-false r h
 
 pub wide-split : (w : ℕ) → wide w ≡ true → (16 ≤ w) × (w ≤ 32)
 wide-split w t = let s = and-split _ _ t in (leb-true 16 w (s .0), leb-true w 32 (s .1))

@@ -1,15 +1,15 @@
 -- Strings of a known length: `table`, and what `Bytes` gives.
 -- Assumes nothing.
-use mathlib.Core.Bool.{Bool, true, false, _&&_, true≢false}
+use mathlib.Core.Bool.{Bool, true, false, _&&_, not, true≢false}
 use mathlib.Core.List.{List, [], _∷_, _++_}
 use mathlib.Core.Path.{_≡_, refl, sym, ap, ap₂, _∙_}
-use Prim.Native.Nat.{ℕ, zero, suc, _+_, _<_, _≤_}
-use native.Mathlib.Nat.{suc-inj, suc-ne-zero, le-of-suc-le-suc, not-suc-le-zero, zero-add, add-zero, suc-add, add-suc}
+use Prim.Native.Nat.{ℕ, zero, suc, _+_, _-_, _<_, _≤_}
+use native.Mathlib.Nat.{suc-inj, suc-ne-zero, le-of-suc-le-suc, not-suc-le-zero, zero-add, add-zero, suc-add, add-suc, add-sub-cancel-left}
 use native.Mathlib.Omega.{arith}
 use lib.Dec.{eqb}
 use lib.ListN.{length, take, drop, length-append, List·getD-append}
 use lib.Seq.{drop-cons, getD-append-add}
-use borrow.Author.Tests.{eqb-true, eq-eqb}
+use borrow.Author.Tests.{eqb-true, eq-eqb, not-true, not-false}
 use Rattle.standard.specs.Bytes.{_!_, _⊕_, table, part, xors, sameOn, same, Bytes}
 use Rattle.standard.specs.Refusals.{long}
 use Rattle.standard.proofs.XorLaws.{xor-byte}
@@ -113,7 +113,7 @@ part-seam {m} {n} {xs} {ys} h k =
     (λ i l. ap (λ (z : ℕ). (xs ++ ys) ! (z + i)) (sym (h .len)) ∙ getD-append-add xs ys i 0)
     ∙ spell k
 
--- a lent part, `&xs[a..a + n]`, is the part of the definitions
+-- what is lent is the part of the definitions: n bytes from a on, and `&xs[a..a + n]`
 pub part-lent : (a n : ℕ) (xs : List ℕ) → a + n ≤ length xs → take n (drop a xs) ≡ part a n xs
 part-lent a zero xs h = refl
 part-lent a (suc n) xs h =
@@ -121,6 +121,9 @@ part-lent a (suc n) xs h =
     (ap₂ _∷_ (ap (λ (k : ℕ). xs ! k) (sym (add-zero a)))
     (part-lent (suc a) n xs (omega arith)
     ∙ table-same n (λ i. xs ! (suc a + i)) (λ i. xs ! (a + suc i)) (λ i k. ap (λ (j : ℕ). xs ! j) (suc-add a i ∙ sym (add-suc a i)))))
+
+pub lent-part : (a n : ℕ) (xs : List ℕ) → a + n ≤ length xs → take (a + n - a) (drop a xs) ≡ part a n xs
+lent-part a n xs h = ap (λ (k : ℕ). take k (drop a xs)) (add-sub-cancel-left a n) ∙ part-lent a n xs h
 
 -- ---- tests
 
@@ -138,6 +141,13 @@ and-split a b e = (and-left a b e, and-right a b e)
 
 pub and-join : {a b : Bool} → a ≡ true → b ≡ true → a && b ≡ true
 and-join {a} {b} p q = ap₂ _&&_ p q
+
+-- a test that a function answered: what it tests failed, or passed
+pub failed : {r t : Bool} → r ≡ t → not r ≡ true → t ≡ false
+failed {r} e h = sym e ∙ not-true r h
+
+pub passed : {r t : Bool} → r ≡ t → not r ≡ false → t ≡ true
+passed {r} e h = sym e ∙ not-false r h
 
 sameOn-split : (t : Bool) (xs ys : List ℕ) → sameOn t xs ys ≡ true → (t ≡ true) × (xs ≡ ys)
 sameOn-split t [] [] e = (e, refl)

@@ -2,47 +2,18 @@
 -- Assumes nothing.
 use borrow.Author.Needs.{needs}
 use Rattle.standard.specs.Cores.{bl1}
-use Rattle.standard.specs.Hurdle.{encrypt}
 use Rattle.cores.proofs.bl1.Statement.{statement}
 use Rattle.cores.proofs.bl1.Tie as tie
 
 schedule-requires : tie.Need-schedule-requires
 schedule-requires c κs = search needs
 
-left-requires : tie.Need-left-requires
-left-requires c κs = search needs
-
-encrypt-with-requires : tie.Need-encrypt-with-requires
-encrypt-with-requires c κs = search needs
-
-right-requires : tie.Need-right-requires
-right-requires c κs = search needs
-
-xor8-requires : tie.Need-xor8-requires
-xor8-requires c κs = search needs
-
-encrypt-with-requires-2 : tie.Need-encrypt-with-requires-2
-encrypt-with-requires-2 c κs = search needs
-
-joined-requires : tie.Need-joined-requires
-joined-requires c κs = search needs
+bl1-with-requires : tie.Need-bl1-with-requires
+bl1-with-requires c κs = search needs
 
 returns : tie.Need-returns
-unfolding bl1 encrypt
-returns c =
-    let second = c .before in
-    let first = second .before .before .before .before in
-    rw (c .joined .ensures, second .encrypt-with2 .ensures, second .before .xor8 .ensures, second .before .before .right .ensures, first .encrypt-with .ensures, first .before .left .ensures, first .before .before .before .schedule .ensures)
+unfolding bl1
+returns c = rw (c .bl1-with .ensures, c .before .before .schedule .ensures)
 
 pub bl1-spec : {M : Type 1} → statement M
-bl1-spec =
-    tie.close
-    (tie.spec
-    schedule-requires
-    left-requires
-    encrypt-with-requires
-    right-requires
-    xor8-requires
-    encrypt-with-requires-2
-    joined-requires
-    returns)
+bl1-spec = tie.close (tie.spec schedule-requires bl1-with-requires returns)

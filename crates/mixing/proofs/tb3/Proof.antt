@@ -3,7 +3,8 @@
 use native.Mathlib.Omega.{arith}
 use borrow.Author.Needs.{needs}
 use borrow.Author.Tests.{eq-eqb, ne-eqb, ltb-true}
-use Rattle.mixing.proofs.FieldLaws.{failed, passed, wide-split}
+use Rattle.standard.proofs.BytesLaws.{failed, passed}
+use Rattle.mixing.proofs.FieldLaws.{wide-split}
 use Rattle.standard.specs.Mixing.{tb3, tb3Call}
 use Rattle.mixing.proofs.tb3.Statement.{statement}
 use Rattle.mixing.proofs.tb3.Tie as tie

@@ -1,12 +1,9 @@
 -- `sitting::ten` meets its contract.
 -- Assumes nothing.
 use mathlib.Core.Path.{ap, _∙_}
-use Prim.Native.Nat.{ℕ}
-use native.Mathlib.Nat.{add-sub-cancel-left}
-use lib.ListN.{take, drop}
 use denote.Ref.{now}
 use borrow.Author.Needs.{needs}
-use Rattle.standard.proofs.BytesLaws.{part-lent}
+use Rattle.standard.proofs.BytesLaws.{lent-part}
 use Rattle.standard.specs.Bytes.{part}
 use Rattle.sitting.proofs.ten.Statement.{statement}
 use Rattle.sitting.proofs.ten.Tie as tie
@@ -29,9 +26,7 @@ array10-requires c κs = search needs
 returns : tie.Need-returns
 returns c =
     let start = c .before .before .before in
-    let s = now (start .args .s) in
-    let from = start .args .from in
-    c .array10 .ensures ∙ ap (part 0 10) (ap (λ (k : ℕ). take k (drop from s)) (add-sub-cancel-left from 10) ∙ part-lent from 10 s (start .pre))
+    c .array10 .ensures ∙ ap (part 0 10) (lent-part (start .args .from) 10 (now (start .args .s)) (start .pre))
 
 pub ten-spec : {M : Type 1} → statement M
 ten-spec =

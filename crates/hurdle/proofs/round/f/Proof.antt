@@ -2,30 +2,58 @@
 -- Assumes nothing.
 use denote.Ref.{now}
 use borrow.Author.Needs.{needs}
-use Rattle.hurdle.proofs.RoundLaws.{gathered-is}
+use Rattle.hurdle.proofs.RoundLaws.{chain-start, chain-four, gathered-is}
 use Rattle.hurdle.specs.Steps.{bytes4}
-use Rattle.standard.specs.Hurdle.{roundKey}
 use Rattle.hurdle.proofs.round.f.Statement.{statement}
 use Rattle.hurdle.proofs.round.f.Tie as tie
 
-first-four-requires : tie.Need-first-four-requires
-first-four-requires c κs = search needs
+cast-x3 : tie.Need-cast-x3
+cast-x3 c = search needs
 
-second-four-requires : tie.Need-second-four-requires
-second-four-requires c κs = search needs
+cast-x2 : tie.Need-cast-x2
+cast-x2 c = search needs
 
-third-four-requires : tie.Need-third-four-requires
-third-four-requires c κs = search needs
+cast-x1 : tie.Need-cast-x1
+cast-x1 c = search needs
+
+cast-x0 : tie.Need-cast-x0
+cast-x0 c = search needs
+
+links-requires : tie.Need-links-requires
+links-requires c κs = search needs
+
+links-requires-2 : tie.Need-links-requires-2
+links-requires-2 c κs = search needs
+
+links-requires-3 : tie.Need-links-requires-3
+links-requires-3 c κs = search needs
 
 gather-requires : tie.Need-gather-requires
 gather-requires c κs = search needs
 
 returns : tie.Need-returns
 returns c =
-    let x = c .before .before .before .before .args in
-    gathered-is (bytes4 (x .x)) (roundKey (now (x .keys)) (x .i)) (c .before .before .second-four .ensures) (c .before .third-four .ensures) (c .gather .ensures)
+    let third = c .before in
+    let second = third .before in
+    let x = second .before .before .before .args in
+    let h = bytes4 (x .x) in
+    let k = now (x .k) in
+    let q = second .links2 .ensures in
+    let r = third .links3 .ensures in
+    let t₄ = chain-four h k 3 (chain-start h k (second .before .links .ensures)) (q .first) (q .second) (q .third) (q .fourth) in
+    let t₈ = chain-four h k 7 (t₄ .fourth) (r .first) (r .second) (r .third) (r .fourth) in
+    gathered-is h k t₄ t₈ (c .gather .ensures)
 
 pub f-spec : {M : Type 1} → statement M
 f-spec =
     tie.close
-    (tie.spec first-four-requires second-four-requires third-four-requires gather-requires returns)
+    (tie.spec
+    cast-x3
+    cast-x2
+    cast-x1
+    cast-x0
+    links-requires
+    links-requires-2
+    links-requires-3
+    gather-requires
+    returns)

@@ -10,16 +10,31 @@ use Rattle.hurdle.proofs.round.rounds.Statement.{statement}
 use Rattle.hurdle.proofs.round.rounds.Tie as tie
 
 abbrev Inv-loop : tie.InvT-loop
-Inv-loop keys back s l₀ r₀ i₀ l r i = (i ≤ 16) × Turned back keys l₀ r₀ i l r
+Inv-loop keys back s laid l₀ r₀ i₀ l r i = (i ≤ 16) × Turned back keys l₀ r₀ i l r
 
 abbrev μ-loop : tie.MeasureT-loop
-μ-loop keys back s l₀ r₀ i₀ l r i = 16 - i
+μ-loop keys back s laid l₀ r₀ i₀ l r i = 16 - i
 
 loop-holds : tie.Need-loop-holds Inv-loop μ-loop
 loop-holds c = (zero-le, turned-none)
 
 place-requires : tie.Need-place-requires Inv-loop μ-loop
 place-requires c κs = omega arith
+
+mul-at : tie.Need-mul-at Inv-loop μ-loop
+mul-at c = omega arith
+
+add-f : tie.Need-add-f Inv-loop μ-loop
+add-f c = omega arith
+
+sub-f : tie.Need-sub-f Inv-loop μ-loop
+sub-f c = omega arith
+
+part-f-start : tie.Need-part-f-start Inv-loop μ-loop
+part-f-start c = omega arith
+
+part-f-end : tie.Need-part-f-end Inv-loop μ-loop
+part-f-end c = omega arith
 
 f-requires : tie.Need-f-requires Inv-loop μ-loop
 unfolding S
@@ -32,7 +47,9 @@ loop-less : tie.Need-loop-less Inv-loop μ-loop
 loop-less c = omega arith
 
 loop-again : tie.Need-loop-again Inv-loop μ-loop
-loop-again c = (omega arith, turned-more (c .f .result) (c .before .place .ensures .0) (c .f .ensures) (c .before .before .before .before .loop .inv .1))
+loop-again c =
+    let placed = c .before .before .before in
+    (omega arith, turned-more (c .f .result) (placed .place .ensures .0) (omega arith) (c .f .ensures) (placed .before .before .loop .inv .1))
 
 returns : tie.Need-returns Inv-loop μ-loop
 returns c =
@@ -47,6 +64,11 @@ rounds-spec =
     μ-loop
     loop-holds
     place-requires
+    mul-at
+    add-f
+    sub-f
+    part-f-start
+    part-f-end
     f-requires
     add-i
     loop-less
