@@ -1,14 +1,23 @@
-// Strings of any length to typed arrays, and the ⊕ of two.
+// Strings of any length: the test of their lengths, typed arrays of them, and the ⊕ of two.
+ghost use mathlib.Core.Bool.{_&&_};
 ghost use mathlib.Core.List.{_++_};
 ghost use mathlib.Core.Path.{_≡_};
 ghost use lib.ListN.{length, take, drop};
 ghost use Rattle.standard.specs.Bytes.{part, xors};
+ghost use Rattle.standard.specs.Refusals.{long};
 ghost use Rattle.arrays.specs.Least.{Least};
 
 fn least(a: usize, b: usize) -> usize
     ensures { λ r. ⌜ Least a b r ⌝ }
 {
     if a < b { a } else { b }
+}
+
+// Both strings have their lengths.
+pub fn both_long(a: &[u8], m: usize, b: &[u8], n: usize) -> bool
+    ensures { λ r. ⌜ r ≡ (long m (now (a .entry)) && long n (now (b .entry))) ⌝ }
+{
+    (a.len() == m) & (b.len() == n)
 }
 
 // The front of `out` becomes `s`, as far as both go.

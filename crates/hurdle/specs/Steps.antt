@@ -1,11 +1,13 @@
 -- What the steps of the code compute on their way to the definitions.
 -- Assumes nothing.
-use mathlib.Core.Bool.{Bool, true, false}
+use mathlib.Core.Bool.{Bool, true, false, _&&_}
 use mathlib.Core.List.{List, [], _∷_}
 use mathlib.Core.Path.{_≡_}
 use Prim.Native.Nat.{ℕ, suc, _+_, _-_, _*_, _/_, _%_, _^_, _≤_}
 use Rattle.standard.specs.Bytes.{_!_, bit, _⊕_, _⊞_, part}
-use Rattle.standard.specs.Hurdle.{S, T, rounds, roundKey}
+use Rattle.standard.specs.Hurdle.{S, T, rounds, crypt, schedule, roundKey}
+use Rattle.standard.specs.Refusals.{wrongLength, long, first, answer8}
+use Rattle.standard.specs.declared.Bytes8.{Bytes8}
 
 -- the four bytes of a word, leftmost first
 abbrev pub bytes4 : ℕ → List ℕ
@@ -54,6 +56,11 @@ pub record HalvesOf (b : List ℕ) (l r : ℕ) : Type 0 where
 abbrev pub place : Bool → ℕ → ℕ
 place false i = i
 place true i = 15 - i
+
+-- the call in either direction
+unfoldable pub cryptCall : List ℕ → List ℕ → Bool → Bytes8
+cryptCall key block back =
+    answer8 (first ((long 16 key && long 8 block, wrongLength) ∷ [])) (crypt (λ i. roundKey (schedule key) (place back i)) block)
 
 -- the words l and r are what the first i rounds make of l₀ and r₀
 pub record Turned (back : Bool) (keys : List ℕ) (l₀ r₀ i l r : ℕ) : Type 0 where

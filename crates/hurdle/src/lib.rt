@@ -10,9 +10,11 @@ use crate::tables::S_INVERSE;
 use crate::tables::entry;
 use arrays::array8;
 use arrays::array16;
+use arrays::both_long;
 use standard::Bytes8;
 ghost use mathlib.Core.Path.{_≡_};
 ghost use Rattle.standard.specs.Bytes.{_!_, table, zeros};
+ghost use Rattle.hurdle.specs.Steps.{cryptCall};
 ghost use Rattle.standard.specs.Hurdle.{S as sOf, S⁻¹ as sInverseOf, schedule as scheduleOf, encryptWith, decryptWith, encrypt as encryptOf, decrypt as decryptOf, encryptCall, decryptCall};
 
 // All sixteen round keys, the first one first.
@@ -80,29 +82,28 @@ fn refused8(number: u32) -> Bytes8
     }
 }
 
-// The calls, over strings of any length.
+// A call in either direction, over strings of any length.
+fn crypted(key: &[u8], block: &[u8], back: bool) -> Bytes8
+    ensures { λ r. ⌜ r ≡ cryptCall (now (key .entry)) (now (block .entry)) back ⌝ }
+{
+    if !both_long(key, 16, block, 8) {
+        return refused8(11);
+    }
+    let keys = lay(array16(key));
+    Bytes8 {
+        refusal: 0,
+        bytes: crypt(&keys, array8(block), back),
+    }
+}
+
 pub fn encrypt(key: &[u8], block: &[u8]) -> Bytes8
     ensures { λ r. ⌜ r ≡ encryptCall (now (key .entry)) (now (block .entry)) ⌝ }
 {
-    let long = (key.len() == 16) & (block.len() == 8);
-    if !long {
-        return refused8(11);
-    }
-    Bytes8 {
-        refusal: 0,
-        bytes: encrypt_block(array16(key), array8(block)),
-    }
+    crypted(key, block, false)
 }
 
 pub fn decrypt(key: &[u8], block: &[u8]) -> Bytes8
     ensures { λ r. ⌜ r ≡ decryptCall (now (key .entry)) (now (block .entry)) ⌝ }
 {
-    let long = (key.len() == 16) & (block.len() == 8);
-    if !long {
-        return refused8(11);
-    }
-    Bytes8 {
-        refusal: 0,
-        bytes: decrypt_block(array16(key), array8(block)),
-    }
+    crypted(key, block, true)
 }

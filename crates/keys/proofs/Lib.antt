@@ -1,3 +1,2 @@
-pub mod LengthLaws
 pub mod GatherLaws
 pub mod RecipeLaws

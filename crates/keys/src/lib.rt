@@ -12,6 +12,7 @@ use crate::masks::split;
 use crate::recipe::make;
 use arrays::array10;
 use arrays::array16;
+use arrays::both_long;
 use standard::Authentication;
 use standard::Bytes10;
 use standard::Bytes16;
@@ -20,9 +21,12 @@ use standard::RingMade;
 use standard::refused_ring;
 use standard::refused10;
 use standard::refused16;
+ghost use mathlib.Core.Bool.{_&&_};
+ghost use mathlib.Core.List.{[], _∷_};
 ghost use mathlib.Core.Path.{_≡_};
 ghost use Rattle.standard.specs.Bytes.{zeros};
-ghost use Rattle.standard.specs.Derivation.{ta11Call, ta21Call, ta41Call, ta12Call, ta22Call, ta71Call, ta101Call, ringOf, ringCall};
+ghost use Rattle.standard.specs.Derivation.{core as coreOf, ta11Call, ta21Call, ta41Call, ta12Call, ta22Call, ta71Call, ta101Call, ringOf, ringCall};
+ghost use Rattle.standard.specs.Refusals.{wrongLength, long as longOf, first, answer16};
 
 fn refused_split(number: u32) -> Authentication
     ensures { λ r. ⌜ r ≡ record { refusal = number; response = zeros 4; key = zeros 10 } ⌝ }
@@ -34,31 +38,31 @@ fn refused_split(number: u32) -> Authentication
     }
 }
 
-// The calls, over strings of any length and numbers of any size.
-pub fn ta11(root: &[u8], seed: &[u8]) -> Bytes16
-    ensures { λ r. ⌜ r ≡ ta11Call (now (root .entry)) (now (seed .entry)) ⌝ }
+// The core under a root of any length; `long` says that the seed had its length.
+fn under_root(root: &[u8], seed: [u8; 10], long: bool) -> Bytes16
+    ensures { λ r. ⌜ r ≡ answer16 (first ((longOf 16 (now (root .entry)) && long, wrongLength) ∷ [])) (coreOf (now (root .entry)) seed) ⌝ }
 {
-    let long = (root.len() == 16) & (seed.len() == 10);
-    if !long {
+    let both = (root.len() == 16) & long;
+    if !both {
         return refused16(11);
     }
     Bytes16 {
         refusal: 0,
-        bytes: core(array16(root), array10(seed)),
+        bytes: core(array16(root), seed),
     }
+}
+
+// The calls, over strings of any length and numbers of any size.
+pub fn ta11(root: &[u8], seed: &[u8]) -> Bytes16
+    ensures { λ r. ⌜ r ≡ ta11Call (now (root .entry)) (now (seed .entry)) ⌝ }
+{
+    under_root(root, array10(seed), seed.len() == 10)
 }
 
 pub fn ta21(root: &[u8], seed: &[u8]) -> Bytes16
     ensures { λ r. ⌜ r ≡ ta21Call (now (root .entry)) (now (seed .entry)) ⌝ }
 {
-    let long = (root.len() == 16) & (seed.len() == 10);
-    if !long {
-        return refused16(11);
-    }
-    Bytes16 {
-        refusal: 0,
-        bytes: core(array16(root), reversed(array10(seed))),
-    }
+    under_root(root, reversed(array10(seed)), seed.len() == 10)
 }
 
 // TA41 does what TA11 does, with the seed RSO.
@@ -76,8 +80,7 @@ pub fn ta12(
 ) -> Authentication
     ensures { λ r. ⌜ r ≡ ta12Call (now («session_key» .entry)) (now (challenge .entry)) «response_mask» «key_mask» ⌝ }
 {
-    let long = (session_key.len() == 16) & (challenge.len() == 10);
-    if !long {
+    if !both_long(session_key, 16, challenge, 10) {
         return refused_split(11);
     }
     let number = refusal_of(response_mask, key_mask);
@@ -106,8 +109,7 @@ pub fn ta22(
 pub fn ta71(key1: &[u8], key2: &[u8]) -> Bytes10
     ensures { λ r. ⌜ r ≡ ta71Call (now (key1 .entry)) (now (key2 .entry)) ⌝ }
 {
-    let long = (key1.len() == 10) & (key2.len() == 10);
-    if !long {
+    if !both_long(key1, 10, key2, 10) {
         return refused10(11);
     }
     Bytes10 {
@@ -119,8 +121,7 @@ pub fn ta71(key1: &[u8], key2: &[u8]) -> Bytes10
 pub fn ta101(ks: &[u8], gck0: &[u8], mni: u64) -> Bytes16
     ensures { λ r. ⌜ r ≡ ta101Call (now (ks .entry)) (now (gck0 .entry)) mni ⌝ }
 {
-    let long = (ks.len() == 16) & (gck0.len() == 10);
-    if !long {
+    if !both_long(ks, 16, gck0, 10) {
         return refused16(11);
     }
     if mni >= 16777216 {

@@ -9,6 +9,7 @@ use crate::fields::wide;
 use arrays::array10;
 use arrays::array12;
 use arrays::array16;
+use arrays::both_long;
 use arrays::xor10;
 use arrays::xor16;
 use standard::Bytes10;
@@ -98,8 +99,7 @@ pub fn tb3(input: &[u8], value: u64, width: u64) -> Bytes16
 pub fn tb4(input1: &[u8], input2: &[u8]) -> Bytes10
     ensures { λ r. ⌜ r ≡ tb4Call (now (input1 .entry)) (now (input2 .entry)) ⌝ }
 {
-    let long = (input1.len() == 10) & (input2.len() == 10);
-    if !long {
+    if !both_long(input1, 10, input2, 10) {
         return refused10(11);
     }
     Bytes10 {

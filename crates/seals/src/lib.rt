@@ -3,6 +3,7 @@ use arrays::array10;
 use arrays::array12;
 use arrays::array15;
 use arrays::array16;
+use arrays::both_long;
 use standard::Bytes15;
 use standard::KeyNumber;
 use standard::Kind;
@@ -14,12 +15,16 @@ use texts::key10;
 use texts::key16;
 use texts::open_text;
 use texts::seal_body;
-ghost use mathlib.Core.Bool.{false};
 ghost use mathlib.Core.List.{[], _∷_, _++_};
 ghost use mathlib.Core.Path.{_≡_};
 ghost use Prim.Native.Nat.{_+_, _*_};
 ghost use Rattle.standard.specs.Bytes.{_!_, part, zeros};
-ghost use Rattle.standard.specs.Seals.{number2 as number2Of, ta31Call, ta32Call, ta51Call, ta52Call, ta81Call, ta82Call, ta91Call, ta92Call};
+ghost use Rattle.seals.specs.Steps.{unsealedBody, opened16};
+ghost use Rattle.standard.specs.Refusals.{wrongLength, first, answer15};
+ghost use Rattle.standard.specs.Seals.{form, sealed as sealedOf, opened as openedOf, number2 as number2Of, ta31Call, ta32Call, ta51Call, ta52Call, ta81Call, ta82Call, ta91Call, ta92Call};
+
+// A sealed text's bytes.
+const TEXT: usize = 15;
 
 fn refused15(number: u32) -> Bytes15
     ensures { λ r. ⌜ r ≡ record { refusal = number; bytes = zeros 15 } ⌝ }
@@ -27,37 +32,6 @@ fn refused15(number: u32) -> Bytes15
     Bytes15 {
         refusal: number,
         bytes: [0; 15],
-    }
-}
-
-fn refused_key(number: u32) -> Unsealed
-    ensures { λ r. ⌜ r ≡ record { refusal = number; key = zeros 10; flag = false } ⌝ }
-{
-    Unsealed {
-        refusal: number,
-        key: [0; 10],
-        flag: false,
-    }
-}
-
-fn refused_numbered(number: u32) -> UnsealedNumbered
-    ensures { λ r. ⌜ r ≡ record { refusal = number; key = zeros 10; number = 0; flag = false } ⌝ }
-{
-    UnsealedNumbered {
-        refusal: number,
-        key: [0; 10],
-        number: 0,
-        flag: false,
-    }
-}
-
-fn refused_group(number: u32) -> UnsealedGroup
-    ensures { λ r. ⌜ r ≡ record { refusal = number; key = zeros 12; flag = false } ⌝ }
-{
-    UnsealedGroup {
-        refusal: number,
-        key: [0; 12],
-        flag: false,
     }
 }
 
@@ -105,32 +79,77 @@ fn number81(b: [u8; 12]) -> u16
     joined(b[10], b[11])
 }
 
-pub fn ta31(cipher_key: &[u8], version: Version, sealing_key: &[u8]) -> Bytes15
-    ensures { λ r. ⌜ r ≡ ta31Call (now («cipher_key» .entry)) version (now («sealing_key» .entry)) ⌝ }
+// The sealed text of a body, if the strings that it came from had their lengths.
+fn seal_if(long: bool, kind: Kind, key: [u8; 16], body: [u8; 12]) -> Bytes15
+    ensures { λ r. ⌜ r ≡ answer15 (first ((long, wrongLength) ∷ [])) (sealedOf (form kind) key body) ⌝ }
 {
-    let long = (cipher_key.len() == 10) & (sealing_key.len() == 10);
     if !long {
         return refused15(11);
     }
-    let key = key10(array10(sealing_key), version);
     Bytes15 {
         refusal: 0,
-        bytes: seal_body(Kind::Ta31, key, body(array10(cipher_key), 0, 0)),
+        bytes: seal_body(kind, key, body),
     }
+}
+
+// What an unseal answers, before key and number are taken out of the body.
+struct UnsealedBody {
+    refusal: u32,
+    body: [u8; 12],
+    flag: bool,
+}
+
+// The body and the flag of a text, if the strings that it came from had their lengths.
+fn open_if(long: bool, kind: Kind, key: [u8; 16], text: [u8; 15]) -> UnsealedBody
+    ensures { λ r. ⌜ r ≡ unsealedBody long (form kind) (openedOf key text) ⌝ }
+{
+    if !long {
+        return UnsealedBody {
+            refusal: 11,
+            body: [0; 12],
+            flag: false,
+        };
+    }
+    let opened = open_text(kind, key, text);
+    let body = opened.body;
+    UnsealedBody {
+        refusal: 0,
+        body,
+        flag: opened.flag,
+    }
+}
+
+// The same under a sealing key of kinds 2 to 4, from strings of any length.
+fn open16(kind: Kind, text: &[u8], sealing_key: &[u8], version: Version) -> UnsealedBody
+    ensures { λ r. ⌜ r ≡ opened16 (form kind) (now (text .entry)) (now («sealing_key» .entry)) version ⌝ }
+{
+    let long = both_long(text, TEXT, sealing_key, Kind::SEALING_KEY);
+    let key = key16(array16(sealing_key), version);
+    open_if(long, kind, key, array15(text))
+}
+
+pub fn ta31(cipher_key: &[u8], version: Version, sealing_key: &[u8]) -> Bytes15
+    ensures { λ r. ⌜ r ≡ ta31Call (now («cipher_key» .entry)) version (now («sealing_key» .entry)) ⌝ }
+{
+    let long = both_long(
+        cipher_key,
+        Kind::CIPHER_KEY,
+        sealing_key,
+        Kind::TA31_SEALING_KEY,
+    );
+    let key = key10(array10(sealing_key), version);
+    seal_if(long, Kind::Ta31, key, body(array10(cipher_key), 0, 0))
 }
 
 pub fn ta32(text: &[u8], sealing_key: &[u8], version: Version) -> Unsealed
     ensures { λ r. ⌜ r ≡ ta32Call (now (text .entry)) (now («sealing_key» .entry)) version ⌝ }
 {
-    let long = (text.len() == 15) & (sealing_key.len() == 10);
-    if !long {
-        return refused_key(11);
-    }
+    let long = both_long(text, TEXT, sealing_key, Kind::TA31_SEALING_KEY);
     let key = key10(array10(sealing_key), version);
-    let opened = open_text(Kind::Ta31, key, array15(text));
+    let opened = open_if(long, Kind::Ta31, key, array15(text));
     let body = opened.body;
     Unsealed {
-        refusal: 0,
+        refusal: opened.refusal,
         key: key_part(body),
         flag: opened.flag,
     }
@@ -139,36 +158,28 @@ pub fn ta32(text: &[u8], sealing_key: &[u8], version: Version) -> Unsealed
 pub fn ta51(cipher_key: &[u8], version: Version, sealing_key: &[u8], number: KeyNumber) -> Bytes15
     ensures { λ r. ⌜ r ≡ ta51Call (now («cipher_key» .entry)) version (now («sealing_key» .entry)) number ⌝ }
 {
-    let long = (cipher_key.len() == 10) & (sealing_key.len() == 16);
-    if !long {
+    if !both_long(cipher_key, Kind::CIPHER_KEY, sealing_key, Kind::SEALING_KEY) {
         return refused15(11);
     }
     if number.0 > Kind::TA51_HIGHEST {
         return refused15(5);
     }
     let key = key16(array16(sealing_key), version);
-    Bytes15 {
-        refusal: 0,
-        bytes: seal_body(
-            Kind::Ta51,
-            key,
-            body(array10(cipher_key), 0, number.0 as u8),
-        ),
-    }
+    seal_if(
+        true,
+        Kind::Ta51,
+        key,
+        body(array10(cipher_key), 0, number.0 as u8),
+    )
 }
 
 pub fn ta52(text: &[u8], sealing_key: &[u8], version: Version) -> UnsealedNumbered
     ensures { λ r. ⌜ r ≡ ta52Call (now (text .entry)) (now («sealing_key» .entry)) version ⌝ }
 {
-    let long = (text.len() == 15) & (sealing_key.len() == 16);
-    if !long {
-        return refused_numbered(11);
-    }
-    let key = key16(array16(sealing_key), version);
-    let opened = open_text(Kind::Ta51, key, array15(text));
+    let opened = open16(Kind::Ta51, text, sealing_key, version);
     let body = opened.body;
     UnsealedNumbered {
-        refusal: 0,
+        refusal: opened.refusal,
         key: key_part(body),
         number: number51(body),
         flag: opened.flag,
@@ -178,37 +189,20 @@ pub fn ta52(text: &[u8], sealing_key: &[u8], version: Version) -> UnsealedNumber
 pub fn ta81(cipher_key: &[u8], version: Version, sealing_key: &[u8], number: KeyNumber) -> Bytes15
     ensures { λ r. ⌜ r ≡ ta81Call (now («cipher_key» .entry)) version (now («sealing_key» .entry)) number ⌝ }
 {
-    let long = (cipher_key.len() == 10) & (sealing_key.len() == 16);
-    if !long {
-        return refused15(11);
-    }
+    let long = both_long(cipher_key, Kind::CIPHER_KEY, sealing_key, Kind::SEALING_KEY);
     let key = key16(array16(sealing_key), version);
-    Bytes15 {
-        refusal: 0,
-        bytes: seal_body(
-            Kind::Ta81,
-            key,
-            body(
-                array10(cipher_key),
-                (number.0 / 256 % 256) as u8,
-                (number.0 % 256) as u8,
-            ),
-        ),
-    }
+    let high = (number.0 / 256 % 256) as u8;
+    let low = (number.0 % 256) as u8;
+    seal_if(long, Kind::Ta81, key, body(array10(cipher_key), high, low))
 }
 
 pub fn ta82(text: &[u8], sealing_key: &[u8], version: Version) -> UnsealedNumbered
     ensures { λ r. ⌜ r ≡ ta82Call (now (text .entry)) (now («sealing_key» .entry)) version ⌝ }
 {
-    let long = (text.len() == 15) & (sealing_key.len() == 16);
-    if !long {
-        return refused_numbered(11);
-    }
-    let key = key16(array16(sealing_key), version);
-    let opened = open_text(Kind::Ta81, key, array15(text));
+    let opened = open16(Kind::Ta81, text, sealing_key, version);
     let body = opened.body;
     UnsealedNumbered {
-        refusal: 0,
+        refusal: opened.refusal,
         key: key_part(body),
         number: number81(body),
         flag: opened.flag,
@@ -218,29 +212,18 @@ pub fn ta82(text: &[u8], sealing_key: &[u8], version: Version) -> UnsealedNumber
 pub fn ta91(group_key: &[u8], version: Version, sealing_key: &[u8]) -> Bytes15
     ensures { λ r. ⌜ r ≡ ta91Call (now («group_key» .entry)) version (now («sealing_key» .entry)) ⌝ }
 {
-    let long = (group_key.len() == 12) & (sealing_key.len() == 16);
-    if !long {
-        return refused15(11);
-    }
+    let long = both_long(group_key, Kind::GROUP_KEY, sealing_key, Kind::SEALING_KEY);
     let key = key16(array16(sealing_key), version);
-    Bytes15 {
-        refusal: 0,
-        bytes: seal_body(Kind::Ta91, key, array12(group_key)),
-    }
+    seal_if(long, Kind::Ta91, key, array12(group_key))
 }
 
 pub fn ta92(text: &[u8], sealing_key: &[u8], version: Version) -> UnsealedGroup
     ensures { λ r. ⌜ r ≡ ta92Call (now (text .entry)) (now («sealing_key» .entry)) version ⌝ }
 {
-    let long = (text.len() == 15) & (sealing_key.len() == 16);
-    if !long {
-        return refused_group(11);
-    }
-    let key = key16(array16(sealing_key), version);
-    let opened = open_text(Kind::Ta91, key, array15(text));
+    let opened = open16(Kind::Ta91, text, sealing_key, version);
     let body = opened.body;
     UnsealedGroup {
-        refusal: 0,
+        refusal: opened.refusal,
         key: body,
         flag: opened.flag,
     }

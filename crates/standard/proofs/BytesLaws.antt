@@ -149,6 +149,10 @@ failed {r} e h = sym e ∙ not-true r h
 pub passed : {r t : Bool} → r ≡ t → not r ≡ false → t ≡ true
 passed {r} e h = sym e ∙ not-false r h
 
+-- two strings that pass the tests of their lengths
+pub both-spelled : (m n : ℕ) (a b : List ℕ) → long m a && long n b ≡ true → (table m (λ i. a ! i) ≡ a) × (table n (λ i. b ! i) ≡ b)
+both-spelled m n a b t = let s = and-split _ _ t in (long-spelled m a (s .0), long-spelled n b (s .1))
+
 sameOn-split : (t : Bool) (xs ys : List ℕ) → sameOn t xs ys ≡ true → (t ≡ true) × (xs ≡ ys)
 sameOn-split t [] [] e = (e, refl)
 sameOn-split t [] (y ∷ ys) e = absurd (true≢false (sym e))

@@ -132,6 +132,11 @@ impl Kind {
 
     pub const GROUP_KEY: usize = 12;
 
+    // The bytes of the key that seals kind 1, and of the one that seals kinds 2 to 4.
+    pub const TA31_SEALING_KEY: usize = 10;
+
+    pub const SEALING_KEY: usize = 16;
+
     // The highest key numbers of five and of sixteen bits.
     pub const TA51_HIGHEST: u16 = 31;
 

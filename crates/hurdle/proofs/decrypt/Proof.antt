@@ -1,50 +1,17 @@
 -- `hurdle::decrypt` meets its contract.
 -- Assumes nothing.
-use mathlib.Core.Bool.{true, false, _&&_}
-use mathlib.Core.Path.{_≡_}
-use denote.Ref.{now}
 use borrow.Author.Needs.{needs}
-use borrow.Author.Tests.{not-true, not-false}
-use Rattle.standard.proofs.BytesLaws.{and-split, long-spelled}
-use Rattle.standard.specs.Hurdle.{decryptCall}
-use Rattle.standard.specs.Refusals.{long}
+use Rattle.hurdle.specs.Steps.{cryptCall}
+use Rattle.standard.specs.Hurdle.{decrypt, decryptCall}
 use Rattle.hurdle.proofs.decrypt.Statement.{statement}
 use Rattle.hurdle.proofs.decrypt.Tie as tie
 
-refused8-requires : tie.Need-refused8-requires
-refused8-requires c κs = search needs
+crypted-requires : tie.Need-crypted-requires
+crypted-requires c κs = search needs
 
 returns : tie.Need-returns
-unfolding decryptCall
-returns c =
-    let x = c .before .before .before .before .args in
-    let t : long 16 (now (x .key)) && long 8 (now (x .block)) ≡ false = not-true _ (c .before .if1 .taken) in
-    rw (c .refused8 .ensures, t)
-
-array16-requires : tie.Need-array16-requires
-array16-requires c κs = search needs
-
-array8-requires : tie.Need-array8-requires
-array8-requires c κs = search needs
-
-decrypt-block-requires : tie.Need-decrypt-block-requires
-decrypt-block-requires c κs = search needs
-
-returns-2 : tie.Need-returns-2
-unfolding decryptCall
-returns-2 c =
-    let x = c .before .before .before .before .before .before .args in
-    let t : long 16 (now (x .key)) && long 8 (now (x .block)) ≡ true = not-false _ (c .before .before .before .if1 .left) in
-    let s = and-split _ _ t in
-    rw (c .decrypt-block .ensures, c .before .array8 .ensures, c .before .before .array16 .ensures, long-spelled 16 (now (x .key)) (s .0), long-spelled 8 (now (x .block)) (s .1), t)
+unfolding cryptCall decryptCall decrypt
+returns c = c .crypted .ensures
 
 pub decrypt-spec : {M : Type 1} → statement M
-decrypt-spec =
-    tie.close
-    (tie.spec
-    refused8-requires
-    returns
-    array16-requires
-    array8-requires
-    decrypt-block-requires
-    returns-2)
+decrypt-spec = tie.close (tie.spec crypted-requires returns)

@@ -1,25 +1,22 @@
 -- `keys::ta101` meets its contract.
 -- Assumes nothing.
-use mathlib.Core.Bool.{true, false, _&&_}
-use mathlib.Core.Path.{_≡_}
 use denote.Ref.{now}
 use borrow.Author.Needs.{needs}
-use borrow.Author.Tests.{lt-ltb, le-ltb, not-true, not-false}
-use Rattle.keys.proofs.LengthLaws.{both-spelled}
+use borrow.Author.Tests.{lt-ltb, le-ltb}
+use Rattle.standard.proofs.BytesLaws.{failed, passed, both-spelled}
 use Rattle.standard.specs.Derivation.{ta101Call}
-use Rattle.standard.specs.Refusals.{long}
 use Rattle.keys.proofs.ta101.Statement.{statement}
 use Rattle.keys.proofs.ta101.Tie as tie
+
+both-long-requires : tie.Need-both-long-requires
+both-long-requires c κs = search needs
 
 refused16-requires : tie.Need-refused16-requires
 refused16-requires c κs = search needs
 
 returns : tie.Need-returns
 unfolding ta101Call
-returns c =
-    let x = c .before .before .before .before .args in
-    let t : long 16 (now (x .ks)) && long 10 (now (x .gck0)) ≡ false = not-true _ (c .before .if1 .taken) in
-    rw (c .refused16 .ensures, t)
+returns c = rw (c .refused16 .ensures, failed (c .before .before .both-long .ensures) (c .before .if1 .taken))
 
 refused16-requires-2 : tie.Need-refused16-requires-2
 refused16-requires-2 c κs = search needs
@@ -28,9 +25,7 @@ returns-2 : tie.Need-returns-2
 unfolding ta101Call
 returns-2 c =
     let tested = c .before .before in
-    let x = tested .before .before .before .args in
-    let t : long 16 (now (x .ks)) && long 10 (now (x .gck0)) ≡ true = not-false _ (tested .if1 .left) in
-    rw (c .refused162 .ensures, t, le-ltb _ _ (c .before .if2 .taken))
+    rw (c .refused162 .ensures, passed (tested .before .both-long .ensures) (tested .if1 .left), le-ltb _ _ (c .before .if2 .taken))
 
 array16-requires : tie.Need-array16-requires
 array16-requires c κs = search needs
@@ -48,9 +43,9 @@ returns-3 : tie.Need-returns-3
 unfolding ta101Call
 returns-3 c =
     let fit = c .before .before .before .before in
-    let tested = fit .before in
+    let tested = fit .before .before in
     let x = tested .before .before .before .args in
-    let t : long 16 (now (x .ks)) && long 10 (now (x .gck0)) ≡ true = not-false _ (tested .if1 .left) in
+    let t = passed (tested .both-long .ensures) (fit .before .if1 .left) in
     let s = both-spelled 16 10 (now (x .ks)) (now (x .gck0)) t in
     rw (c .core .ensures, c .before .int .ensures, c .before .before .array10 .ensures, c .before .before .before .array16 .ensures, s .0, s .1, t, lt-ltb _ _ (fit .if2 .left))
 
@@ -58,6 +53,7 @@ pub ta101-spec : {M : Type 1} → statement M
 ta101-spec =
     tie.close
     (tie.spec
+    both-long-requires
     refused16-requires
     returns
     refused16-requires-2

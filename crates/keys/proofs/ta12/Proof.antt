@@ -1,26 +1,25 @@
 -- `keys::ta12` meets its contract.
 -- Assumes nothing.
-use mathlib.Core.Bool.{true, false, _&&_}
 use mathlib.Core.Path.{_≡_, sym, _∙_}
 use denote.Ref.{now}
 use borrow.Author.Needs.{needs}
-use borrow.Author.Tests.{ne-eqb, not-true, not-false}
-use Rattle.keys.proofs.LengthLaws.{both-spelled}
+use borrow.Author.Tests.{ne-eqb}
+use Rattle.standard.proofs.BytesLaws.{failed, passed, both-spelled}
 use Rattle.standard.proofs.DerivationLaws.{masks-ones}
 use Rattle.standard.specs.Derivation.{ta12Call}
-use Rattle.standard.specs.Refusals.{long, maskTests, first}
+use Rattle.standard.specs.Refusals.{maskTests, first}
 use Rattle.keys.proofs.ta12.Statement.{statement}
 use Rattle.keys.proofs.ta12.Tie as tie
+
+both-long-requires : tie.Need-both-long-requires
+both-long-requires c κs = search needs
 
 refused-split-requires : tie.Need-refused-split-requires
 refused-split-requires c κs = search needs
 
 returns : tie.Need-returns
 unfolding ta12Call
-returns c =
-    let x = c .before .before .before .before .args in
-    let t : long 16 (now (x .session-key)) && long 10 (now (x .challenge)) ≡ false = not-true _ (c .before .if1 .taken) in
-    rw (c .refused-split .ensures, t)
+returns c = rw (c .refused-split .ensures, failed (c .before .before .both-long .ensures) (c .before .if1 .taken))
 
 refusal-of-requires : tie.Need-refusal-of-requires
 refusal-of-requires c κs = search needs
@@ -32,9 +31,7 @@ returns-2 : tie.Need-returns-2
 unfolding ta12Call
 returns-2 c =
     let masked = c .before .before in
-    let tested = masked .before in
-    let x = tested .before .before .before .args in
-    let t : long 16 (now (x .session-key)) && long 10 (now (x .challenge)) ≡ true = not-false _ (tested .if1 .left) in
+    let t = passed (masked .before .before .both-long .ensures) (masked .before .if1 .left) in
     rw (c .refused-split2 .ensures, t, ← masked .refusal-of .ensures, ne-eqb _ _ (c .before .if2 .taken))
 
 array16-requires : tie.Need-array16-requires
@@ -55,9 +52,9 @@ returns-3 : tie.Need-returns-3
 unfolding ta12Call
 returns-3 c =
     let accepted = c .before .before .before .before in
-    let tested = accepted .before .before in
+    let tested = accepted .before .before .before in
     let x = tested .before .before .before .args in
-    let t : long 16 (now (x .session-key)) && long 10 (now (x .challenge)) ≡ true = not-false _ (tested .if1 .left) in
+    let t = passed (tested .both-long .ensures) (accepted .before .before .if1 .left) in
     let s = both-spelled 16 10 (now (x .session-key)) (now (x .challenge)) t in
     let m : first (maskTests (x .response-mask) (x .key-mask)) ≡ 0 = sym (accepted .before .refusal-of .ensures) ∙ accepted .if2 .left in
     rw (c .split .ensures, c .before .core .ensures, c .before .before .array10 .ensures, c .before .before .before .array16 .ensures, s .0, s .1, t, m)
@@ -66,6 +63,7 @@ pub ta12-spec : {M : Type 1} → statement M
 ta12-spec =
     tie.close
     (tie.spec
+    both-long-requires
     refused-split-requires
     returns
     refusal-of-requires

@@ -1,26 +1,13 @@
 -- `seals::ta81` meets its contract.
 -- Assumes nothing.
-use mathlib.Core.Bool.{true, false, _&&_}
-use mathlib.Core.Path.{_≡_}
-use denote.Ref.{now}
+use native.Mathlib.Nat.{div-one}
 use borrow.Author.Needs.{needs}
-use borrow.Author.Tests.{not-true, not-false}
-use Rattle.seals.proofs.AnswerLaws.{ta81-accepts}
-use Rattle.standard.proofs.BytesLaws.{and-split, long-spelled}
-use Rattle.standard.specs.Refusals.{long}
-use Rattle.standard.specs.Seals.{ta81Call}
+use Rattle.standard.specs.Seals.{key16, seal, ta81Call}
 use Rattle.seals.proofs.ta81.Statement.{statement}
 use Rattle.seals.proofs.ta81.Tie as tie
 
-refused15-requires : tie.Need-refused15-requires
-refused15-requires c κs = search needs
-
-returns : tie.Need-returns
-unfolding ta81Call
-returns c =
-    let x = c .before .before .before .before .args in
-    let t : long 10 (now (x .cipher-key)) && long 16 (now (x .sealing-key)) ≡ false = not-true _ (c .before .if1 .taken) in
-    rw (c .refused15 .ensures, t)
+both-long-requires : tie.Need-both-long-requires
+both-long-requires c κs = search needs
 
 array16-requires : tie.Need-array16-requires
 array16-requires c κs = search needs
@@ -28,40 +15,37 @@ array16-requires c κs = search needs
 key16-requires : tie.Need-key16-requires
 key16-requires c κs = search needs
 
+cast-high : tie.Need-cast-high
+cast-high c = search needs
+
+cast-low : tie.Need-cast-low
+cast-low c = search needs
+
 array10-requires : tie.Need-array10-requires
 array10-requires c κs = search needs
-
-cast-body : tie.Need-cast-body
-cast-body c = search needs
-
-cast-body-2 : tie.Need-cast-body-2
-cast-body-2 c = search needs
 
 body-requires : tie.Need-body-requires
 body-requires c κs = search needs
 
-seal-body-requires : tie.Need-seal-body-requires
-seal-body-requires c κs = search needs
+seal-if-requires : tie.Need-seal-if-requires
+seal-if-requires c κs = search needs
 
-returns-2 : tie.Need-returns-2
-returns-2 c =
-    let x = c .before .before .before .before .before .before .before .before .before .before .args in
-    let t : long 10 (now (x .cipher-key)) && long 16 (now (x .sealing-key)) ≡ true = not-false _ (c .before .before .before .before .before .before .before .if1 .left) in
-    let l = and-split (long 10 (now (x .cipher-key))) _ t in
-    rw (c .seal-body .ensures, c .before .body .ensures, c .before .before .before .before .array10 .ensures, c .before .before .before .before .before .key16 .ensures, c .before .before .before .before .before .before .array16 .ensures, long-spelled 16 (now (x .sealing-key)) (l .1))
-    (ta81-accepts (now (x .cipher-key)) (now (x .sealing-key)) (x .version) (x .number) t)
+returns : tie.Need-returns
+unfolding ta81Call seal key16
+returns c =
+    let key = c .before .before .before .before .before in
+    rw (c .seal-if .ensures, c .before .body .ensures, c .before .before .array10 .ensures, key .key16 .ensures, key .before .array16 .ensures, key .before .before .both-long .ensures) (simp div-one)
 
 pub ta81-spec : {M : Type 1} → statement M
 ta81-spec =
     tie.close
     (tie.spec
-    refused15-requires
-    returns
+    both-long-requires
     array16-requires
     key16-requires
+    cast-high
+    cast-low
     array10-requires
-    cast-body
-    cast-body-2
     body-requires
-    seal-body-requires
-    returns-2)
+    seal-if-requires
+    returns)

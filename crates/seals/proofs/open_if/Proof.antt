@@ -1,0 +1,23 @@
+-- `seals::open_if` meets its contract.
+-- Assumes nothing.
+use borrow.Author.Needs.{needs}
+use borrow.Author.Tests.{not-true, not-false}
+use Rattle.seals.specs.Steps.{unsealedBody}
+use Rattle.seals.proofs.open_if.Statement.{statement}
+use Rattle.seals.proofs.open_if.Tie as tie
+
+returns : tie.Need-returns
+unfolding unsealedBody
+returns c = rw (not-true (c .before .args .long) (c .if1 .taken))
+
+open-text-requires : tie.Need-open-text-requires
+open-text-requires c κs = search needs
+
+returns-2 : tie.Need-returns-2
+unfolding unsealedBody
+returns-2 c =
+    let o = c .before .open-text .ensures in
+    rw (o .is, o .told, not-false (c .before .before .before .args .long) (c .before .before .if1 .left))
+
+pub open-if-spec : {M : Type 1} → statement M
+open-if-spec = tie.close (tie.spec returns open-text-requires returns-2)
