@@ -118,9 +118,9 @@ module _ (n : ℕ) (p : List ℕ) {none last : List ℕ} {k s : ℕ} (e : (k, no
 -- ---- the calls
 
 -- the text beside a number that the code knows
-pub said : (l : Line) (n k : ℕ) {r : Line} → n ≡ k → r ≡ l ▸ beside k meanings → r ≡ l ▸ meaning n
+pub said : (l : Line) (n k : ℕ) {t : List ℕ} {r : Line} → n ≡ k → r ≡ l ▸ t → t ≡ beside k meanings → r ≡ l ▸ meaning n
 unfolding meaning
-said l n k e f = f ∙ ap (λ (j : ℕ). l ▸ beside j meanings) (sym e)
+said l n k e f g = f ∙ ap (λ (t : List ℕ). l ▸ t) (g ∙ ap (λ (j : ℕ). beside j meanings) (sym e))
 
 module _ (p : List ℕ) {a : BookAnswer} (e : a ≡ checkPlain p) where
   pub listing-refused : (a .refusal ≡ 0 → ⊥) → listing p ≡ refusedLine (a .refusal) (a .index)

@@ -8,10 +8,10 @@ use programs::write_output;
 use sitting::sitting_ring;
 use standard::BookAnswer;
 use standard::RingMade;
-ghost use Rattle.io.specs.Counts.{Counts};
+ghost use Rattle.programs.specs.Reading.{Read};
 
 fn read_sitting(buf: &mut [u8]) -> Input
-    ensures { λ r. ⌜ Counts (r .len) (now (buf .exit)) ⌝ }
+    ensures { λ r. ⌜ Read r (now (buf .entry)) (now (buf .exit)) ⌝ }
 {
     let arguments = os::arg_count();
     if arguments > 2 {

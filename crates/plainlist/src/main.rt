@@ -3,9 +3,12 @@ use libc::STDERR_FILENO;
 use listing::list_plain;
 use programs::read_input;
 use programs::write_output;
+use text::ROOM;
 
-// The input has one byte more than the longest book, so that a longer one is seen to be longer; the output has
-// 160 bytes for each of 1,024 records and for the last line, and no line is so long.
+// Room for the lines of 1,024 records and for the last one.
+const LISTING: usize = 1025 * ROOM;
+
+// The input has one byte more than the longest book, so that a longer one is seen to be longer.
 fn main() {
     if os::arg_count() > 1 {
         io::write_all(STDERR_FILENO, b"usage: plainlist <BOOK\n");
@@ -17,7 +20,7 @@ fn main() {
         return;
     }
     let n = input.len;
-    let mut out = [0u8; 164000];
+    let mut out = [0u8; LISTING];
     let answer = list_plain(&plain[..n], &mut out);
     if answer.refusal != 0 {
         io::write_all(

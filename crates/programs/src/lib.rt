@@ -1,15 +1,19 @@
 // What the programs share: input read to its end, output written, and a line on standard error that says what went wrong.
+use arrays::copy;
 use libc::STDERR_FILENO;
 use libc::STDIN_FILENO;
 use libc::STDOUT_FILENO;
 use listing::report;
 use standard::BookAnswer;
+use text::Line;
+use text::ROOM;
 ghost use mathlib.Core.Bool.{true, false};
 ghost use mathlib.Core.Path.{_≡_};
 ghost use Prim.Native.Nat.{_≤_};
 ghost use lib.Dec.{eqb};
 ghost use lib.ListN.{length};
 ghost use Rattle.io.specs.Counts.{Counts};
+ghost use Rattle.programs.specs.Reading.{Read, RingRead};
 
 // What was read: how many bytes, and whether reading failed. Standard error then has a line about it.
 pub struct Input {
@@ -17,27 +21,73 @@ pub struct Input {
     pub failed: bool,
 }
 
+const FAILED: Input = Input {
+    len: 0,
+    failed: true,
+};
+
+// A ring that was read: all of its bytes, or none where reading failed.
+pub struct RingInput {
+    pub ring: [u8; 36],
+    pub len: usize,
+    pub failed: bool,
+}
+
+const NO_RING: RingInput = RingInput {
+    ring: [0; 36],
+    len: 0,
+    failed: true,
+};
+
+fn least(a: usize, b: usize) -> usize
+    ensures { λ r. ⌜ (r ≤ a) × (r ≤ b) ⌝ }
+{
+    if a < b { a } else { b }
+}
+
+// One read. Of the bytes behind those counted the system promises nothing.
+fn read_some(fd: i32, bytes: &mut [u8]) -> Input
+    ensures { λ r. ⌜ Counts (r .len) (now (bytes .exit)) × (r .len ≤ length (now (bytes .entry))) × (r .failed ≡ true → r .len ≡ 0) ⌝ }
+{
+    let got = libc::read(fd, bytes);
+    if got < 0 {
+        return FAILED;
+    }
+    Input {
+        len: io::count(got, bytes),
+        failed: false,
+    }
+}
+
+// One piece of the input, by way of an array of its own, so that the bytes behind it stay as they are.
+fn read_piece(fd: i32, buf: &mut [u8]) -> Input
+    ensures { λ r. ⌜ Read r (now (buf .entry)) (now (buf .exit)) ⌝ }
+{
+    let mut bytes = io::buffer();
+    let most = least(buf.len(), bytes.len());
+    let piece = read_some(fd, &mut bytes[..most]);
+    let n = piece.len;
+    copy(&bytes[..n], buf);
+    piece
+}
+
 // Input that comes in pieces is read until it ends or the buffer is full.
 fn read_all(fd: i32, buf: &mut [u8]) -> Input
-    ensures { λ r. ⌜ Counts (r .len) (now (buf .exit)) ⌝ }
+    ensures { λ r. ⌜ Read r (now (buf .entry)) (now (buf .exit)) ⌝ }
 {
     let mut n = 0;
     while n < buf.len() {
-        let got = libc::read(fd, &mut buf[n..]);
-        if got < 0 {
-            return Input {
-                len: n,
-                failed: true,
-            };
+        let piece = read_piece(fd, &mut buf[n..]);
+        if piece.failed {
+            return FAILED;
         }
-        let more = io::count(got, &buf[n..]);
-        if more == 0 {
+        if piece.len == 0 {
             return Input {
                 len: n,
                 failed: false,
             };
         }
-        n += more;
+        n += piece.len;
     }
     Input {
         len: n,
@@ -53,7 +103,7 @@ fn fail(program: &[u8], what: &[u8]) {
 }
 
 pub fn read_input(program: &[u8], buf: &mut [u8]) -> Input
-    ensures { λ r. ⌜ Counts (r .len) (now (buf .exit)) ⌝ }
+    ensures { λ r. ⌜ Read r (now (buf .entry)) (now (buf .exit)) ⌝ }
 {
     let input = read_all(STDIN_FILENO, buf);
     if input.failed {
@@ -63,15 +113,12 @@ pub fn read_input(program: &[u8], buf: &mut [u8]) -> Input
 }
 
 fn read_file(program: &[u8], path: &[u8], buf: &mut [u8]) -> Input
-    ensures { λ r. ⌜ Counts (r .len) (now (buf .exit)) ⌝ }
+    ensures { λ r. ⌜ Read r (now (buf .entry)) (now (buf .exit)) ⌝ }
 {
     let fd = os::open_read(path);
     if fd < 0 {
         fail(program, path);
-        return Input {
-            len: 0,
-            failed: true,
-        };
+        return FAILED;
     }
     let input = read_all(fd, buf);
     if input.failed {
@@ -83,49 +130,62 @@ fn read_file(program: &[u8], path: &[u8], buf: &mut [u8]) -> Input
 
 // The file that the first argument names.
 pub fn read_argument(program: &[u8], buf: &mut [u8]) -> Input
-    ensures { λ r. ⌜ Counts (r .len) (now (buf .exit)) ⌝ }
+    ensures { λ r. ⌜ Read r (now (buf .entry)) (now (buf .exit)) ⌝ }
 {
     let mut path = io::buffer();
     let n = os::arg(1, &mut path);
     if os::errno() != 0 {
         fail(program, b"first argument");
-        return Input {
-            len: 0,
-            failed: true,
-        };
+        return FAILED;
     }
     read_file(program, &path[..n], buf)
 }
 
-// A ring, which has 36 bytes: the first bytes of the file that the only argument names. It fails where the file has fewer.
-pub fn read_ring(program: &[u8], ring: &mut [u8]) -> Input
-    ensures { λ r. ⌜ (r .failed ≡ false → r .len ≡ length (now (ring .exit))) ⌝ }
+// A line to standard error.
+fn say(l: Line) -> bool {
+    let n = l.size();
+    let bytes = l.bytes;
+    put(STDERR_FILENO, &bytes, n)
+}
+
+fn usage(program: &[u8]) -> Line {
+    Line::empty()
+        .word(b"usage: ")
+        .word(program)
+        .word(b" RING\n")
+}
+
+fn short_ring(program: &[u8], n: usize) -> Line {
+    Line::empty()
+        .word(program)
+        .word(b": the ring file has fewer than ")
+        .decimal(n as u64)
+        .word(b" bytes\n")
+}
+
+// The ring, from the first bytes of the file that the only argument names. It fails where the file has fewer.
+pub fn read_ring(program: &[u8]) -> RingInput
+    ensures { λ r. ⌜ RingRead r ⌝ }
 {
     if os::arg_count() != 2 {
-        io::write_all(STDERR_FILENO, b"usage: ");
-        io::write_all(STDERR_FILENO, program);
-        io::write_all(STDERR_FILENO, b" RING\n");
-        return Input {
-            len: 0,
-            failed: true,
-        };
+        say(usage(program));
+        return NO_RING;
     }
-    let input = read_argument(program, ring);
+    let mut ring = [0u8; 36];
+    let input = read_argument(program, &mut ring);
     if input.failed {
-        return Input {
-            len: 0,
-            failed: true,
-        };
+        return NO_RING;
     }
-    if input.len < ring.len() {
-        io::write_all(STDERR_FILENO, program);
-        io::write_all(STDERR_FILENO, b": the ring file has fewer than 36 bytes\n");
-        return Input {
-            len: 0,
-            failed: true,
-        };
+    let len = input.len;
+    if len < ring.len() {
+        say(short_ring(program, ring.len()));
+        return NO_RING;
     }
-    input
+    RingInput {
+        ring,
+        len,
+        failed: false,
+    }
 }
 
 // The first n bytes. True only where there are so many.
@@ -153,7 +213,7 @@ pub fn write_output(program: &[u8], bytes: &[u8], n: usize) -> bool
 pub fn tell(answer: BookAnswer) -> bool
     ensures { λ r. ⌜ r ≡ eqb (answer .refusal) 0 ⌝ }
 {
-    let mut line = [0u8; 160];
+    let mut line = [0u8; ROOM];
     let said = report(answer, &mut line);
     put(STDERR_FILENO, &line, said.written);
     answer.refusal == 0

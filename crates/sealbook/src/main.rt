@@ -7,10 +7,11 @@ use programs::write_output;
 
 // The input has one byte more than the longest book, so that a longer one is seen to be longer.
 fn main() {
-    let mut ring = [0u8; 36];
-    if read_ring(b"sealbook", &mut ring).failed {
+    let read = read_ring(b"sealbook");
+    if read.failed {
         return;
     }
+    let ring = read.ring;
     let mut plain = [0u8; 18433];
     let input = read_input(b"sealbook", &mut plain);
     if input.failed {

@@ -9,7 +9,7 @@ ghost use Rattle.standard.specs.Text.{digits as digitsOf, decimal as decimalOf,
 ghost use Rattle.text.specs.Lines.{shown, emptyLine, _▸_, putCall};
 
 // The most bytes of a line.
-const ROOM: usize = 160;
+pub const ROOM: usize = 160;
 
 // A line of text. What goes beyond its room is left out.
 pub struct Line {

@@ -14,11 +14,5 @@ returns c = λ e. absurd (true≢false (sym e))
 slice-aggregate-write-all : tie.Need-slice-aggregate-write-all
 slice-aggregate-write-all c = simp length-take (omega arith)
 
-write-all-requires : tie.Need-write-all-requires
-write-all-requires c κs = search needs
-
-returns-2 : tie.Need-returns-2
-returns-2 c = search needs
-
 pub put-spec : {M : Type 1} → statement M
-put-spec = tie.close (tie.spec returns slice-aggregate-write-all write-all-requires returns-2)
+put-spec = tie.close (tie.spec returns slice-aggregate-write-all (λ c κs. search needs) (λ c. search needs))

@@ -1,72 +1,42 @@
--- `programs::read_all` is safe and ends, and counts bytes of its buffer: each turn reads one at least.
+-- `programs::read_all` meets its contract: each turn reads one byte at least.
 -- Assumes nothing.
 use mathlib.Core.Path.{_≡_, refl}
 use Prim.Native.Nat.{_-_, _≤_, zero-le}
+use native.Mathlib.Nat.{add-zero}
 use native.Mathlib.Omega.{arith}
-use lib.ListN.{length, length-take}
+use lib.ListN.{length, drop}
 use borrow.Author.Needs.{needs}
+use Rattle.programs.proofs.ReadLaws.{failed, whole, further}
 use Rattle.programs.proofs.read_all.Statement.{statement}
 use Rattle.programs.proofs.read_all.Tie as tie
 
 abbrev Inv-loop : tie.InvT-loop
-Inv-loop fd buf₀ n₀ buf n = (n ≤ length buf) × (length buf ≡ length buf₀)
+Inv-loop fd buf₀ n₀ buf n = (n ≤ length buf) × (length buf ≡ length buf₀) × (drop n buf ≡ drop n buf₀)
 
 abbrev μ-loop : tie.MeasureT-loop
 μ-loop fd buf₀ n₀ buf n = length buf - n
 
 loop-holds : tie.Need-loop-holds Inv-loop μ-loop
-loop-holds c = (zero-le, refl)
-
-sub-read : tie.Need-sub-read Inv-loop μ-loop
-sub-read c = omega arith
-
-part-read-start : tie.Need-part-read-start Inv-loop μ-loop
-part-read-start c = omega arith
-
-part-read-end : tie.Need-part-read-end Inv-loop μ-loop
-part-read-end c = omega arith
-
-read-requires : tie.Need-read-requires Inv-loop μ-loop
-read-requires c κs = search needs
-
-same-length : tie.Need-same-length Inv-loop μ-loop
-same-length c = omega arith
+loop-holds c = (zero-le, refl, refl)
 
 returns : tie.Need-returns Inv-loop μ-loop
-returns c = (omega arith, simp length-take (omega arith))
-
-sub-count : tie.Need-sub-count Inv-loop μ-loop
-sub-count c = omega arith
-
-part-count-start : tie.Need-part-count-start Inv-loop μ-loop
-part-count-start c = omega arith
-
-part-count-end : tie.Need-part-count-end Inv-loop μ-loop
-part-count-end c = omega arith
-
-count-requires : tie.Need-count-requires Inv-loop μ-loop
-count-requires c κs = search needs
-
-same-length-2 : tie.Need-same-length-2 Inv-loop μ-loop
-same-length-2 c = omega arith
+returns c = failed _ _
 
 returns-2 : tie.Need-returns-2 Inv-loop μ-loop
-returns-2 c = (omega arith, simp length-take (omega arith))
-
-add-n : tie.Need-add-n Inv-loop μ-loop
-add-n c = omega arith
-
-loop-less : tie.Need-loop-less Inv-loop μ-loop
-loop-less c = omega arith
+returns-2 c =
+    let piece = c .before .before .before .before .before in
+    let at = piece .before .before .before .loop in
+    let more = further (at .n) (piece .read-piece .result .len) _ (at .buf) _ (at .inv .0) (at .inv .2) (piece .read-piece .ensures .rest (c .before .before .if1 .left)) in
+    whole (at .n) _ _ (omega arith) (rw (c .if2 .taken, add-zero) at more)
 
 loop-again : tie.Need-loop-again Inv-loop μ-loop
-loop-again c = (omega arith, omega arith)
-
-same-length-3 : tie.Need-same-length-3 Inv-loop μ-loop
-same-length-3 c = omega arith
+loop-again c =
+    let piece = c .before .before .before .before .before .before in
+    let at = piece .before .before .before .loop in
+    (omega arith, omega arith, further (at .n) (piece .read-piece .result .len) _ (at .buf) _ (at .inv .0) (at .inv .2) (piece .read-piece .ensures .rest (c .before .before .before .if1 .left)))
 
 returns-3 : tie.Need-returns-3 Inv-loop μ-loop
-returns-3 c = (omega arith, simp length-take (omega arith))
+returns-3 c = whole _ _ _ (omega arith) (c .before .loop .inv .2)
 
 pub read-all-spec : {M : Type 1} → statement M
 read-all-spec =
@@ -75,20 +45,16 @@ read-all-spec =
     Inv-loop
     μ-loop
     loop-holds
-    sub-read
-    part-read-start
-    part-read-end
-    read-requires
-    same-length
+    (λ c. omega arith)
+    (λ c. omega arith)
+    (λ c. omega arith)
+    (λ c κs. search needs)
+    (λ c. omega arith)
     returns
-    sub-count
-    part-count-start
-    part-count-end
-    count-requires
-    same-length-2
+    (λ c. omega arith)
     returns-2
-    add-n
-    loop-less
+    (λ c. omega arith)
+    (λ c. omega arith)
     loop-again
-    same-length-3
+    (λ c. omega arith)
     returns-3)

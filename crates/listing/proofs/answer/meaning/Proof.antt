@@ -1,5 +1,6 @@
 -- `listing::answer::meaning` meets its contract.
 -- Assumes nothing.
+use mathlib.Core.Path.{refl}
 use borrow.Author.Needs.{needs}
 use borrow.Author.Tests.{ne-eqb}
 use Rattle.listing.proofs.ListLaws.{said}
@@ -44,16 +45,16 @@ meaning-spec =
     (λ c κs. search needs)
     (λ c. search needs)
     (λ c κs. search needs)
-    (λ c. said _ _ 1 (c .before .before .match .keys1) (c .word .ensures))
-    (λ c. said _ _ 2 (c .before .before .match .keys2) (c .word2 .ensures))
-    (λ c. said _ _ 3 (c .before .before .match .keys3) (c .word3 .ensures))
-    (λ c. said _ _ 4 (c .before .before .match .keys4) (c .word4 .ensures))
-    (λ c. said _ _ 5 (c .before .before .match .keys5) (c .word5 .ensures))
-    (λ c. said _ _ 6 (c .before .before .match .keys6) (c .word6 .ensures))
-    (λ c. said _ _ 7 (c .before .before .match .keys7) (c .word7 .ensures))
-    (λ c. said _ _ 8 (c .before .before .match .keys8) (c .word8 .ensures))
-    (λ c. said _ _ 9 (c .before .before .match .keys9) (c .word9 .ensures))
-    (λ c. said _ _ 10 (c .before .before .match .keys10) (c .word10 .ensures))
-    (λ c. said _ _ 11 (c .before .before .match .keys11) (c .word11 .ensures))
-    (λ c. said _ _ 12 (c .before .before .match .keys12) (c .word12 .ensures))
+    (λ c. said _ _ 1 (c .before .before .match .keys1) (c .word .ensures) refl)
+    (λ c. said _ _ 2 (c .before .before .match .keys2) (c .word2 .ensures) refl)
+    (λ c. said _ _ 3 (c .before .before .match .keys3) (c .word3 .ensures) refl)
+    (λ c. said _ _ 4 (c .before .before .match .keys4) (c .word4 .ensures) refl)
+    (λ c. said _ _ 5 (c .before .before .match .keys5) (c .word5 .ensures) refl)
+    (λ c. said _ _ 6 (c .before .before .match .keys6) (c .word6 .ensures) refl)
+    (λ c. said _ _ 7 (c .before .before .match .keys7) (c .word7 .ensures) refl)
+    (λ c. said _ _ 8 (c .before .before .match .keys8) (c .word8 .ensures) refl)
+    (λ c. said _ _ 9 (c .before .before .match .keys9) (c .word9 .ensures) refl)
+    (λ c. said _ _ 10 (c .before .before .match .keys10) (c .word10 .ensures) refl)
+    (λ c. said _ _ 11 (c .before .before .match .keys11) (c .word11 .ensures) refl)
+    (λ c. said _ _ 12 (c .before .before .match .keys12) (c .word12 .ensures) refl)
     returns-13)

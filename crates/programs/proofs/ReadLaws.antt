@@ -1,0 +1,49 @@
+-- Pieces of input, one behind the other, in the front of a buffer.
+-- Assumes nothing.
+use mathlib.Core.Bool.{true, false, true≢false}
+use mathlib.Core.List.{List, [], _++_, append-nil}
+use mathlib.Core.Path.{_≡_, refl, sym, ap, _∙_}
+use Prim.Native.Nat.{ℕ, _+_, _-_, _≤_, zero-le}
+use native.Mathlib.Omega.{arith}
+use lib.ListN.{length, take, drop, length-take, length-drop, drop-of-length-le}
+use lib.Seq.{length-take-le, take-all, drop-at, drop-drop}
+use Rattle.standard.specs.Bytes.{zeros}
+use Rattle.programs.specs.Reading.{Read, RingRead}
+use Rattle.programs.specs.declared.Input.{Input}
+
+-- nothing counts
+pub failed : (buf exit : List ℕ) → Read (record { len = 0; failed = true }) buf exit
+failed buf exit = record { counts = (zero-le, refl); rest = λ e. absurd (true≢false e); none = λ e. refl }
+
+pub whole : (n : ℕ) (buf exit : List ℕ) → n ≤ length exit → drop n exit ≡ drop n buf → Read (record { len = n; failed = false }) buf exit
+whole n buf exit h e = record { counts = (h, sym (length-take-le n exit h)); rest = λ _. e; none = λ f. absurd (true≢false (sym f)) }
+
+-- a piece copied to the front
+pub copied : (r : Input) (bytes buf exit : List ℕ) → r .len ≤ length bytes → r .len ≤ length buf → length exit ≡ length buf
+    → exit ≡ take (length buf) (take (r .len) bytes) ++ drop (length (take (r .len) bytes)) buf → (r .failed ≡ true → r .len ≡ 0) → Read r buf exit
+copied r bytes buf exit h k l e z = record {
+  counts = (omega arith, sym (length-take-le n exit (omega arith)));
+  rest = λ _. rw (e, take-all (length buf) (take n bytes) (omega (arith, m)), m) (drop-at (take n bytes) (drop n buf) n m);
+  none = z;
+}
+  where
+    n : ℕ
+    n = r .len
+
+    m : length (take n bytes) ≡ n
+    m = length-take-le n bytes h
+
+-- a piece of m bytes more, in the part from index n on
+pub further : (n m : ℕ) (buf₀ buf ys : List ℕ) → n ≤ length buf → drop n buf ≡ drop n buf₀ → drop m ys ≡ drop m (take (length buf - n) (drop n buf))
+    → drop (n + m) (take n buf ++ (ys ++ drop (length buf - n) (drop n buf))) ≡ drop (n + m) buf₀
+further n m buf₀ buf ys h e f =
+    rw (end, append-nil, ← drop-drop, drop-at (take n buf) ys n (length-take-le n buf h)) (f ∙ ap (drop m) (own ∙ e) ∙ drop-drop m n buf₀)
+  where
+    own : take (length buf - n) (drop n buf) ≡ drop n buf
+    own = take-all (length buf - n) (drop n buf) (simp length-drop (omega arith))
+
+    end : drop (length buf - n) (drop n buf) ≡ []
+    end = drop-of-length-le (drop n buf) {i = length buf - n} (simp length-drop (omega arith))
+
+pub no-ring : RingRead (record { ring = zeros 36; len = 0; failed = true })
+no-ring = record { filled = λ e. absurd (true≢false e); none = λ e. refl }
