@@ -1,13 +1,14 @@
 -- Pieces of input, one behind the other, in the front of a buffer.
 -- Assumes nothing.
 use mathlib.Core.Bool.{true, false, true≢false}
-use mathlib.Core.List.{List, [], _++_, append-nil}
+use mathlib.Core.List.{List, _++_, append-nil}
 use mathlib.Core.Path.{_≡_, refl, sym, ap, _∙_}
 use Prim.Native.Nat.{ℕ, _+_, _-_, _≤_, zero-le}
 use native.Mathlib.Omega.{arith}
-use lib.ListN.{length, take, drop, length-take, length-drop, drop-of-length-le}
+use lib.ListN.{length, take, drop}
 use lib.Seq.{length-take-le, take-all, drop-at, drop-drop}
 use Rattle.standard.specs.Bytes.{zeros}
+use Rattle.text.proofs.LineLaws.{lent-rest, lent-none}
 use Rattle.programs.specs.Reading.{Read, RingRead}
 use Rattle.programs.specs.declared.Input.{Input}
 
@@ -37,13 +38,7 @@ copied r bytes buf exit h k l e z = record {
 pub further : (n m : ℕ) (buf₀ buf ys : List ℕ) → n ≤ length buf → drop n buf ≡ drop n buf₀ → drop m ys ≡ drop m (take (length buf - n) (drop n buf))
     → drop (n + m) (take n buf ++ (ys ++ drop (length buf - n) (drop n buf))) ≡ drop (n + m) buf₀
 further n m buf₀ buf ys h e f =
-    rw (end, append-nil, ← drop-drop, drop-at (take n buf) ys n (length-take-le n buf h)) (f ∙ ap (drop m) (own ∙ e) ∙ drop-drop m n buf₀)
-  where
-    own : take (length buf - n) (drop n buf) ≡ drop n buf
-    own = take-all (length buf - n) (drop n buf) (simp length-drop (omega arith))
-
-    end : drop (length buf - n) (drop n buf) ≡ []
-    end = drop-of-length-le (drop n buf) {i = length buf - n} (simp length-drop (omega arith))
+    rw (lent-none n buf, append-nil, ← drop-drop, drop-at (take n buf) ys n (length-take-le n buf h)) (f ∙ ap (drop m) (lent-rest n buf ∙ e) ∙ drop-drop m n buf₀)
 
 pub no-ring : RingRead (record { ring = zeros 36; len = 0; failed = true })
 no-ring = record { filled = λ e. absurd (true≢false e); none = λ e. refl }

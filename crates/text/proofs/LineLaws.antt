@@ -68,23 +68,24 @@ take-taken (suc m) (x ∷ xs) = ap (_∷_ x) (take-taken m xs)
 pub size-most : (bytes : List ℕ) (m n : ℕ) → n ≡ length (take m bytes) → n ≤ length bytes
 size-most bytes m n e = omega (arith, length-take m bytes)
 
+-- a lent part that goes to the end, `&mut xs[at..]`: it is the whole rest
+module _ (at : ℕ) (xs : List ℕ) where
+  pub lent-rest : take (length xs - at) (drop at xs) ≡ drop at xs
+  lent-rest = take-all (length xs - at) (drop at xs) (simp length-drop (omega arith))
+
+  pub lent-none : drop (length xs - at) (drop at xs) ≡ []
+  lent-none = drop-of-length-le (drop at xs) {i = length xs - at} (simp length-drop (omega arith))
+
 -- behind the output's end nothing is put
 pub put-past : (w out : List ℕ) (at n : ℕ) → n ≡ length w → length out ≤ at → (n, out) ≡ putCall at w out
 put-past w out at n e h =
     rw (e, take-all at out h, drop-of-length-le out {i = at} h, drop-nil (length w), append-nil)
 
 -- the copy of a line's text over the output's part from `at` on
-pub put-copy : (bytes out ys : List ℕ) (at m n : ℕ) → at ≤ length out → n ≡ length (take m bytes)
-    → ys ≡ front (take n bytes) (take (length out - at) (drop at out))
+pub put-copy : (bytes out ys : List ℕ) (at m n : ℕ) → n ≡ length (take m bytes) → ys ≡ front (take n bytes) (take (length out - at) (drop at out))
     → (n, take at out ++ (ys ++ drop (length out - at) (drop at out))) ≡ putCall at (take m bytes) out
-put-copy bytes out ys at m n h e f = rw (f, own, rest, append-nil, text, e)
+put-copy bytes out ys at m n e f = rw (f, lent-rest at out, lent-none at out, append-nil, text, e)
   where
-    own : take (length out - at) (drop at out) ≡ drop at out
-    own = take-all (length out - at) (drop at out) (simp length-drop (omega arith))
-
-    rest : drop (length out - at) (drop at out) ≡ []
-    rest = drop-of-length-le (drop at out) {i = length out - at} (simp length-drop (omega arith))
-
     text : take n bytes ≡ take m bytes
     text = ap (λ (k : ℕ). take k bytes) e ∙ take-taken m bytes
 

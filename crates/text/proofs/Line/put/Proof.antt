@@ -28,7 +28,7 @@ returns-2 : tie.Need-returns-2
 returns-2 c =
     let size = c .before .before .before .before .before .before .before in
     let x = size .before .before .args in
-    put-copy (x .self .bytes) (now (x .out)) _ (x .at) (x .self .len) _ (omega arith) (size .size .ensures) (c .before .before .copy .ensures)
+    put-copy (x .self .bytes) (now (x .out)) _ (x .at) (x .self .len) _ (size .size .ensures) (c .before .before .copy .ensures)
 
 pub put-spec : {M : Type 1} → statement M
 put-spec =
