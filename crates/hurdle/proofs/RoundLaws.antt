@@ -22,7 +22,7 @@ unfolding T
 chain-next x k j p q = q ∙ rw p
 
 -- T3, from four links of which the first is one after 0
-pub chain-start : (x k : List ℕ) {a b c d : ℕ} → Linked 0 (E x 0) (E x 1) (E x 2) (E x 3) k 8 a b c d → d ≡ T x k 3
+pub chain-start : (x k : List ℕ) {a b c d : ℕ} → Linked 0 x 0 1 2 3 k 8 a b c d → d ≡ T x k 3
 unfolding T
 chain-start x k {a} h =
     let t₀ : a ≡ T x k 0 = h .first ∙ ap (_!_ S) (xor-zero-r (E x 0 ⊞ byte 12 k 0)) in

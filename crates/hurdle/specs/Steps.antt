@@ -4,7 +4,7 @@ use mathlib.Core.Bool.{Bool, true, false, _&&_}
 use mathlib.Core.List.{List, [], _∷_}
 use mathlib.Core.Path.{_≡_}
 use Prim.Native.Nat.{ℕ, suc, _+_, _-_, _*_, _/_, _%_, _^_, _≤_}
-use Rattle.standard.specs.Bytes.{_!_, bit, _⊕_, _⊞_, part}
+use Rattle.standard.specs.Bytes.{_!_, byte, bit, _⊕_, _⊞_, part}
 use Rattle.standard.specs.Hurdle.{S, T, rounds, crypt, schedule, roundKey}
 use Rattle.standard.specs.Refusals.{wrongLength, long, first, answer8}
 use Rattle.standard.specs.declared.Bytes8.{Bytes8}
@@ -13,12 +13,12 @@ use Rattle.standard.specs.declared.Bytes8.{Bytes8}
 abbrev pub bytes4 : ℕ → List ℕ
 bytes4 w = w / 2 ^ 24 % 256 ∷ w / 2 ^ 16 % 256 ∷ w / 2 ^ 8 % 256 ∷ w % 256 ∷ []
 
--- four links after t, from four bytes of E and those of the round key from index `at` on, the last one first
-pub record Linked (t e₀ e₁ e₂ e₃ : ℕ) (k : List ℕ) (at a b c d : ℕ) : Type 0 where
-  pub first : a ≡ S ! ((e₀ ⊞ k ! (at + 3)) ⊕ t)
-  pub second : b ≡ S ! ((e₁ ⊞ k ! (at + 2)) ⊕ a)
-  pub third : c ≡ S ! ((e₂ ⊞ k ! (at + 1)) ⊕ b)
-  pub fourth : d ≡ S ! ((e₃ ⊞ k ! at) ⊕ c)
+-- four links after t, from the bytes of x that e₀ to e₃ number and those of the round key from index `at` on, the last one first
+pub record Linked (t : ℕ) (x : List ℕ) (e₀ e₁ e₂ e₃ : ℕ) (k : List ℕ) (at a b c d : ℕ) : Type 0 where
+  pub first : a ≡ S ! ((byte 4 x e₀ ⊞ k ! (at + 3)) ⊕ t)
+  pub second : b ≡ S ! ((byte 4 x e₁ ⊞ k ! (at + 2)) ⊕ a)
+  pub third : c ≡ S ! ((byte 4 x e₂ ⊞ k ! (at + 1)) ⊕ b)
+  pub fourth : d ≡ S ! ((byte 4 x e₃ ⊞ k ! at) ⊕ c)
 
 -- four bytes of the chain, from Tj on
 pub record Four (x k : List ℕ) (j a b c d : ℕ) : Type 0 where

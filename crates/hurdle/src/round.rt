@@ -6,31 +6,45 @@ ghost use mathlib.Core.List.{[], _∷_, _++_};
 ghost use mathlib.Core.Path.{_≡_};
 ghost use Prim.Native.Nat.{_+_, _<_, _≤_};
 ghost use lib.ListN.{length};
-ghost use Rattle.standard.specs.Bytes.{_!_, _⊕_, _⊞_};
+ghost use Rattle.standard.specs.Bytes.{_!_, byte, _⊕_, _⊞_};
 ghost use Rattle.standard.specs.Hurdle.{S as sOf, f as fOf, crypt as cryptOf, roundKey};
 ghost use Rattle.hurdle.specs.Steps.{bytes4, place as placeOf, Linked, Spread, Nibbles, Gathered, HalvesOf, Turned};
 
-// S[(e + k) ⊕ t].
-fn link(s: &[u8; 256], t: u8, e: u8, k: u8) -> u8
-    requires { ⌜ now s ≡ sOf ⌝ }
-    ensures { λ r. ⌜ r ≡ sOf ! ((e ⊞ k) ⊕ t) ⌝ }
+// Byte n of a half, byte 0 the rightmost.
+fn half_byte(x: u32, n: u8) -> u8
+    ensures { λ r. ⌜ r ≡ byte 4 (bytes4 x) n ⌝ }
 {
+    match n {
+        0 => (x % 256) as u8,
+        1 => (x / 256 % 256) as u8,
+        2 => (x / 65536 % 256) as u8,
+        _ => (x / 16777216 % 256) as u8,
+    }
+}
+
+// S[(e + k) ⊕ t], where e is byte n of the half x.
+fn link(s: &[u8; 256], t: u8, x: u32, n: u8, k: u8) -> u8
+    requires { ⌜ now s ≡ sOf ⌝ }
+    ensures { λ r. ⌜ r ≡ sOf ! ((byte 4 (bytes4 x) n ⊞ k) ⊕ t) ⌝ }
+{
+    let e = half_byte(x, n);
     entry(s, wrapping_add_u8(e, k) ^ t)
 }
 
 // Four bytes, in the order of the chain.
 struct Four(u8, u8, u8, u8);
 
-// Four links of the chain after t, from four bytes of E and those of the round key from index `at` on, the last one first.
-fn links(s: &[u8; 256], t: u8, e: Four, k: &[u8], at: usize) -> Four
+// Four links of the chain after t. Their E is the half's bytes numbered in e; their key bytes are those from index `at` on, the last
+// one first.
+fn links(s: &[u8; 256], t: u8, x: u32, e: Four, k: &[u8], at: usize) -> Four
     requires { ⌜ now s ≡ sOf ⌝ }
     requires { ⌜ at + 4 ≤ length (now k) ⌝ }
-    ensures { λ r. ⌜ Linked t (e .0) (e .1) (e .2) (e .3) (now (k .entry)) at (r .0) (r .1) (r .2) (r .3) ⌝ }
+    ensures { λ r. ⌜ Linked t (bytes4 x) (e .0) (e .1) (e .2) (e .3) (now (k .entry)) at (r .0) (r .1) (r .2) (r .3) ⌝ }
 {
-    let a = link(s, t, e.0, k[at + 3]);
-    let b = link(s, a, e.1, k[at + 2]);
-    let c = link(s, b, e.2, k[at + 1]);
-    let d = link(s, c, e.3, k[at]);
+    let a = link(s, t, x, e.0, k[at + 3]);
+    let b = link(s, a, x, e.1, k[at + 2]);
+    let c = link(s, b, x, e.2, k[at + 1]);
+    let d = link(s, c, x, e.3, k[at]);
     Four(a, b, c, d)
 }
 
@@ -61,13 +75,9 @@ fn f(s: &[u8; 256], x: u32, k: &[u8]) -> u32
     requires { ⌜ length (now k) ≡ 12 ⌝ }
     ensures { λ r. ⌜ bytes4 r ≡ fOf (bytes4 x) (now (k .entry)) ⌝ }
 {
-    let x3 = (x / 16777216 % 256) as u8;
-    let x2 = (x / 65536 % 256) as u8;
-    let x1 = (x / 256 % 256) as u8;
-    let x0 = (x % 256) as u8;
-    let p = links(s, 0, Four(x0, x1, x2, x3), k, 8);
-    let q = links(s, p.3, Four(x0, x2, x1, x3), k, 4);
-    let r = links(s, q.3, Four(x2, x0, x3, x1), k, 0);
+    let p = links(s, 0, x, Four(0, 1, 2, 3), k, 8);
+    let q = links(s, p.3, x, Four(0, 2, 1, 3), k, 4);
+    let r = links(s, q.3, x, Four(2, 0, 3, 1), k, 0);
     gather(q, r)
 }
 

@@ -7,18 +7,6 @@ use Rattle.hurdle.specs.Steps.{bytes4}
 use Rattle.hurdle.proofs.round.f.Statement.{statement}
 use Rattle.hurdle.proofs.round.f.Tie as tie
 
-cast-x3 : tie.Need-cast-x3
-cast-x3 c = search needs
-
-cast-x2 : tie.Need-cast-x2
-cast-x2 c = search needs
-
-cast-x1 : tie.Need-cast-x1
-cast-x1 c = search needs
-
-cast-x0 : tie.Need-cast-x0
-cast-x0 c = search needs
-
 links-requires : tie.Need-links-requires
 links-requires c κs = search needs
 
@@ -48,10 +36,6 @@ pub f-spec : {M : Type 1} → statement M
 f-spec =
     tie.close
     (tie.spec
-    cast-x3
-    cast-x2
-    cast-x1
-    cast-x0
     links-requires
     links-requires-2
     links-requires-3
