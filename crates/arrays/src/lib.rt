@@ -89,14 +89,6 @@ pub fn array21(s: &[u8]) -> [u8; 21]
     a
 }
 
-pub fn array36(s: &[u8]) -> [u8; 36]
-    ensures { λ r. ⌜ r ≡ part 0 36 (now (s .entry)) ⌝ }
-{
-    let mut a = [0u8; 36];
-    copy(s, &mut a);
-    a
-}
-
 // `out` becomes the ⊕ of two strings of its length.
 fn xor_into(a: &[u8], b: &[u8], out: &mut [u8])
     requires { ⌜ length (now a) ≡ length (now out) ⌝ }

@@ -1,74 +1,37 @@
 // The book calls: sealing, opening, and checking a plain book.
 mod walk;
 
-use crate::walk::Direction;
+use crate::walk::Way;
 use crate::walk::scan;
+use crate::walk::scan_plain;
 use crate::walk::write;
-use arrays::array36;
+use lists::lengths;
+use lists::lengths_and_output;
+use lists::refused;
+use records::ring_bytes;
 use standard::BookAnswer;
+use standard::PLAIN_RECORD;
+use standard::RING;
+use standard::WRONG_LENGTH;
 ghost use mathlib.Core.Path.{_≡_};
-ghost use Prim.Native.Nat.{_<_, _≤_};
-ghost use Rattle.standard.specs.Books.{refused as refusedOf, bookCall, sealBook, openBook, checkPlain};
-ghost use Rattle.books.specs.Steps.{wayOf, lengthsOf, headOf};
-
-const RING: usize = 36;
-
-const MOST: usize = 1024;
-
-// 1 and 2: a book longer than 1,024 records of `size` bytes, or not of whole ones; or 0.
-fn lengths(size: usize, book: usize) -> u32
-    requires { ⌜ (0 < size) × (size ≤ 21) ⌝ }
-    ensures { λ r. ⌜ r ≡ lengthsOf size book ⌝ }
-{
-    if book > size * MOST {
-        return 1;
-    }
-    if book % size != 0 {
-        return 2;
-    }
-    0
-}
-
-// 11, 1, 2, 12: the refusals that go by lengths alone; or 0.
-fn head(size: usize, to: usize, ring: usize, book: usize, out: usize) -> u32
-    requires { ⌜ (0 < size) × (size ≤ 21) × (to ≤ 21) ⌝ }
-    ensures { λ r. ⌜ r ≡ headOf size to ring book out ⌝ }
-{
-    if ring != RING {
-        return 11;
-    }
-    let number = lengths(size, book);
-    if number != 0 {
-        return number;
-    }
-    if out < to * (book / size) {
-        return 12;
-    }
-    0
-}
-
-fn refused(number: u32, index: usize) -> BookAnswer
-    ensures { λ r. ⌜ r ≡ refusedOf number index ⌝ }
-{
-    BookAnswer {
-        refusal: number,
-        index,
-        written: 0,
-    }
-}
+ghost use Rattle.standard.specs.Books.{bookCall, sealBook, openBook, checkPlain};
+ghost use Rattle.books.specs.Steps.{wayOf};
 
 // Two passes: the first looks for a refusal, the second writes.
-fn book_call(way: Direction, ring: &[u8], book: &[u8], out: &mut [u8]) -> BookAnswer
+fn book_call(way: Way, ring: &[u8], book: &[u8], out: &mut [u8]) -> BookAnswer
     ensures { λ r. ⌜ (r, now (out .exit)) ≡ bookCall (wayOf (now (ring .entry)) way) (now (ring .entry)) (now (book .entry)) (now (out .entry)) ⌝ }
 {
+    if ring.len() != RING {
+        return refused(WRONG_LENGTH, 0);
+    }
     let size = way.size();
     let to = way.to();
-    let number = head(size, to, ring.len(), book.len(), out.len());
+    let number = lengths_and_output(size, to, book.len(), out.len());
     if number != 0 {
         return refused(number, 0);
     }
-    let keys = array36(ring);
-    let n = book.len() / size;
+    let keys = ring_bytes(ring);
+    let n = book.len() / size as usize;
     let stop = scan(way, &keys, book, n);
     if stop.number != 0 {
         return refused(stop.number, stop.index);
@@ -77,35 +40,34 @@ fn book_call(way: Direction, ring: &[u8], book: &[u8], out: &mut [u8]) -> BookAn
     BookAnswer {
         refusal: 0,
         index: n,
-        written: to * n,
+        written: to as usize * n,
     }
 }
 
 pub fn seal_book(ring: &[u8], plain: &[u8], out: &mut [u8]) -> BookAnswer
     ensures { λ r. ⌜ (r, now (out .exit)) ≡ sealBook (now (ring .entry)) (now (plain .entry)) (now (out .entry)) ⌝ }
 {
-    book_call(Direction::Sealing, ring, plain, out)
+    book_call(Way::Sealing, ring, plain, out)
 }
 
 pub fn open_book(ring: &[u8], sealed: &[u8], out: &mut [u8]) -> BookAnswer
     ensures { λ r. ⌜ (r, now (out .exit)) ≡ openBook (now (ring .entry)) (now (sealed .entry)) (now (out .entry)) ⌝ }
 {
-    book_call(Direction::Opening, ring, sealed, out)
+    book_call(Way::Opening, ring, sealed, out)
 }
 
 // The checks of sealing without 11 and 12.
 pub fn check_plain(plain: &[u8]) -> BookAnswer
     ensures { λ r. ⌜ r ≡ checkPlain (now (plain .entry)) ⌝ }
 {
-    let number = lengths(Direction::PLAIN, plain.len());
+    let number = lengths(PLAIN_RECORD as u32, plain.len());
     if number != 0 {
         return refused(number, 0);
     }
-    let n = plain.len() / Direction::PLAIN;
-    let none = [0u8; 36];
-    let stop = scan(Direction::Sealing, &none, plain, n);
-    if stop.number != 0 {
-        return refused(stop.number, stop.index);
+    let n = plain.len() / PLAIN_RECORD;
+    let found = scan_plain(plain, n);
+    if found.number != 0 {
+        return refused(found.number, found.index);
     }
     BookAnswer {
         refusal: 0,

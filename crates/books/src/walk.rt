@@ -1,65 +1,46 @@
-// The walk over a book's records, one for sealing and opening: each record is handed, as a part of the book, to a function that knows
-// one record only.
+// The walk over a book's records: each record is handed, as a part of the book, to a function that knows one record only.
 use records::open_fault;
 use records::open_record;
 use records::plain_fault;
 use records::seal_record;
 use records::strings_of;
+use standard::PLAIN_RECORD;
+use standard::RingBytes;
+use standard::SEALED_RECORD;
 ghost use mathlib.Core.List.{_++_};
 ghost use mathlib.Core.Path.{_≡_};
 ghost use Prim.Native.Nat.{_*_, _≤_};
 ghost use lib.ListN.{length, take, drop};
-ghost use Rattle.standard.specs.Books.{each};
-ghost use Rattle.books.specs.Steps.{sizeOf, toOf, faultOf, convertOf, wayOf, faultAt, Stopped};
+ghost use Rattle.lists.specs.Walks.{Stopped};
+ghost use Rattle.standard.specs.Books.{plainFault, openFault};
+ghost use Rattle.standard.specs.Lists.{recordAt, each};
+ghost use Rattle.standard.specs.Sizes.{plainSize, sealedSize};
+ghost use Rattle.books.specs.Steps.{sizeOf, toOf, convertOf, recordOf, faultAt};
 
-pub enum Direction {
+pub enum Way {
     Sealing,
     Opening,
 }
 
-impl Direction {
-    pub const PLAIN: usize = 18;
-
-    pub const SEALED: usize = 21;
-
+impl Way {
     // The bytes of a record that comes in.
-    pub(crate) fn size(self) -> usize
+    pub(crate) fn size(self) -> u32
         ensures { λ r. ⌜ r ≡ sizeOf self ⌝ }
     {
         match self {
-            Direction::Sealing => Self::PLAIN,
-            Direction::Opening => Self::SEALED,
+            Way::Sealing => PLAIN_RECORD as u32,
+            Way::Opening => SEALED_RECORD as u32,
         }
     }
 
     // The bytes of a record that goes out.
-    pub(crate) fn to(self) -> usize
+    pub(crate) fn to(self) -> u32
         ensures { λ r. ⌜ r ≡ toOf self ⌝ }
     {
         match self {
-            Direction::Sealing => Self::SEALED,
-            Direction::Opening => Self::PLAIN,
+            Way::Sealing => SEALED_RECORD as u32,
+            Way::Opening => PLAIN_RECORD as u32,
         }
-    }
-}
-
-// The refusal of a record, or 0.
-fn fault(way: Direction, ring: &[u8; 36], rec: &[u8]) -> u32
-    ensures { λ r. ⌜ r ≡ faultOf (now (ring .entry)) way (now (rec .entry)) ⌝ }
-{
-    match way {
-        Direction::Sealing => plain_fault(rec),
-        Direction::Opening => open_fault(ring, rec),
-    }
-}
-
-// What a record becomes, into its own part of the output.
-fn convert(way: Direction, ring: &[u8; 36], strings: [u8; 8], rec: &[u8], out: &mut [u8])
-    ensures { λ _. ⌜ now (out .exit) ≡ take (length (now (out .entry))) (convertOf (now (ring .entry)) strings way (now (rec .entry))) ++ drop (toOf way) (now (out .entry)) ⌝ }
-{
-    match way {
-        Direction::Sealing => seal_record(ring, strings, rec, out),
-        Direction::Opening => open_record(ring, strings, rec, out),
     }
 }
 
@@ -69,19 +50,18 @@ pub struct Stop {
     pub index: usize,
 }
 
-pub(crate) fn scan(way: Direction, ring: &[u8; 36], book: &[u8], n: usize) -> Stop
-    requires { ⌜ sizeOf way * n ≤ length (now book) ⌝ }
-    ensures { λ s. ⌜ Stopped n (faultAt (now (ring .entry)) way (now (book .entry))) (s .number) (s .index) ⌝ }
+pub(crate) fn scan_plain(plain: &[u8], n: usize) -> Stop
+    requires { ⌜ plainSize * n ≤ length (now plain) ⌝ }
+    ensures { λ s. ⌜ Stopped n (λ i. plainFault (recordAt plainSize (now (plain .entry)) i)) (s .number) (s .index) ⌝ }
 {
-    let size = way.size();
-    let mut i = 0;
-    while i < n {
-        let a = size * i;
-        let number = fault(way, ring, &book[a..a + size]);
+    let mut index = 0;
+    while index < n {
+        let a = PLAIN_RECORD * index;
+        let number = plain_fault(&plain[a..a + PLAIN_RECORD]);
         if number != 0 {
-            return Stop { number, index: i };
+            return Stop { number, index };
         }
-        i += 1;
+        index += 1;
     }
     Stop {
         number: 0,
@@ -89,20 +69,52 @@ pub(crate) fn scan(way: Direction, ring: &[u8; 36], book: &[u8], n: usize) -> St
     }
 }
 
+fn scan_sealed(ring: &RingBytes, sealed: &[u8], n: usize) -> Stop
+    requires { ⌜ sealedSize * n ≤ length (now sealed) ⌝ }
+    ensures { λ s. ⌜ Stopped n (λ i. openFault (now (ring .entry)) (recordAt sealedSize (now (sealed .entry)) i)) (s .number) (s .index) ⌝ }
+{
+    let mut index = 0;
+    while index < n {
+        let a = SEALED_RECORD * index;
+        let number = open_fault(ring, &sealed[a..a + SEALED_RECORD]);
+        if number != 0 {
+            return Stop { number, index };
+        }
+        index += 1;
+    }
+    Stop {
+        number: 0,
+        index: n,
+    }
+}
+
+pub(crate) fn scan(way: Way, ring: &RingBytes, book: &[u8], n: usize) -> Stop
+    requires { ⌜ sizeOf way * n ≤ length (now book) ⌝ }
+    ensures { λ s. ⌜ Stopped n (faultAt (now (ring .entry)) way (now (book .entry))) (s .number) (s .index) ⌝ }
+{
+    match way {
+        Way::Sealing => scan_plain(book, n),
+        Way::Opening => scan_sealed(ring, book, n),
+    }
+}
+
+// What a record becomes, into its own part of the output.
+fn convert(way: Way, ring: &RingBytes, strings: [u8; 8], rec: &[u8], out: &mut [u8])
+    ensures { λ _. ⌜ now (out .exit) ≡ take (length (now (out .entry))) (convertOf (now (ring .entry)) strings way (now (rec .entry))) ++ drop (toOf way) (now (out .entry)) ⌝ }
+{
+    match way {
+        Way::Sealing => seal_record(ring, strings, rec, out),
+        Way::Opening => open_record(ring, strings, rec, out),
+    }
+}
+
 // The converted records, each into its own part of the output.
-fn write_with(
-    way: Direction,
-    ring: &[u8; 36],
-    strings: [u8; 8],
-    book: &[u8],
-    n: usize,
-    out: &mut [u8],
-)
+fn write_with(way: Way, ring: &RingBytes, strings: [u8; 8], book: &[u8], n: usize, out: &mut [u8])
     requires { ⌜ (sizeOf way * n ≤ length (now book)) × (toOf way * n ≤ length (now out)) ⌝ }
     ensures { λ _. ⌜ now (out .exit) ≡ each n (sizeOf way) (convertOf (now (ring .entry)) strings way) (now (book .entry)) ++ drop (toOf way * n) (now (out .entry)) ⌝ }
 {
-    let size = way.size();
-    let to = way.to();
+    let size = way.size() as usize;
+    let to = way.to() as usize;
     let mut i = 0;
     while i < n {
         let a = size * i;
@@ -113,9 +125,9 @@ fn write_with(
 }
 
 // The identity strings are made once for a book, and for no empty one.
-pub(crate) fn write(way: Direction, ring: &[u8; 36], book: &[u8], n: usize, out: &mut [u8])
+pub(crate) fn write(way: Way, ring: &RingBytes, book: &[u8], n: usize, out: &mut [u8])
     requires { ⌜ (sizeOf way * n ≤ length (now book)) × (toOf way * n ≤ length (now out)) ⌝ }
-    ensures { λ _. ⌜ now (out .exit) ≡ each n (sizeOf way) (wayOf (now (ring .entry)) way .convert) (now (book .entry)) ++ drop (toOf way * n) (now (out .entry)) ⌝ }
+    ensures { λ _. ⌜ now (out .exit) ≡ each n (sizeOf way) (recordOf (now (ring .entry)) way) (now (book .entry)) ++ drop (toOf way * n) (now (out .entry)) ⌝ }
 {
     if n == 0 {
         return;

@@ -6,9 +6,11 @@ use mixing::tb1;
 use seals::ta51;
 use standard::BookAnswer;
 use standard::KeyNumber;
+use standard::RING;
+use standard::RingBytes;
 use standard::Version;
 
-const RING: [u8; 36] = [90; 36];
+const KEYS: RingBytes = [90; RING];
 
 fn name(words: &[u8]) {
     io::write_all(STDOUT_FILENO, words);
@@ -53,8 +55,8 @@ fn longest() {
     let mut sealed = [0u8; 21504];
     let mut again = [0u8; 18432];
     fill(&mut plain);
-    book(b"seal 1024 records", seal_book(&RING, &plain, &mut sealed));
-    book(b"open 1024 records", open_book(&RING, &sealed, &mut again));
+    book(b"seal 1024 records", seal_book(&KEYS, &plain, &mut sealed));
+    book(b"open 1024 records", open_book(&KEYS, &sealed, &mut again));
     if check::same(&plain, &again) {
         io::write_all(STDOUT_FILENO, b"the same book\n");
     }
@@ -64,15 +66,15 @@ fn too_long() {
     let mut plain = [0u8; 18450];
     let mut sealed = [0u8; 21525];
     fill(&mut plain);
-    book(b"seal 1025 records", seal_book(&RING, &plain, &mut sealed));
-    book(b"open 1025 records", open_book(&RING, &sealed, &mut plain));
+    book(b"seal 1025 records", seal_book(&KEYS, &plain, &mut sealed));
+    book(b"open 1025 records", open_book(&KEYS, &sealed, &mut plain));
 }
 
 fn no_records() {
     let none = [0u8; 0];
     let mut out = [0u8; 1];
-    book(b"seal no records", seal_book(&RING, &none, &mut out));
-    book(b"open no records", open_book(&RING, &none, &mut out));
+    book(b"seal no records", seal_book(&KEYS, &none, &mut out));
+    book(b"open no records", open_book(&KEYS, &none, &mut out));
 }
 
 fn numbers() {
@@ -81,12 +83,12 @@ fn numbers() {
     let mut rec = [0u8; 18];
     rec[0] = 2;
     rec[17] = 31;
-    book(b"seal number 31", seal_book(&RING, &rec, &mut sealed));
-    book(b"open number 31", open_book(&RING, &sealed, &mut again));
+    book(b"seal number 31", seal_book(&KEYS, &rec, &mut sealed));
+    book(b"open number 31", open_book(&KEYS, &sealed, &mut again));
     sealed[20] = sealed[20] ^ 1;
-    book(b"open a flipped bit", open_book(&RING, &sealed, &mut again));
+    book(b"open a flipped bit", open_book(&KEYS, &sealed, &mut again));
     rec[17] = 32;
-    book(b"seal number 32", seal_book(&RING, &rec, &mut sealed));
+    book(b"seal number 32", seal_book(&KEYS, &rec, &mut sealed));
 }
 
 fn single_numbers() {

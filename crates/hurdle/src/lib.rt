@@ -12,6 +12,7 @@ use arrays::array8;
 use arrays::array16;
 use arrays::both_long;
 use standard::Bytes8;
+use standard::WRONG_LENGTH;
 ghost use mathlib.Core.Path.{_≡_};
 ghost use Rattle.standard.specs.Bytes.{_!_, table, zeros};
 ghost use Rattle.hurdle.specs.Steps.{cryptCall};
@@ -87,7 +88,7 @@ fn crypted(key: &[u8], block: &[u8], back: bool) -> Bytes8
     ensures { λ r. ⌜ r ≡ cryptCall (now (key .entry)) (now (block .entry)) back ⌝ }
 {
     if !both_long(key, 16, block, 8) {
-        return refused8(11);
+        return refused8(WRONG_LENGTH);
     }
     let keys = lay(array16(key));
     Bytes8 {

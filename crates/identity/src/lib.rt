@@ -5,6 +5,8 @@ use hurdle::encrypt_block;
 use hurdle::substitute;
 use hurdle::substitute_back;
 use standard::Identity;
+use standard::VALUE_WIDE;
+use standard::WRONG_LENGTH;
 use std::num::wrapping_add_u8;
 use std::num::wrapping_sub_u8;
 ghost use mathlib.Core.List.{[], _∷_};
@@ -163,10 +165,10 @@ pub fn ta61(common_key: &[u8], identity: u64) -> Identity
     ensures { λ r. ⌜ r ≡ ta61Call (now («common_key» .entry)) identity ⌝ }
 {
     if common_key.len() != 10 {
-        return refused_identity(11);
+        return refused_identity(WRONG_LENGTH);
     }
     if identity >= 16777216 {
-        return refused_identity(10);
+        return refused_identity(VALUE_WIDE);
     }
     Identity {
         refusal: 0,
@@ -178,10 +180,10 @@ pub fn ta61_inverse(common_key: &[u8], encrypted_identity: u64) -> Identity
     ensures { λ r. ⌜ r ≡ ta61⁻¹Call (now («common_key» .entry)) «encrypted_identity» ⌝ }
 {
     if common_key.len() != 10 {
-        return refused_identity(11);
+        return refused_identity(WRONG_LENGTH);
     }
     if encrypted_identity >= 16777216 {
-        return refused_identity(10);
+        return refused_identity(VALUE_WIDE);
     }
     Identity {
         refusal: 0,

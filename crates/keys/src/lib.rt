@@ -18,6 +18,8 @@ use standard::Bytes10;
 use standard::Bytes16;
 use standard::RingInputs;
 use standard::RingMade;
+use standard::VALUE_WIDE;
+use standard::WRONG_LENGTH;
 use standard::refused_ring;
 use standard::refused10;
 use standard::refused16;
@@ -44,7 +46,7 @@ fn under_root(root: &[u8], seed: [u8; 10], long: bool) -> Bytes16
 {
     let both = (root.len() == 16) & long;
     if !both {
-        return refused16(11);
+        return refused16(WRONG_LENGTH);
     }
     Bytes16 {
         refusal: 0,
@@ -81,7 +83,7 @@ pub fn ta12(
     ensures { λ r. ⌜ r ≡ ta12Call (now («session_key» .entry)) (now (challenge .entry)) «response_mask» «key_mask» ⌝ }
 {
     if !both_long(session_key, 16, challenge, 10) {
-        return refused_split(11);
+        return refused_split(WRONG_LENGTH);
     }
     let number = refusal_of(response_mask, key_mask);
     if number != 0 {
@@ -110,7 +112,7 @@ pub fn ta71(key1: &[u8], key2: &[u8]) -> Bytes10
     ensures { λ r. ⌜ r ≡ ta71Call (now (key1 .entry)) (now (key2 .entry)) ⌝ }
 {
     if !both_long(key1, 10, key2, 10) {
-        return refused10(11);
+        return refused10(WRONG_LENGTH);
     }
     Bytes10 {
         refusal: 0,
@@ -122,10 +124,10 @@ pub fn ta101(ks: &[u8], gck0: &[u8], mni: u64) -> Bytes16
     ensures { λ r. ⌜ r ≡ ta101Call (now (ks .entry)) (now (gck0 .entry)) mni ⌝ }
 {
     if !both_long(ks, 16, gck0, 10) {
-        return refused16(11);
+        return refused16(WRONG_LENGTH);
     }
     if mni >= 16777216 {
-        return refused16(10);
+        return refused16(VALUE_WIDE);
     }
     Bytes16 {
         refusal: 0,
@@ -163,7 +165,7 @@ pub fn ring(
         & (rand2.len() == 10)
         & (c.len() == 10);
     if !long {
-        return refused_ring(11);
+        return refused_ring(WRONG_LENGTH);
     }
     ring_of(RingInputs {
         root: array16(root),

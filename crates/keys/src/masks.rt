@@ -1,5 +1,7 @@
 // The two masks of TA12 and TA22: their tests, and the bytes that they choose.
 use standard::Authentication;
+use standard::SHARED_BIT;
+use standard::WRONG_MASK;
 ghost use mathlib.Core.Path.{_≡_};
 ghost use lib.Count.{ones};
 ghost use lib.ListN.{length};
@@ -12,10 +14,10 @@ pub(crate) fn refusal_of(response_mask: u16, key_mask: u16) -> u32
 {
     let counted = (u16::count_ones(response_mask) == 4) & (u16::count_ones(key_mask) == 10);
     if !counted {
-        return 7;
+        return WRONG_MASK;
     }
     if response_mask & key_mask != 0 {
-        return 8;
+        return SHARED_BIT;
     }
     0
 }

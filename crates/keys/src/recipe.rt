@@ -5,6 +5,8 @@ use crate::masks::split;
 use arrays::copy;
 use mixing::mix4;
 use standard::Authentication;
+use standard::RING;
+use standard::RingBytes;
 use standard::RingInputs;
 use standard::RingMade;
 ghost use mathlib.Core.List.{_++_};
@@ -28,10 +30,10 @@ fn half(
 }
 
 // The ring's three keys, one after the other.
-fn joined(d: [u8; 10], o: [u8; 16], c: [u8; 10]) -> [u8; 36]
+fn joined(d: [u8; 10], o: [u8; 16], c: [u8; 10]) -> RingBytes
     ensures { λ r. ⌜ r ≡ part 0 10 d ++ part 0 16 o ++ part 0 10 c ⌝ }
 {
-    let mut ring = [0u8; 36];
+    let mut ring = [0u8; RING];
     copy(&d, &mut ring);
     copy(&o, &mut ring[10..]);
     copy(&c, &mut ring[26..]);

@@ -10,15 +10,16 @@ use lib.Dec.{eqb, leb}
 use lib.ListN.{length, length-append}
 use borrow.Author.Tests.{leb-true, eq-eqb, ne-eqb}
 use Rattle.standard.proofs.BytesLaws.{and-split, length-table}
-use Rattle.standard.specs.Books.{recordKind, recordAt, checkPlain}
+use Rattle.standard.specs.Books.{recordKind, checkPlain}
+use Rattle.standard.specs.Lists.{recordAt}
 use Rattle.standard.specs.Bytes.{_!_, part, choose}
 use Rattle.standard.specs.Listing.{numberText, entryLine, entryLines, entriesLine, refusedLine, listing}
 use Rattle.standard.specs.Programs.{beside, meanings, meaning, meaningLine, wroteLine, answerLine}
 use Rattle.standard.specs.Seals.{keyLength}
 use Rattle.standard.specs.Text.{hex, textCall}
 use Rattle.standard.specs.declared.BookAnswer.{BookAnswer}
-use Rattle.standard.specs.declared.Kind.the-variants.{Ta31, Ta51, Ta81, Ta91}
-use Rattle.standard.specs.declared.Kind.{Kind}
+use Rattle.standard.specs.declared.Algorithm.the-variants.{Ta31, Ta51, Ta81, Ta91}
+use Rattle.standard.specs.declared.Algorithm.{Algorithm}
 use Rattle.text.proofs.LineLaws.{put-length, put-over, put-none, put-next, write-short, write-whole}
 use Rattle.text.proofs.TextLaws.{digits-few, hex-twice}
 use Rattle.text.specs.Lines.{room, _▸_, putCall}
@@ -26,13 +27,13 @@ use Rattle.text.specs.declared.Line.{Line}
 
 -- ---- lengths
 
-number-short : (k : Kind) (p : List ℕ) → length (numberText k p) ≤ 20
+number-short : (k : Algorithm) (p : List ℕ) → length (numberText k p) ≤ 20
 number-short Ta31 p = omega arith
 number-short Ta51 p = digits-few 20 _
 number-short Ta81 p = digits-few 20 _
 number-short Ta91 p = omega arith
 
-pub key-short : (k : Kind) → keyLength k ≤ 12
+pub key-short : (k : Algorithm) → keyLength k ≤ 12
 key-short Ta31 = omega arith
 key-short Ta51 = omega arith
 key-short Ta81 = omega arith
@@ -44,7 +45,7 @@ hex-part from n p = hex-twice (part from n p) ∙ rw length-table
 pub entry-short : (i : ℕ) (p : List ℕ) → length (entryLine i p) ≤ room
 unfolding entryLine
 entry-short i p =
-    let k = recordKind p in
+    let k = recordKind p .algorithm in
     simp length-append
     (omega (arith, digits-few 20 i, digits-few 20 (p ! 0), digits-few 20 (256 * p ! 4 + p ! 5), hex-part 1 3 p, hex-part 6 (keyLength k) p, key-short k, number-short k p))
 

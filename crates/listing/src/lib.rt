@@ -4,7 +4,10 @@ mod answer;
 pub use answer::report;
 use books::check_plain;
 use records::kind_of;
+use standard::Algorithm;
 use standard::Kind;
+use standard::OUTPUT_SHORT;
+use standard::PLAIN_RECORD;
 use standard::TextAnswer;
 use text::Line;
 ghost use mathlib.Core.List.{_++_};
@@ -27,7 +30,7 @@ fn wide(x: u8) -> u64
 fn pair(high: u8, low: u8) -> u64
     ensures { λ r. ⌜ r ≡ 256 * high + low ⌝ }
 {
-    256 * wide(high) + wide(low)
+    standard::pair(high, low) as u64
 }
 
 // The line of plain record p as far as the version.
@@ -49,26 +52,27 @@ fn front(index: usize, p: &[u8]) -> Line
 }
 
 // The key number; kinds 1 and 4 have none.
-fn number(l: Line, kind: Kind, p: &[u8]) -> Line
+fn number(l: Line, algorithm: Algorithm, p: &[u8]) -> Line
     requires { ⌜ length (now p) ≡ 18 ⌝ }
-    ensures { λ r. ⌜ r ≡ l ▸ numberText kind (now (p .entry)) ⌝ }
+    ensures { λ r. ⌜ r ≡ l ▸ numberText algorithm (now (p .entry)) ⌝ }
 {
-    match kind {
-        Kind::Ta31 => l.word(b"-"),
-        Kind::Ta51 => l.decimal(wide(p[17])),
-        Kind::Ta81 => l.decimal(pair(p[16], p[17])),
-        Kind::Ta91 => l.word(b"-"),
+    match algorithm {
+        Algorithm::Ta31 => l.word(b"-"),
+        Algorithm::Ta51 => l.decimal(wide(p[17])),
+        Algorithm::Ta81 => l.decimal(pair(p[16], p[17])),
+        Algorithm::Ta91 => l.word(b"-"),
     }
 }
 
 // The rest of the line.
 fn back(l: Line, kind: Kind, p: &[u8]) -> Line
     requires { ⌜ length (now p) ≡ 18 ⌝ }
-    ensures { λ r. ⌜ r ≡ l ▸ ascii " key " ▸ hex (take (6 + keyLength kind - 6) (drop 6 (now (p .entry)))) ▸ ascii " number " ▸ numberText kind (now (p .entry)) ▸ ascii "\n" ⌝ }
+    ensures { λ r. ⌜ r ≡ l ▸ ascii " key " ▸ hex (take (6 + keyLength (kind .algorithm) - 6) (drop 6 (now (p .entry)))) ▸ ascii " number " ▸ numberText (kind .algorithm) (now (p .entry)) ▸ ascii "\n" ⌝ }
 {
+    let algorithm = kind.algorithm;
     let end = 6 + kind.key_length();
     let key = l.word(b" key ").hex(&p[6..end]);
-    number(key.word(b" number "), kind, p).word(b"\n")
+    number(key.word(b" number "), algorithm, p).word(b"\n")
 }
 
 // The line of plain record p.
@@ -112,8 +116,8 @@ fn entry_lines(plain: &[u8], n: usize, out: &mut [u8]) -> usize
     let mut at = 0;
     let mut i = 0;
     while i < n {
-        let a = 18 * i;
-        let line = entry_line(i, &plain[a..a + 18]);
+        let a = PLAIN_RECORD * i;
+        let line = entry_line(i, &plain[a..a + PLAIN_RECORD]);
         at += line.put(out, at);
         i += 1;
     }
@@ -130,7 +134,7 @@ fn list_entries(plain: &[u8], n: usize, out: &mut [u8]) -> TextAnswer
     let written = entry_lines(plain, n, &mut none) + last.size();
     if out.len() < written {
         return TextAnswer {
-            refusal: 12,
+            refusal: OUTPUT_SHORT,
             written: 0,
         };
     }

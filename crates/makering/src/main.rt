@@ -7,7 +7,9 @@ use programs::tell;
 use programs::write_output;
 use sitting::sitting_ring;
 use standard::BookAnswer;
+use standard::RING;
 use standard::RingMade;
+use standard::SITTING;
 ghost use Rattle.programs.specs.Reading.{Read};
 
 fn read_sitting(buf: &mut [u8]) -> Input
@@ -31,7 +33,7 @@ fn write_made(made: RingMade) -> bool {
     let ring = made.ring;
     let response1 = made.response1;
     let response2 = made.response2;
-    write_output(b"makering", &ring, 36)
+    write_output(b"makering", &ring, RING)
         && write_output(b"makering", &response1, 4)
         && write_output(b"makering", &response2, 4)
 }
@@ -46,13 +48,13 @@ fn answer(refusal: u32, written: usize) -> BookAnswer {
 
 // One byte more than a sitting, so that a longer file is seen to be longer.
 fn main() {
-    let mut sitting = [0u8; 71];
+    let mut sitting = [0u8; SITTING + 1];
     let input = read_sitting(&mut sitting);
     if input.failed {
         return;
     }
     let n = input.len;
-    if n != 70 {
+    if n != SITTING {
         io::write_all(
             STDERR_FILENO,
             b"makering: the sitting does not have 70 bytes\n",
@@ -65,6 +67,6 @@ fn main() {
         return;
     }
     if write_made(made) {
-        tell(answer(0, 44));
+        tell(answer(0, RING + 8));
     }
 }

@@ -3,10 +3,12 @@ use libc::STDERR_FILENO;
 use listing::list_plain;
 use programs::read_input;
 use programs::write_output;
+use standard::MOST_RECORDS;
+use standard::PLAIN_RECORD;
 use text::ROOM;
 
 // Room for the lines of 1,024 records and for the last one.
-const LISTING: usize = 1025 * ROOM;
+const LISTING: usize = (MOST_RECORDS + 1) * ROOM;
 
 // The input has one byte more than the longest book, so that a longer one is seen to be longer.
 fn main() {
@@ -14,7 +16,7 @@ fn main() {
         io::write_all(STDERR_FILENO, b"usage: plainlist <BOOK\n");
         return;
     }
-    let mut plain = [0u8; 18433];
+    let mut plain = [0u8; PLAIN_RECORD * MOST_RECORDS + 1];
     let input = read_input(b"plainlist", &mut plain);
     if input.failed {
         return;

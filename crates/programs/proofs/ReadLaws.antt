@@ -8,6 +8,7 @@ use native.Mathlib.Omega.{arith}
 use lib.ListN.{length, take, drop}
 use lib.Seq.{length-take-le, take-all, drop-at, drop-drop}
 use Rattle.standard.specs.Bytes.{zeros}
+use Rattle.standard.specs.Sizes.{ringSize}
 use Rattle.text.proofs.LineLaws.{lent-rest, lent-none}
 use Rattle.programs.specs.Reading.{Read, RingRead}
 use Rattle.programs.specs.declared.Input.{Input}
@@ -40,5 +41,5 @@ pub further : (n m : ℕ) (buf₀ buf ys : List ℕ) → n ≤ length buf → dr
 further n m buf₀ buf ys h e f =
     rw (lent-none n buf, append-nil, ← drop-drop, drop-at (take n buf) ys n (length-take-le n buf h)) (f ∙ ap (drop m) (lent-rest n buf ∙ e) ∙ drop-drop m n buf₀)
 
-pub no-ring : RingRead (record { ring = zeros 36; len = 0; failed = true })
+pub no-ring : RingRead (record { ring = zeros ringSize; len = 0; failed = true })
 no-ring = record { filled = λ e. absurd (true≢false e); none = λ e. refl }

@@ -7,6 +7,7 @@ use Prim.Native.Nat.{ℕ}
 use lib.ListN.{length, drop}
 use Rattle.io.specs.Counts.{Counts}
 use Rattle.standard.specs.Bytes.{zeros}
+use Rattle.standard.specs.Sizes.{ringSize}
 use Rattle.programs.specs.declared.Input.{Input}
 use Rattle.programs.specs.declared.RingInput.{RingInput}
 
@@ -19,4 +20,4 @@ pub record Read (r : Input) (buf exit : List ℕ) : Type 0 where
 -- the whole ring was read, or the read fails, counts nothing and has no ring
 pub record RingRead (r : RingInput) : Type 0 where
   pub filled : r .failed ≡ false → r .len ≡ length (r .ring)
-  pub none : r .failed ≡ true → r ≡ record { ring = zeros 36; len = 0; failed = true }
+  pub none : r .failed ≡ true → r ≡ record { ring = zeros ringSize; len = 0; failed = true }

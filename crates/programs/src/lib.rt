@@ -5,6 +5,8 @@ use libc::STDIN_FILENO;
 use libc::STDOUT_FILENO;
 use listing::report;
 use standard::BookAnswer;
+use standard::RING;
+use standard::RingBytes;
 use text::Line;
 use text::ROOM;
 ghost use mathlib.Core.Bool.{true, false};
@@ -28,13 +30,13 @@ const FAILED: Input = Input {
 
 // A ring that was read: all of its bytes, or none where reading failed.
 pub struct RingInput {
-    pub ring: [u8; 36],
+    pub ring: RingBytes,
     pub len: usize,
     pub failed: bool,
 }
 
 const NO_RING: RingInput = RingInput {
-    ring: [0; 36],
+    ring: [0; RING],
     len: 0,
     failed: true,
 };
@@ -171,7 +173,7 @@ pub fn read_ring(program: &[u8]) -> RingInput
         say(usage(program));
         return NO_RING;
     }
-    let mut ring = [0u8; 36];
+    let mut ring = [0u8; RING];
     let input = read_argument(program, &mut ring);
     if input.failed {
         return NO_RING;

@@ -1,23 +1,76 @@
 // The parts of a record and of a ring.
+use arrays::copy;
+use standard::Algorithm;
 use standard::Kind;
+use standard::PLAIN_RECORD;
+use standard::RING;
+use standard::RingBytes;
+use standard::RingKey;
+use standard::SEALED_RECORD;
 use standard::Version;
+use standard::pair;
 use texts::key10;
 use texts::key16;
-ghost use mathlib.Core.List.{[], _∷_, _++_};
+ghost use mathlib.Core.List.{_∷_, _++_};
 ghost use mathlib.Core.Path.{_≡_};
-ghost use Rattle.standard.specs.Books.{sealingKey, commonKey};
-ghost use Rattle.standard.specs.Bytes.{part, bytesOf};
+ghost use Rattle.standard.specs.Books.{ringKey, sealingKey, commonKey};
+ghost use Rattle.standard.specs.Bytes.{_!_, part, bytesOf};
 ghost use Rattle.standard.specs.Seals.{form};
+ghost use Rattle.standard.specs.Sizes.{ringSize};
 
-// The sealing keys D and O, and the common key C.
-fn ring_d(r: &[u8; 36]) -> [u8; 10]
-    ensures { λ k. ⌜ k ≡ part 0 10 (now (r .entry)) ⌝ }
+// A ring's bytes, from a string that has as many.
+pub fn ring_bytes(s: &[u8]) -> RingBytes
+    ensures { λ r. ⌜ r ≡ part 0 ringSize (now (s .entry)) ⌝ }
 {
-    [r[0], r[1], r[2], r[3], r[4], r[5], r[6], r[7], r[8], r[9]]
+    let mut a = [0u8; RING];
+    copy(s, &mut a);
+    a
 }
 
-fn ring_o(r: &[u8; 36]) -> [u8; 16]
-    ensures { λ k. ⌜ k ≡ part 10 16 (now (r .entry)) ⌝ }
+// The common key C.
+pub(crate) fn ring_c(r: &RingBytes) -> [u8; 10]
+    ensures { λ k. ⌜ k ≡ commonKey (now (r .entry)) ⌝ }
+{
+    [
+        r[26],
+        r[27],
+        r[28],
+        r[29],
+        r[30],
+        r[31],
+        r[32],
+        r[33],
+        r[34],
+        r[35],
+    ]
+}
+
+// The sealing keys D, with zero bytes behind its ten, and O.
+fn ring_d(r: &RingBytes) -> [u8; 16]
+    ensures { λ k. ⌜ k ≡ part 0 16 (part 0 10 (now (r .entry))) ⌝ }
+{
+    [
+        r[0],
+        r[1],
+        r[2],
+        r[3],
+        r[4],
+        r[5],
+        r[6],
+        r[7],
+        r[8],
+        r[9],
+        0,
+        0,
+        0,
+        0,
+        0,
+        0,
+    ]
+}
+
+fn ring_o(r: &RingBytes) -> [u8; 16]
+    ensures { λ k. ⌜ k ≡ part 0 16 (part 10 16 (now (r .entry))) ⌝ }
 {
     [
         r[10],
@@ -39,42 +92,70 @@ fn ring_o(r: &[u8; 36]) -> [u8; 16]
     ]
 }
 
-pub(crate) fn ring_c(r: &[u8; 36]) -> [u8; 10]
-    ensures { λ k. ⌜ k ≡ commonKey (now (r .entry)) ⌝ }
+fn ring_key(under: RingKey, r: &RingBytes) -> [u8; 16]
+    ensures { λ k. ⌜ k ≡ part 0 16 (ringKey under (now (r .entry))) ⌝ }
 {
-    [
-        r[26],
-        r[27],
-        r[28],
-        r[29],
-        r[30],
-        r[31],
-        r[32],
-        r[33],
-        r[34],
-        r[35],
-    ]
-}
-
-// The core's key for a kind, from the ring's sealing key for it.
-pub(crate) fn core_key(kind: Kind, r: &[u8; 36], version: Version) -> [u8; 16]
-    ensures { λ k. ⌜ k ≡ form kind .key (sealingKey kind (now (r .entry))) (bytesOf 2 (version .0)) ⌝ }
-{
-    match kind {
-        Kind::Ta31 => key10(ring_d(r), version),
-        Kind::Ta51 => key16(ring_o(r), version),
-        Kind::Ta81 => key16(ring_o(r), version),
-        Kind::Ta91 => key16(ring_o(r), version),
+    match under {
+        RingKey::D => ring_d(r),
+        RingKey::O => ring_o(r),
     }
 }
 
-pub(crate) fn version_of(high: u8, low: u8) -> Version
-    ensures { λ v. ⌜ bytesOf 2 (v .0) ≡ high ∷ low ∷ [] ⌝ }
+fn first10(k: [u8; 16]) -> [u8; 10]
+    ensures { λ r. ⌜ r ≡ part 0 10 k ⌝ }
 {
-    Version(256 * (high as u16) + (low as u16))
+    [k[0], k[1], k[2], k[3], k[4], k[5], k[6], k[7], k[8], k[9]]
 }
 
-pub(crate) fn body_part(p: [u8; 18]) -> [u8; 12]
+// The core's key for a kind, from the ring's sealing key for it.
+pub(crate) fn core_key(kind: Kind, r: &RingBytes, version: Version) -> [u8; 16]
+    ensures { λ k. ⌜ k ≡ form kind .key (sealingKey kind (now (r .entry))) (bytesOf 2 (version .0)) ⌝ }
+{
+    let under = kind.under;
+    let algorithm = kind.algorithm;
+    let key = ring_key(under, r);
+    match algorithm {
+        Algorithm::Ta31 => key10(first10(key), version),
+        Algorithm::Ta51 => key16(key, version),
+        Algorithm::Ta81 => key16(key, version),
+        Algorithm::Ta91 => key16(key, version),
+    }
+}
+
+// A record's first six bytes: kind, identity, version.
+pub(crate) fn plain_head(p: [u8; PLAIN_RECORD]) -> [u8; 6]
+    ensures { λ h. ⌜ h ≡ part 0 6 p ⌝ }
+{
+    [p[0], p[1], p[2], p[3], p[4], p[5]]
+}
+
+pub(crate) fn sealed_head(t: [u8; SEALED_RECORD]) -> [u8; 6]
+    ensures { λ h. ⌜ h ≡ part 0 6 t ⌝ }
+{
+    [t[0], t[1], t[2], t[3], t[4], t[5]]
+}
+
+pub(crate) fn identity_of(head: [u8; 6]) -> [u8; 3]
+    ensures { λ x. ⌜ x ≡ part 1 3 head ⌝ }
+{
+    [head[1], head[2], head[3]]
+}
+
+pub(crate) fn version_of(head: [u8; 6]) -> Version
+    ensures { λ v. ⌜ bytesOf 2 (v .0) ≡ part 4 2 head ⌝ }
+{
+    Version(pair(head[4], head[5]))
+}
+
+// The head with another identity.
+pub(crate) fn with_identity(head: [u8; 6], x: [u8; 3]) -> [u8; 6]
+    ensures { λ h. ⌜ h ≡ head ! 0 ∷ part 0 3 x ++ part 4 2 head ⌝ }
+{
+    [head[0], x[0], x[1], x[2], head[4], head[5]]
+}
+
+// What stands behind the head.
+pub(crate) fn body_part(p: [u8; PLAIN_RECORD]) -> [u8; 12]
     ensures { λ b. ⌜ b ≡ part 6 12 p ⌝ }
 {
     [
@@ -93,7 +174,7 @@ pub(crate) fn body_part(p: [u8; 18]) -> [u8; 12]
     ]
 }
 
-pub(crate) fn text_part(t: [u8; 21]) -> [u8; 15]
+pub(crate) fn text_part(t: [u8; SEALED_RECORD]) -> [u8; 15]
     ensures { λ x. ⌜ x ≡ part 6 15 t ⌝ }
 {
     [
@@ -115,25 +196,16 @@ pub(crate) fn text_part(t: [u8; 21]) -> [u8; 15]
     ]
 }
 
-// The first six bytes of a record with another identity.
-pub struct Front {
-    pub kind: u8,
-    pub identity: [u8; 3],
-    pub high: u8,
-    pub low: u8,
-}
-
-pub(crate) fn sealed_record(f: Front, x: [u8; 15]) -> [u8; 21]
-    ensures { λ t. ⌜ t ≡ f .kind ∷ part 0 3 (f .identity) ++ (f .high ∷ f .low ∷ part 0 15 x) ⌝ }
+pub(crate) fn sealed_record(h: [u8; 6], x: [u8; 15]) -> [u8; SEALED_RECORD]
+    ensures { λ t. ⌜ t ≡ part 0 6 h ++ part 0 15 x ⌝ }
 {
-    let i = f.identity;
     [
-        f.kind,
-        i[0],
-        i[1],
-        i[2],
-        f.high,
-        f.low,
+        h[0],
+        h[1],
+        h[2],
+        h[3],
+        h[4],
+        h[5],
         x[0],
         x[1],
         x[2],
@@ -152,17 +224,16 @@ pub(crate) fn sealed_record(f: Front, x: [u8; 15]) -> [u8; 21]
     ]
 }
 
-pub(crate) fn plain_record(f: Front, b: [u8; 12]) -> [u8; 18]
-    ensures { λ p. ⌜ p ≡ f .kind ∷ part 0 3 (f .identity) ++ (f .high ∷ f .low ∷ part 0 12 b) ⌝ }
+pub(crate) fn plain_record(h: [u8; 6], b: [u8; 12]) -> [u8; PLAIN_RECORD]
+    ensures { λ p. ⌜ p ≡ part 0 6 h ++ part 0 12 b ⌝ }
 {
-    let i = f.identity;
     [
-        f.kind,
-        i[0],
-        i[1],
-        i[2],
-        f.high,
-        f.low,
+        h[0],
+        h[1],
+        h[2],
+        h[3],
+        h[4],
+        h[5],
         b[0],
         b[1],
         b[2],

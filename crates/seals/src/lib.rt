@@ -4,6 +4,7 @@ use arrays::array12;
 use arrays::array15;
 use arrays::array16;
 use arrays::both_long;
+use standard::Algorithm;
 use standard::Bytes15;
 use standard::KeyNumber;
 use standard::Kind;
@@ -11,6 +12,9 @@ use standard::Unsealed;
 use standard::UnsealedGroup;
 use standard::UnsealedNumbered;
 use standard::Version;
+use standard::WRONG_LENGTH;
+use standard::WRONG_NUMBER;
+use standard::pair;
 use texts::key10;
 use texts::key16;
 use texts::open_text;
@@ -21,7 +25,7 @@ ghost use Prim.Native.Nat.{_+_, _*_};
 ghost use Rattle.standard.specs.Bytes.{_!_, part, zeros};
 ghost use Rattle.seals.specs.Steps.{unsealedBody, opened16};
 ghost use Rattle.standard.specs.Refusals.{wrongLength, first, answer15};
-ghost use Rattle.standard.specs.Seals.{form, sealed as sealedOf, opened as openedOf, number2 as number2Of, ta31Call, ta32Call, ta51Call, ta52Call, ta81Call, ta82Call, ta91Call, ta92Call};
+ghost use Rattle.standard.specs.Seals.{formOf, sealed as sealedOf, opened as openedOf, number2 as number2Of, ta31Call, ta32Call, ta51Call, ta52Call, ta81Call, ta82Call, ta91Call, ta92Call};
 
 // A sealed text's bytes.
 const TEXT: usize = 15;
@@ -61,34 +65,28 @@ fn key_part(b: [u8; 12]) -> [u8; 10]
     [b[0], b[1], b[2], b[3], b[4], b[5], b[6], b[7], b[8], b[9]]
 }
 
-fn joined(high: u8, low: u8) -> u16
-    ensures { λ r. ⌜ r ≡ 256 * high + low ⌝ }
-{
-    256 * (high as u16) + (low as u16)
-}
-
 fn number51(b: [u8; 12]) -> u16
     ensures { λ r. ⌜ r ≡ b ! 11 ⌝ }
 {
-    joined(0, b[11])
+    pair(0, b[11])
 }
 
 fn number81(b: [u8; 12]) -> u16
     ensures { λ r. ⌜ r ≡ number2Of b ⌝ }
 {
-    joined(b[10], b[11])
+    pair(b[10], b[11])
 }
 
 // The sealed text of a body, if the strings that it came from had their lengths.
-fn seal_if(long: bool, kind: Kind, key: [u8; 16], body: [u8; 12]) -> Bytes15
-    ensures { λ r. ⌜ r ≡ answer15 (first ((long, wrongLength) ∷ [])) (sealedOf (form kind) key body) ⌝ }
+fn seal_if(long: bool, algorithm: Algorithm, key: [u8; 16], body: [u8; 12]) -> Bytes15
+    ensures { λ r. ⌜ r ≡ answer15 (first ((long, wrongLength) ∷ [])) (sealedOf (formOf algorithm) key body) ⌝ }
 {
     if !long {
-        return refused15(11);
+        return refused15(WRONG_LENGTH);
     }
     Bytes15 {
         refusal: 0,
-        bytes: seal_body(kind, key, body),
+        bytes: seal_body(algorithm, key, body),
     }
 }
 
@@ -100,17 +98,17 @@ struct UnsealedBody {
 }
 
 // The body and the flag of a text, if the strings that it came from had their lengths.
-fn open_if(long: bool, kind: Kind, key: [u8; 16], text: [u8; 15]) -> UnsealedBody
-    ensures { λ r. ⌜ r ≡ unsealedBody long (form kind) (openedOf key text) ⌝ }
+fn open_if(long: bool, algorithm: Algorithm, key: [u8; 16], text: [u8; 15]) -> UnsealedBody
+    ensures { λ r. ⌜ r ≡ unsealedBody long (formOf algorithm) (openedOf key text) ⌝ }
 {
     if !long {
         return UnsealedBody {
-            refusal: 11,
+            refusal: WRONG_LENGTH,
             body: [0; 12],
             flag: false,
         };
     }
-    let opened = open_text(kind, key, text);
+    let opened = open_text(algorithm, key, text);
     let body = opened.body;
     UnsealedBody {
         refusal: 0,
@@ -120,12 +118,12 @@ fn open_if(long: bool, kind: Kind, key: [u8; 16], text: [u8; 15]) -> UnsealedBod
 }
 
 // The same under a sealing key of kinds 2 to 4, from strings of any length.
-fn open16(kind: Kind, text: &[u8], sealing_key: &[u8], version: Version) -> UnsealedBody
-    ensures { λ r. ⌜ r ≡ opened16 (form kind) (now (text .entry)) (now («sealing_key» .entry)) version ⌝ }
+fn open16(algorithm: Algorithm, text: &[u8], sealing_key: &[u8], version: Version) -> UnsealedBody
+    ensures { λ r. ⌜ r ≡ opened16 (formOf algorithm) (now (text .entry)) (now («sealing_key» .entry)) version ⌝ }
 {
     let long = both_long(text, TEXT, sealing_key, Kind::SEALING_KEY);
     let key = key16(array16(sealing_key), version);
-    open_if(long, kind, key, array15(text))
+    open_if(long, algorithm, key, array15(text))
 }
 
 pub fn ta31(cipher_key: &[u8], version: Version, sealing_key: &[u8]) -> Bytes15
@@ -138,7 +136,7 @@ pub fn ta31(cipher_key: &[u8], version: Version, sealing_key: &[u8]) -> Bytes15
         Kind::TA31_SEALING_KEY,
     );
     let key = key10(array10(sealing_key), version);
-    seal_if(long, Kind::Ta31, key, body(array10(cipher_key), 0, 0))
+    seal_if(long, Algorithm::Ta31, key, body(array10(cipher_key), 0, 0))
 }
 
 pub fn ta32(text: &[u8], sealing_key: &[u8], version: Version) -> Unsealed
@@ -146,7 +144,7 @@ pub fn ta32(text: &[u8], sealing_key: &[u8], version: Version) -> Unsealed
 {
     let long = both_long(text, TEXT, sealing_key, Kind::TA31_SEALING_KEY);
     let key = key10(array10(sealing_key), version);
-    let opened = open_if(long, Kind::Ta31, key, array15(text));
+    let opened = open_if(long, Algorithm::Ta31, key, array15(text));
     let body = opened.body;
     Unsealed {
         refusal: opened.refusal,
@@ -159,15 +157,15 @@ pub fn ta51(cipher_key: &[u8], version: Version, sealing_key: &[u8], number: Key
     ensures { λ r. ⌜ r ≡ ta51Call (now («cipher_key» .entry)) version (now («sealing_key» .entry)) number ⌝ }
 {
     if !both_long(cipher_key, Kind::CIPHER_KEY, sealing_key, Kind::SEALING_KEY) {
-        return refused15(11);
+        return refused15(WRONG_LENGTH);
     }
     if number.0 > Kind::TA51_HIGHEST {
-        return refused15(5);
+        return refused15(WRONG_NUMBER);
     }
     let key = key16(array16(sealing_key), version);
     seal_if(
         true,
-        Kind::Ta51,
+        Algorithm::Ta51,
         key,
         body(array10(cipher_key), 0, number.0 as u8),
     )
@@ -176,7 +174,7 @@ pub fn ta51(cipher_key: &[u8], version: Version, sealing_key: &[u8], number: Key
 pub fn ta52(text: &[u8], sealing_key: &[u8], version: Version) -> UnsealedNumbered
     ensures { λ r. ⌜ r ≡ ta52Call (now (text .entry)) (now («sealing_key» .entry)) version ⌝ }
 {
-    let opened = open16(Kind::Ta51, text, sealing_key, version);
+    let opened = open16(Algorithm::Ta51, text, sealing_key, version);
     let body = opened.body;
     UnsealedNumbered {
         refusal: opened.refusal,
@@ -193,13 +191,18 @@ pub fn ta81(cipher_key: &[u8], version: Version, sealing_key: &[u8], number: Key
     let key = key16(array16(sealing_key), version);
     let high = (number.0 / 256 % 256) as u8;
     let low = (number.0 % 256) as u8;
-    seal_if(long, Kind::Ta81, key, body(array10(cipher_key), high, low))
+    seal_if(
+        long,
+        Algorithm::Ta81,
+        key,
+        body(array10(cipher_key), high, low),
+    )
 }
 
 pub fn ta82(text: &[u8], sealing_key: &[u8], version: Version) -> UnsealedNumbered
     ensures { λ r. ⌜ r ≡ ta82Call (now (text .entry)) (now («sealing_key» .entry)) version ⌝ }
 {
-    let opened = open16(Kind::Ta81, text, sealing_key, version);
+    let opened = open16(Algorithm::Ta81, text, sealing_key, version);
     let body = opened.body;
     UnsealedNumbered {
         refusal: opened.refusal,
@@ -214,13 +217,13 @@ pub fn ta91(group_key: &[u8], version: Version, sealing_key: &[u8]) -> Bytes15
 {
     let long = both_long(group_key, Kind::GROUP_KEY, sealing_key, Kind::SEALING_KEY);
     let key = key16(array16(sealing_key), version);
-    seal_if(long, Kind::Ta91, key, array12(group_key))
+    seal_if(long, Algorithm::Ta91, key, array12(group_key))
 }
 
 pub fn ta92(text: &[u8], sealing_key: &[u8], version: Version) -> UnsealedGroup
     ensures { λ r. ⌜ r ≡ ta92Call (now (text .entry)) (now («sealing_key» .entry)) version ⌝ }
 {
-    let opened = open16(Kind::Ta91, text, sealing_key, version);
+    let opened = open16(Algorithm::Ta91, text, sealing_key, version);
     let body = opened.body;
     UnsealedGroup {
         refusal: opened.refusal,

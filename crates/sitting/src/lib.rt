@@ -4,14 +4,15 @@ use arrays::array16;
 use keys::ring_of;
 use standard::RingInputs;
 use standard::RingMade;
+use standard::SITTING;
+use standard::WRONG_LENGTH;
+use standard::pair;
 use standard::refused_ring;
 ghost use mathlib.Core.Path.{_≡_};
-ghost use Prim.Native.Nat.{_+_, _*_, _≤_};
+ghost use Prim.Native.Nat.{_+_, _≤_};
 ghost use lib.ListN.{length};
 ghost use Rattle.standard.specs.Bytes.{part};
 ghost use Rattle.standard.specs.Programs.{sittingRing};
-
-const SITTING: usize = 70;
 
 fn ten(s: &[u8], from: usize) -> [u8; 10]
     requires { ⌜ from + 10 ≤ length (now s) ⌝ }
@@ -20,25 +21,12 @@ fn ten(s: &[u8], from: usize) -> [u8; 10]
     array10(&s[from..from + 10])
 }
 
-fn wide(x: u8) -> u16
-    ensures { λ r. ⌜ r ≡ x ⌝ }
-{
-    x as u16
-}
-
-// A mask has its high byte first.
-fn mask(high: u8, low: u8) -> u16
-    ensures { λ r. ⌜ r ≡ 256 * high + low ⌝ }
-{
-    256 * wide(high) + wide(low)
-}
-
-// A file of another length than 70 bytes is refused with 11.
+// A mask has its high byte first. A file of another length is refused with 11.
 pub fn sitting_ring(s: &[u8]) -> RingMade
     ensures { λ r. ⌜ r ≡ sittingRing (now (s .entry)) ⌝ }
 {
     if s.len() != SITTING {
-        return refused_ring(11);
+        return refused_ring(WRONG_LENGTH);
     }
     ring_of(RingInputs {
         root: array16(s),
@@ -47,7 +35,7 @@ pub fn sitting_ring(s: &[u8]) -> RingMade
         rand1: ten(s, 36),
         rand2: ten(s, 46),
         c: ten(s, 56),
-        response_mask: mask(s[66], s[67]),
-        key_mask: mask(s[68], s[69]),
+        response_mask: pair(s[66], s[67]),
+        key_mask: pair(s[68], s[69]),
     })
 }

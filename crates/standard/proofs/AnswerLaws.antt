@@ -11,11 +11,14 @@ use native.Mathlib.Omega.{arith}
 use lib.Dec.{ltb, leb, eqb}
 use lib.ListN.{length, drop}
 use borrow.Author.Tests.{ltb-true, ltb-false, eqb-true, eqb-false, leb-true, eq-eqb, ne-eqb, le-leb}
-use Rattle.standard.specs.Books.{recordAt, each, firstFault, refused, answer, lengthTests, Way, bookAnswer, bookCall}
+use Rattle.standard.specs.Books.{Way, bookCall}
 use Rattle.standard.specs.Bytes.{_!_, choose, Bytes}
-use Rattle.standard.specs.Refusals.{long, first}
+use Rattle.standard.specs.Lists.{recordAt, each, firstFault, refused, answer, lengthTests, listTests, written}
+use Rattle.standard.specs.Refusals.{wrongLength, long, first}
+use Rattle.standard.specs.Sizes.{ringSize, mostRecords}
 use Rattle.standard.specs.declared.BookAnswer.{BookAnswer}
 use Rattle.standard.proofs.BookLaws.{Book}
+use Rattle.standard.proofs.FirstLaws.{testAt, all-pass}
 
 -- ---- the first fault
 
@@ -103,19 +106,12 @@ module _ (head n : ℕ) (g : ℕ → ℕ) (written : ℕ) where
 
 -- ---- the lengths
 
-step : (t : Bool) (n rest : ℕ) → choose t rest (suc n) ≡ 0 → (t ≡ true) × (rest ≡ 0)
-step true n rest e = (refl, e)
-step false n rest e = absurd (omega arith)
-
 -- bytes are a book of records without a fault exactly if refusals 1, 2 and the records' do not apply
 module _ (w : ℕ) (fault : List ℕ → ℕ) (xs : List ℕ) where
-  pub lengths-fine : first (lengthTests w xs) ≡ 0 → (length xs ≤ w * 1024) × (length xs % w ≡ 0)
-  lengths-fine e =
-      let a = step (leb (length xs) (w * 1024)) 0 _ e in
-      let b = step (eqb (length xs % w) 0) 1 _ (a .1) in
-      (leb-true _ _ (a .0), eqb-true _ _ (b .0))
+  pub lengths-fine : first (lengthTests w (length xs)) ≡ 0 → (length xs ≤ w * mostRecords) × (length xs % w ≡ 0)
+  lengths-fine e = let t = all-pass (lengthTests w (length xs)) refl e in (leb-true _ _ (t 0), eqb-true _ _ (t 1))
 
-  pub book-of : ((i : ℕ) → xs ! i < 256) → length xs ≤ w * 1024 → length xs % w ≡ 0
+  pub book-of : ((i : ℕ) → xs ! i < 256) → length xs ≤ w * mostRecords → length xs % w ≡ 0
       → ((i : ℕ) → i < length xs / w → fault (recordAt w xs i) ≡ 0) → Book w (λ x. eqb (fault x) 0) xs
   book-of b few whole good = record {
     bytes = record { len = sym (div-add-mod (length xs) w) ∙ ap (λ (k : ℕ). w * (length xs / w) + k) whole ∙ add-zero _; bound = b };
@@ -124,8 +120,8 @@ module _ (w : ℕ) (fault : List ℕ → ℕ) (xs : List ℕ) where
   }
 
   module _ (b : Book w (λ x. eqb (fault x) 0) xs) where
-    pub few-of : length xs ≤ w * 1024
-    few-of = subst (λ (l : ℕ). l ≤ w * 1024) (sym (b .bytes .len)) (mul-le-mul-left w (b .few))
+    pub few-of : length xs ≤ w * mostRecords
+    few-of = subst (λ (l : ℕ). l ≤ w * mostRecords) (sym (b .bytes .len)) (mul-le-mul-left w (b .few))
 
     pub whole-of : length xs % w ≡ 0
     whole-of = ap (λ (l : ℕ). l % w) (b .bytes .len) ∙ mul-mod-right w (length xs / w)
@@ -135,50 +131,48 @@ module _ (w : ℕ) (fault : List ℕ → ℕ) (xs : List ℕ) where
 
 -- ---- the calls, in one direction
 
--- an accepted call had a ring of 36 bytes and an output long enough
-pub call-lengths : (W : Way) (r xs out : List ℕ) → bookCall W r xs out .0 .refusal ≡ 0
-    → (length r ≡ 36) × (W .to * (length xs / W .size) ≤ length out)
-unfolding bookCall bookAnswer
-call-lengths W r xs out e =
-    let a = is-accepted _ (length xs / W .size) (λ i. W .fault (recordAt (W .size) xs i)) (W .to * (length xs / W .size)) e in
-    let t₁ = step (eqb (length r) 36) 10 _ (a .0) in
-    let t₂ = step (leb (length xs) (W .size * 1024)) 0 _ (t₁ .1) in
-    let t₃ = step (eqb (length xs % W .size) 0) 1 _ (t₂ .1) in
-    let t₄ = step (leb (W .to * (length xs / W .size)) (length out)) 11 _ (t₃ .1) in
-    (eqb-true _ _ (t₁ .0), leb-true _ _ (t₄ .0))
-
-module _ (W : Way) (r xs out : List ℕ) (hr : length r ≡ 36) (b : (i : ℕ) → xs ! i < 256) where
+module _ (W : Way) (r xs out : List ℕ) where
   abbrev n : ℕ
   n = length xs / W .size
 
-  abbrev Good : List ℕ → Type 0
-  Good = Book (W .size) (λ x. eqb (W .fault x) 0)
+  abbrev g : ℕ → ℕ
+  g i = W .fault (recordAt (W .size) xs i)
 
-  pub call-book : bookCall W r xs out .0 .refusal ≡ 0 → Good xs
-  unfolding bookCall bookAnswer
-  call-book e =
-      let a = is-accepted _ n (λ i. W .fault (recordAt (W .size) xs i)) (W .to * n) e in
-      let t₁ = step (eqb (length r) 36) 10 _ (a .0) in
-      let t₂ = step (leb (length xs) (W .size * 1024)) 0 _ (t₁ .1) in
-      let t₃ = step (eqb (length xs % W .size) 0) 1 _ (t₂ .1) in
-      book-of (W .size) (W .fault) xs b (leb-true _ _ (t₂ .0)) (eqb-true _ _ (t₃ .0)) (a .1)
+  abbrev tests : List (Bool × ℕ)
+  tests = (long ringSize r, wrongLength) ∷ listTests (W .size) (W .to) (length xs) (length out)
 
-  pub call-accepts : W .to * n ≤ length out → Good xs
-      → bookCall W r xs out ≡ (record { refusal = 0; index = n; written = W .to * n }, each n (W .size) (W .convert) xs ++ drop (W .to * n) out)
-  unfolding bookCall bookAnswer
-  call-accepts room g =
-      let head : first ((long 36 r, 11) ∷ lengthTests (W .size) xs ++ (leb (W .to * n) (length out), 12) ∷ []) ≡ 0 =
-      rw (eq-eqb _ _ hr, le-leb _ _ (few-of (W .size) (W .fault) xs g), eq-eqb _ _ (whole-of (W .size) (W .fault) xs g), le-leb _ _ room) in
-      rw (accepted _ n (λ i. W .fault (recordAt (W .size) xs i)) (W .to * n) head (good-of (W .size) (W .fault) xs g))
+  -- an accepted call had no test that failed, and no record with a fault
+  pub call-tests : bookCall W r xs out .0 .refusal ≡ 0 → ((i : ℕ) → testAt tests i ≡ true) × ((i : ℕ) → i < n → g i ≡ 0)
+  unfolding bookCall written
+  call-tests e = let a = is-accepted (first tests) n g (W .to * n) e in (all-pass tests refl (a .0), a .1)
+
+  pub call-lengths : bookCall W r xs out .0 .refusal ≡ 0 → (length r ≡ ringSize) × (W .to * n ≤ length out)
+  call-lengths e = let t = call-tests e .0 in (eqb-true _ _ (t 0), leb-true _ _ (t 3))
+
+  -- what is written fits the output
+  pub written-fits : bookCall W r xs out .0 .refusal ≡ 0 → bookCall W r xs out .0 .written ≤ length out
+  unfolding bookCall written
+  written-fits e =
+      let a = is-accepted (first tests) n g (W .to * n) e in
+      rw (accepted (first tests) n g (W .to * n) (a .0) (a .1)) (call-lengths e .1)
 
   pub call-refuses : (bookCall W r xs out .0 .refusal ≡ 0 → ⊥) → (bookCall W r xs out .0 .written ≡ 0) × (bookCall W r xs out .1 ≡ out)
-  unfolding bookCall bookAnswer
+  unfolding bookCall written
   call-refuses e = (refusal-writes _ _ _ _ e, rw (ne-eqb _ 0 e))
 
--- what is written fits the output
-pub written-fits : (W : Way) (r xs out : List ℕ) → bookCall W r xs out .0 .refusal ≡ 0 → bookCall W r xs out .0 .written ≤ length out
-unfolding bookCall bookAnswer
-written-fits W r xs out e =
-    let n : ℕ = length xs / W .size in
-    let a = is-accepted _ n (λ i. W .fault (recordAt (W .size) xs i)) (W .to * n) e in
-    rw (accepted _ n (λ i. W .fault (recordAt (W .size) xs i)) (W .to * n) (a .0) (a .1)) (call-lengths W r xs out e .1)
+  module _ (b : (i : ℕ) → xs ! i < 256) where
+    abbrev Good : List ℕ → Type 0
+    Good = Book (W .size) (λ x. eqb (W .fault x) 0)
+
+    pub call-book : bookCall W r xs out .0 .refusal ≡ 0 → Good xs
+    call-book e =
+        let t = call-tests e in
+        book-of (W .size) (W .fault) xs b (leb-true _ _ (t .0 1)) (eqb-true _ _ (t .0 2)) (t .1)
+
+    pub call-accepts : length r ≡ ringSize → W .to * n ≤ length out → Good xs
+        → bookCall W r xs out ≡ (record { refusal = 0; index = n; written = W .to * n }, each n (W .size) (W .convert) xs ++ drop (W .to * n) out)
+    unfolding bookCall written
+    call-accepts hr room k =
+        let head : first tests ≡ 0 =
+        rw (eq-eqb _ _ hr, le-leb _ _ (few-of (W .size) (W .fault) xs k), eq-eqb _ _ (whole-of (W .size) (W .fault) xs k), le-leb _ _ room) in
+        rw (accepted (first tests) n g (W .to * n) head (good-of (W .size) (W .fault) xs k))

@@ -9,14 +9,15 @@ use native.Mathlib.Nat.{mul-suc, mul-zero, mul-div-cancel-left, mul-le-mul-left,
 use native.Mathlib.Omega.{arith}
 use lib.ListN.{length}
 use Rattle.standard.specs.Bytes.{_!_, part, table, Bytes, Passed}
-use Rattle.standard.specs.Books.{recordAt, each}
+use Rattle.standard.specs.Lists.{recordAt, each}
+use Rattle.standard.specs.Sizes.{mostRecords}
 use Rattle.standard.proofs.InverseLaws.{Inverse, reversed}
 use Rattle.standard.proofs.BytesLaws.{spelled, bytes-nil, bytes-append, bytes-part, table-add, part-left, part-seam}
 
 -- at most 1,024 whole records of w bytes, each of which passes
 pub record Book (w : ℕ) (ok : List ℕ → Bool) (xs : List ℕ) : Type 0 where
   pub bytes : Bytes (w * (length xs / w)) xs
-  pub few : length xs / w ≤ 1024
+  pub few : length xs / w ≤ mostRecords
   pub pass : (i : ℕ) → i < length xs / w → ok (recordAt w xs i) ≡ true
 
 -- ---- a book, record by record

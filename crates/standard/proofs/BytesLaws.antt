@@ -3,14 +3,14 @@
 use mathlib.Core.Bool.{Bool, true, false, _&&_, not, true≢false}
 use mathlib.Core.List.{List, [], _∷_, _++_}
 use mathlib.Core.Path.{_≡_, refl, sym, ap, ap₂, _∙_}
-use Prim.Native.Nat.{ℕ, zero, suc, _+_, _-_, _<_, _≤_}
+use Prim.Native.Nat.{ℕ, zero, suc, _+_, _-_, _*_, _/_, _%_, _^_, _<_, _≤_}
 use native.Mathlib.Nat.{suc-inj, suc-ne-zero, le-of-suc-le-suc, not-suc-le-zero, zero-add, add-zero, suc-add, add-suc, add-sub-cancel-left}
 use native.Mathlib.Omega.{arith}
 use lib.Dec.{eqb}
 use lib.ListN.{length, take, drop, length-append, List·getD-append}
 use lib.Seq.{drop-cons, getD-append-add}
 use borrow.Author.Tests.{eqb-true, eq-eqb, not-true, not-false}
-use Rattle.standard.specs.Bytes.{_!_, _⊕_, table, part, xors, sameOn, same, Bytes}
+use Rattle.standard.specs.Bytes.{_!_, _⊕_, table, part, xors, bytesOf, sameOn, same, Bytes}
 use Rattle.standard.specs.Refusals.{long}
 use Rattle.standard.proofs.XorLaws.{xor-byte}
 
@@ -99,6 +99,13 @@ bytes-one h = bytes-cons h bytes-nil
 
 pub bytes-zero : Bytes 1 (0 ∷ [])
 bytes-zero = bytes-one (omega arith)
+
+-- the bytes of the number that two bytes spell
+pub pair-bytes : (x y : ℕ) → x < 256 → y < 256 → bytesOf 2 (256 * x + y) ≡ x ∷ y ∷ []
+pair-bytes x y hx hy =
+    let high : (256 * x + y) / 2 ^ 8 % 256 ≡ x = omega arith in
+    let low : (256 * x + y) / 2 ^ 0 % 256 ≡ y = omega arith in
+    cc
 
 -- ---- parts
 

@@ -15,9 +15,9 @@ use Rattle.standard.specs.Refusals.{long, unsealed}
 use Rattle.standard.specs.Seals.{form31, form51, form81, form, seal, unseal, clears, body31, body51, body81, body91, number2, ta31Call, ta32Call, ta51Call, ta52Call, ta81Call, ta82Call, ta91Call, ta92Call}
 use Rattle.standard.specs.declared.KeyNumber.{KeyNumber}
 use Rattle.standard.specs.declared.Kind.{Kind}
-use Rattle.standard.specs.declared.Kind.the-variants.{Ta31, Ta51, Ta81, Ta91}
+use Rattle.standard.specs.declared.Algorithm.the-variants.{Ta31, Ta51, Ta81, Ta91}
 use Rattle.standard.specs.declared.Version.{Version}
-use Rattle.standard.proofs.BytesLaws.{spell, bytes-cons, bytes-one, bytes-zero, bytes-append, bytes-part}
+use Rattle.standard.proofs.BytesLaws.{pair-bytes, spell, bytes-cons, bytes-one, bytes-zero, bytes-append, bytes-part}
 use Rattle.standard.proofs.IdentityLaws.{identity-law}
 use Rattle.standard.proofs.SealLaws.{Body, Clear, body31-zeros, body51-number, sealing}
 
@@ -28,9 +28,6 @@ mod-byte n = omega arith
 
 number2-of : (n : ℕ) → n < 65536 → 256 * (n / 2 ^ 8 % 256) + n / 2 ^ 0 % 256 ≡ n
 number2-of n h = omega arith
-
-bytes2-of : (x y : ℕ) → x < 256 → y < 256 → ((256 * x + y) / 2 ^ 8 % 256 ≡ x) × ((256 * x + y) / 2 ^ 0 % 256 ≡ y)
-bytes2-of x y hx hy = (omega arith, omega arith)
 
 number3-of : (n : ℕ) → n < 2 ^ 24 → number3 (bytesOf 3 n) ≡ n
 number3-of n h = omega arith
@@ -127,8 +124,7 @@ module _ (s : List ℕ) (v : Version) (hs : length s ≡ 16) where
       let i = sealing Ta81 s version in
       let b = unseal form81 s version t in
       let bytes = i .from t ok .bytes in
-      let n = bytes2-of (b ! 10) (b ! 11) (bytes .bound 10) (bytes .bound 11) in
-      let same : body81 b (number2 b) ≡ b = cc (spell bytes, n .0, n .1) in
+      let same : body81 b (number2 b) ≡ b = cc (spell bytes, pair-bytes (b ! 10) (b ! 11) (bytes .bound 10) (bytes .bound 11)) in
       rw (eq-eqb _ _ (h .len), eq-eqb _ _ hs, same, i .forth t ok)
 
   pub ta91-opens : (gk : List ℕ) → Bytes 12 gk → ta92Call (ta91Call gk v s .bytes) s v ≡ record { refusal = 0; key = gk; flag = false }

@@ -1,5 +1,6 @@
 pub mod XorLaws
 pub mod BytesLaws
+pub mod FirstLaws
 pub mod FillLaws
 pub mod MixingLaws
 pub mod DerivationLaws

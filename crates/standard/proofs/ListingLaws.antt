@@ -7,7 +7,8 @@ use Prim.Native.Nat.{ℕ, _≤_}
 use native.Mathlib.Omega.{arith}
 use lib.Dec.{ltb}
 use lib.ListN.{length, drop, length-append}
-use Rattle.standard.specs.Books.{plainFault, refused as refusedBook, answer, checkPlain}
+use Rattle.standard.specs.Books.{plainFault, checkPlain}
+use Rattle.standard.specs.Lists.{refused as refusedBook, answer}
 use Rattle.standard.specs.Bytes.{choose}
 use Rattle.standard.specs.Listing.{entryLine, entryLines, entriesLine, refusedLine, listing}
 use Rattle.standard.specs.Programs.{meaning, meaningLine, wroteLine, answerLine}

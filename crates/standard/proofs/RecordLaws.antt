@@ -1,26 +1,28 @@
 -- A record: sealing and opening are inverse between the plain records that no refusal applies to and the sealed ones that open.
 -- Assumes nothing.
 use mathlib.Core.Bool.{Bool, true, false, _&&_}
-use mathlib.Core.List.{List, _∷_, _++_}
+use mathlib.Core.List.{List, [], _∷_, _++_}
 use mathlib.Core.Path.{_≡_, refl, sym, _∙_}
 use Prim.Native.Nat.{ℕ}
 use lib.Dec.{eqb}
 use Rattle.standard.specs.Books.{sealingKey, commonKey, isKnown, recordKind, plainFault, sealRecord, openFault, openRecord}
 use Rattle.standard.specs.Bytes.{_!_, part, choose, Bytes, Passed}
 use Rattle.standard.specs.Identity.{ta61, ta61⁻¹}
+use Rattle.standard.specs.Refusals.{wrongKind, flagSet, first}
 use Rattle.standard.specs.Seals.{kindOf, form, seal, unseal, clears}
+use Rattle.standard.specs.Sizes.{ringSize, plainSize, sealedSize}
 use Rattle.standard.specs.declared.Kind.{Kind}
 use Rattle.standard.proofs.BytesLaws.{spell, bytes-append, bytes-part, bytes-cons, and-split, and-join}
 use Rattle.standard.proofs.IdentityLaws.{identity-law}
 use Rattle.standard.proofs.InverseLaws.{Inverse}
-use Rattle.standard.proofs.SealLaws.{Body, Clear, two-tests, sealing}
+use Rattle.standard.proofs.SealLaws.{Body, Clear, sealing}
 
 -- a plain record without refusal, and a sealed one
 abbrev pub Plain : List ℕ → Type 0
-Plain = Passed 18 (λ p. eqb (plainFault p) 0)
+Plain = Passed plainSize (λ p. eqb (plainFault p) 0)
 
 abbrev pub Sealed : List ℕ → List ℕ → Type 0
-Sealed r = Passed 21 (λ t. eqb (openFault r t) 0)
+Sealed r = Passed sealedSize (λ t. eqb (openFault r t) 0)
 
 -- ---- what the absence of a refusal says
 
@@ -37,15 +39,20 @@ plain-test p = go (isKnown (kindOf (p ! 0)))
 open-test : (r t : List ℕ)
     → eqb (openFault r t) 0 ≡ isKnown (kindOf (t ! 0)) && clears (form (recordKind t)) (sealingKey (recordKind t) r) (part 4 2 t) (part 6 15 t)
 unfolding openFault
-open-test r t = two-tests 2 5 (isKnown (kindOf (t ! 0))) (clears (form (recordKind t)) (sealingKey (recordKind t) r) (part 4 2 t) (part 6 15 t)) refl refl
+open-test r t = go (isKnown (kindOf (t ! 0))) (clears (form (recordKind t)) (sealingKey (recordKind t) r) (part 4 2 t) (part 6 15 t))
+  where
+    go : (k c : Bool) → eqb (first ((k, wrongKind) ∷ (c, flagSet) ∷ [])) 0 ≡ k && c
+    go true true = refl
+    go true false = refl
+    go false c = refl
 
-module _ (r : List ℕ) (hr : Bytes 36 r) where
+module _ (r : List ℕ) (hr : Bytes ringSize r) where
   identity : Inverse (Bytes 3) (Bytes 3) (ta61 (commonKey r)) (ta61⁻¹ (commonKey r))
   identity = identity-law (commonKey r) (bytes-part 26 10 hr)
 
   text : (k : Kind) (v : List ℕ)
       → Inverse (Body (form k)) (Clear (form k) (sealingKey k r) v) (seal (form k) (sealingKey k r) v) (unseal (form k) (sealingKey k r) v)
-  text k v = sealing k (sealingKey k r) v
+  text k v = sealing (k .algorithm) (sealingKey k r) v
 
   -- ---- sealing a plain record
 

@@ -1,23 +1,25 @@
--- Sealing, over the form of a kind. For every sealing key and version, a text's flag is clear exactly if the text is the sealed form of
+-- Sealing, over the form of an algorithm. For every sealing key and version, a text's flag is clear exactly if the text is the sealed form of
 -- a legal body (`is-image` of `sealing`), of that one alone, which is the one unsealed (`of-one`), and sealing it gives the text again.
 -- Assumes nothing.
 use mathlib.Core.Bool.{Bool, true, false, _&&_}
 use mathlib.Core.List.{List, [], _∷_, _++_}
 use mathlib.Core.Path.{_≡_, refl, sym, ap, _∙_}
-use Prim.Native.Nat.{ℕ, suc, _%_, _<_, _≤_}
+use Prim.Native.Nat.{ℕ, _/_, _%_, _<_, _≤_}
 use native.Mathlib.Nat.{mod-eq-of-lt}
 use native.Mathlib.Omega.{arith}
-use lib.Dec.{eqb, leb, ltb}
-use borrow.Author.Tests.{eqb-true, leb-true, ltb-true, lt-ltb, le-leb}
-use Rattle.standard.specs.Bytes.{_!_, part, same, choose, Bytes, Passed}
+use lib.Dec.{eqb, leb}
+use borrow.Author.Tests.{eqb-true, leb-true, eq-eqb, le-leb}
+use Rattle.standard.specs.Bytes.{_!_, part, choose, Bytes, Passed}
 use Rattle.standard.specs.Cores.{bl1}
 use Rattle.standard.specs.Expansions.{grouped, ungrouped, inserted, expected, exp1Groups, exp3Groups, x16Groups}
-use Rattle.standard.specs.Seals.{Form, form31, form51, form81, form, without8, sealed, opened, seal, unseal, clears}
-use Rattle.standard.specs.declared.Kind.{Kind}
-use Rattle.standard.specs.declared.Kind.the-variants.{Ta31, Ta51, Ta81, Ta91}
+use Rattle.standard.specs.Seals.{Form, clear, form31, form51, form81, formOf, without8, sealed, opened, seal, unseal, clears}
+use Rattle.standard.specs.Refusals.{wrongNumber, notZero}
+use Rattle.standard.specs.declared.Algorithm.{Algorithm}
+use Rattle.standard.specs.declared.Algorithm.the-variants.{Ta31, Ta51, Ta81, Ta91}
 use Rattle.standard.proofs.BytesLaws.{spell, bytes-cons, bytes-one, bytes-zero, bytes-append, bytes-part, and-split, and-join, same-eq, same-refl}
 use Rattle.standard.proofs.CoreLaws.{sealCore, unsealCore, core}
 use Rattle.standard.proofs.ExpansionLaws.{bytes-grouped, bytes-ungrouped}
+use Rattle.standard.proofs.FirstLaws.{all-pass}
 use Rattle.standard.proofs.InverseLaws.{Inverse}
 
 -- a body that may be sealed, and a text whose flag is clear
@@ -31,29 +33,20 @@ Clear F s v = Passed 15 (clears F s v)
 -- shrinking gives the body
 pub record FormLaw (F : Form) : Type 0 where
   pub ends : (b : List ℕ) → F .input b ≡ part 0 15 (F .input b) ++ 0 ∷ []
-  pub checks : Inverse (Body F) (Passed 15 (F .clear)) (λ b. part 0 15 (F .input b)) (F .shrink)
+  pub checks : Inverse (Body F) (Passed 15 (clear F)) (λ b. part 0 15 (F .input b)) (F .shrink)
 
 -- ---- the forms
 
--- a fault is 0 exactly if the tests pass
-pub one-test : (n : ℕ) (t : Bool) → eqb (suc n) 0 ≡ false → eqb (choose t 0 (suc n)) 0 ≡ t
-one-test n true e = refl
-one-test n false e = e
-
-pub two-tests : (m n : ℕ) (s t : Bool) → eqb (suc m) 0 ≡ false → eqb (suc n) 0 ≡ false → eqb (choose s (choose t 0 (suc n)) (suc m)) 0 ≡ s && t
-two-tests m n true true e f = refl
-two-tests m n true false e f = f
-two-tests m n false t e f = e
-
 pub body31-zeros : (b : List ℕ) → Body form31 b → (b ! 10 ≡ 0) × (b ! 11 ≡ 0)
 body31-zeros b h =
-    let z = and-split (eqb (b ! 10) 0) (eqb (b ! 11) 0) (sym (one-test 3 (eqb (b ! 10) 0 && eqb (b ! 11) 0) refl) ∙ h .passed) in
+    let t = all-pass ((eqb (b ! 10) 0 && eqb (b ! 11) 0, notZero) ∷ []) refl (eqb-true _ 0 (h .passed)) in
+    let z = and-split (eqb (b ! 10) 0) (eqb (b ! 11) 0) (t 0) in
     (eqb-true (b ! 10) 0 (z .0), eqb-true (b ! 11) 0 (z .1))
 
 pub body51-number : (b : List ℕ) → Body form51 b → (b ! 10 ≡ 0) × (b ! 11 ≤ 31)
 body51-number b h =
-    let z = and-split (eqb (b ! 10) 0) (leb (b ! 11) 31) (sym (two-tests 3 4 (eqb (b ! 10) 0) (leb (b ! 11) 31) refl refl) ∙ h .passed) in
-    (eqb-true (b ! 10) 0 (z .0), leb-true (b ! 11) 31 (z .1))
+    let t = all-pass ((eqb (b ! 10) 0, notZero) ∷ (leb (b ! 11) 31, wrongNumber) ∷ []) refl (eqb-true _ 0 (h .passed)) in
+    (eqb-true (b ! 10) 0 (t 0), leb-true (b ! 11) 31 (t 1))
 
 law31 : FormLaw form31
 law31 = record {
@@ -75,7 +68,9 @@ law51 = record {
   checks = record {
     to = λ b h. record {
       bytes = bytes-grouped (bytes-append (bytes-part 0 10 (h .bytes)) (bytes-one (h .bytes .bound 11))) exp3Groups 0;
-      passed = and-join (same-refl (expected exp3Groups 0 (grouped exp3Groups 0 (part 0 10 b ++ b ! 11 ∷ [])))) (lt-ltb (b ! 11) 32 (omega (arith, body51-number b h .1)));
+      passed =
+          let bits : b ! 11 / 32 ≡ 0 = omega (arith, body51-number b h .1) in
+          rw bits (same-refl (expected exp3Groups 0 (grouped exp3Groups 0 (part 0 10 b ++ b ! 11 ∷ [])) ++ 0 ∷ []));
     };
     from = λ u h. record {
       bytes = bytes-append (bytes-part 0 10 (bytes-ungrouped (h .bytes) exp3Groups 0)) (bytes-cons (omega arith) (bytes-one (omega arith)));
@@ -85,8 +80,10 @@ law51 = record {
         let n : b ! 11 < 32 = omega (arith, body51-number b h .1) in
         cc (spell (h .bytes), body51-number b h .0, mod-eq-of-lt n);
     forth = λ u h.
-        let z = and-split (same (inserted exp3Groups 0 u) (expected exp3Groups 0 u)) (ltb (u ! 13) 32) (h .passed) in
-        cc (spell (h .bytes), same-eq (inserted exp3Groups 0 u) (expected exp3Groups 0 u) (z .0), mod-eq-of-lt (ltb-true (u ! 13) 32 (z .1)));
+        let e = same-eq (form51 .found u) (form51 .wanted u) (h .passed) in
+        let bits : u ! 13 / 32 ≡ 0 = ap (λ (l : List ℕ). l ! 4) e in
+        let n : u ! 13 < 32 = omega arith in
+        cc (spell (h .bytes), e, mod-eq-of-lt n);
   };
 }
 
@@ -101,7 +98,7 @@ law81 = record {
   };
 }
 
-pub form-law : (k : Kind) → FormLaw (form k)
+pub form-law : (a : Algorithm) → FormLaw (formOf a)
 form-law Ta31 = law31
 form-law Ta51 = law51
 form-law Ta81 = law81
@@ -121,7 +118,7 @@ sealing-by F law s v =
     record {
       to = λ b h. rw (whole b) (record {
         bytes = c .to (u b) (L .to b h .bytes);
-        passed = ap (F .clear) (c .back (u b) (L .to b h .bytes)) ∙ L .to b h .passed;
+        passed = ap (clear F) (c .back (u b) (L .to b h .bytes)) ∙ L .to b h .passed;
       });
       from = λ t h. L .from (unsealCore k t) (record { bytes = c .from t (h .bytes); passed = h .passed });
       back = λ b h. rw (whole b) (ap (F .shrink) (c .back (u b) (L .to b h .bytes)) ∙ L .back b h);
@@ -131,5 +128,5 @@ sealing-by F law s v =
           ∙ c .forth t (h .bytes);
     }
 
-pub sealing : (k : Kind) (s v : List ℕ) → Inverse (Body (form k)) (Clear (form k) s v) (seal (form k) s v) (unseal (form k) s v)
-sealing k s v = sealing-by (form k) (form-law k) s v
+pub sealing : (a : Algorithm) (s v : List ℕ) → Inverse (Body (formOf a)) (Clear (formOf a) s v) (seal (formOf a) s v) (unseal (formOf a) s v)
+sealing a s v = sealing-by (formOf a) (form-law a) s v

@@ -6,6 +6,7 @@ use mathlib.Core.Path.{_≡_}
 use Prim.Native.Nat.{ℕ, _*_, _/_, _<_, _≤_}
 use lib.ListN.{length, drop}
 use Rattle.standard.specs.Bytes.{_!_, Bytes}
+use Rattle.standard.specs.Sizes.{ringSize, plainSize, sealedSize}
 use Rattle.standard.specs.Books.{WellFormed, sealedForm, sealBook, openBook}
 
 -- s is the sealed form, under the ring r, of the well-formed plain book p
@@ -21,15 +22,15 @@ pub record Demand3 (r s out : List ℕ) : Type 0 where
   pub unique : (p q : List ℕ) → IsSealedForm r p s → IsSealedForm r q s → p ≡ q
   -- opening writes that book and nothing after it
   pub writes : (p : List ℕ) → IsSealedForm r p s
-      → openBook r s out ≡ (record { refusal = 0; index = length p / 18; written = length p }, p ++ drop (length p) out)
+      → openBook r s out ≡ (record { refusal = 0; index = length p / plainSize; written = length p }, p ++ drop (length p) out)
   -- sealing that book under the same ring, into any output long enough, writes those bytes again and nothing after them
-  pub back : (p : List ℕ) → IsSealedForm r p s → (out′ : List ℕ) → 21 * (length p / 18) ≤ length out′
-      → sealBook r p out′ ≡ (record { refusal = 0; index = length p / 18; written = length s }, s ++ drop (length s) out′)
+  pub back : (p : List ℕ) → IsSealedForm r p s → (out′ : List ℕ) → sealedSize * (length p / plainSize) ≤ length out′
+      → sealBook r p out′ ≡ (record { refusal = 0; index = length p / plainSize; written = length s }, s ++ drop (length s) out′)
   -- all other bytes are refused and the output stays as it was
   pub refuses : (((p : List ℕ) × IsSealedForm r p s) → ⊥)
       → (openBook r s out .0 .refusal ≡ 0 → ⊥) × (openBook r s out .0 .written ≡ 0) × (openBook r s out .1 ≡ out)
 
--- for every ring, whatever bytes are handed in, and every output long enough: 18 bytes for each whole record
+-- for every ring, whatever bytes are handed in, and every output long enough: a plain record for each whole one
 abbrev pub Demand3Holds : Type 0
 Demand3Holds =
-    (r : List ℕ) → Bytes 36 r → (s : List ℕ) → ((i : ℕ) → s ! i < 256) → (out : List ℕ) → 18 * (length s / 21) ≤ length out → Demand3 r s out
+    (r : List ℕ) → Bytes ringSize r → (s : List ℕ) → ((i : ℕ) → s ! i < 256) → (out : List ℕ) → plainSize * (length s / sealedSize) ≤ length out → Demand3 r s out

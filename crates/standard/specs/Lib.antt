@@ -1,9 +1,11 @@
+pub mod Sizes
 pub mod Bytes
 pub mod Hurdle
 pub mod Cores
 pub mod Expansions
 pub mod Seals
 pub mod Identity
+pub mod Lists
 pub mod Books
 pub mod Text
 pub mod Listing

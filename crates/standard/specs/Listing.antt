@@ -4,18 +4,19 @@ use mathlib.Core.List.{List, [], _++_}
 use Prim.Native.Nat.{ℕ, zero, suc, _+_, _*_, _/_}
 use lib.Dec.{eqb}
 use lib.ListN.{length}
-use Rattle.standard.specs.Books.{recordAt, recordKind, checkPlain}
+use Rattle.standard.specs.Books.{recordKind, checkPlain}
 use Rattle.standard.specs.Bytes.{_!_, part, choose}
+use Rattle.standard.specs.Lists.{recordAt}
 use Rattle.standard.specs.Seals.{keyLength}
 use Rattle.standard.specs.Text.{ascii, decimal, hex, textCall}
-use Rattle.standard.specs.declared.Kind.{Kind}
-use Rattle.standard.specs.declared.Kind.the-variants.{Ta31, Ta51, Ta81, Ta91}
+use Rattle.standard.specs.declared.Algorithm.{Algorithm}
+use Rattle.standard.specs.declared.Algorithm.the-variants.{Ta31, Ta51, Ta81, Ta91}
 use Rattle.standard.specs.declared.TextAnswer.{TextAnswer}
 
 -- ---- the lines
 
 -- the key number of a plain record
-abbrev pub numberText : Kind → List ℕ → List ℕ
+abbrev pub numberText : Algorithm → List ℕ → List ℕ
 numberText Ta31 p = ascii "-"
 numberText Ta51 p = decimal (p ! 17)
 numberText Ta81 p = decimal (256 * p ! 16 + p ! 17)
@@ -25,7 +26,7 @@ numberText Ta91 p = ascii "-"
 unfoldable pub entryLine : ℕ → List ℕ → List ℕ
 entryLine i p =
     ascii "entry " ++ decimal i ++ ascii " kind " ++ decimal (p ! 0) ++ ascii " identity " ++ hex (part 1 3 p) ++ ascii " version "
-    ++ decimal (256 * p ! 4 + p ! 5) ++ ascii " key " ++ hex (part 6 (keyLength (recordKind p)) p) ++ ascii " number " ++ numberText (recordKind p) p
+    ++ decimal (256 * p ! 4 + p ! 5) ++ ascii " key " ++ hex (part 6 (keyLength (recordKind p .algorithm)) p) ++ ascii " number " ++ numberText (recordKind p .algorithm) p
     ++ ascii "\n"
 
 -- the first n records of a book

@@ -10,6 +10,7 @@ use lib.Count.{ones}
 use lib.Dec.{eqb, leb, ltb}
 use lib.ListN.{length}
 use Rattle.standard.specs.Bytes.{choose, zeros}
+use Rattle.standard.specs.Sizes.{ringSize}
 use Rattle.standard.specs.declared.Authentication.{Authentication}
 use Rattle.standard.specs.declared.Bytes10.{Bytes10}
 use Rattle.standard.specs.declared.Bytes15.{Bytes15}
@@ -130,4 +131,4 @@ unsealedGroup r k f = record { refusal = r; key = choose (eqb r 0) k (zeros 12);
 
 abbrev pub ringMade : ℕ → List ℕ → List ℕ → List ℕ → RingMade
 ringMade r k s t =
-    record { refusal = r; ring = choose (eqb r 0) k (zeros 36); response1 = choose (eqb r 0) s (zeros 4); response2 = choose (eqb r 0) t (zeros 4) }
+    record { refusal = r; ring = choose (eqb r 0) k (zeros ringSize); response1 = choose (eqb r 0) s (zeros 4); response2 = choose (eqb r 0) t (zeros 4) }

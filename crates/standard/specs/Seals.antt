@@ -4,18 +4,21 @@
 -- Assumes nothing.
 use mathlib.Core.Bool.{Bool, _&&_, not}
 use mathlib.Core.List.{List, [], _∷_, _++_}
-use Prim.Native.Nat.{ℕ, _+_, _*_, _%_}
-use lib.Dec.{eqb, leb, ltb}
+use Prim.Native.Nat.{ℕ, _+_, _*_, _/_, _%_}
+use lib.Dec.{eqb, leb}
 use Rattle.standard.specs.Bytes.{_!_, table, part, xors, zeros, bytesOf, same, choose}
 use Rattle.standard.specs.Cores.{bl1, bl2}
 use Rattle.standard.specs.Expansions.{ungrouped, inserted, expected, exp1Groups, exp3Groups, x16Groups, exp1, exp3, exp4, x16, shr1, shr2}
 use Rattle.standard.specs.Refusals.{wrongLength, wrongNumber, notZero, long, first, answer15, unsealed, unsealedNumbered, unsealedGroup}
+use Rattle.standard.specs.declared.Algorithm.{Algorithm}
+use Rattle.standard.specs.declared.Algorithm.the-variants.{Ta31, Ta51, Ta81, Ta91}
 use Rattle.standard.specs.declared.Bytes15.{Bytes15}
 use Rattle.standard.specs.declared.KeyNumber.{KeyNumber}
 use Rattle.standard.specs.declared.Kind.{Kind}
-use Rattle.standard.specs.declared.Kind.the-variants.{Ta31, Ta51, Ta81, Ta91}
 use Rattle.standard.specs.declared.Named.{Named}
 use Rattle.standard.specs.declared.Named.the-variants.{Known, Unknown}
+use Rattle.standard.specs.declared.RingKey.{RingKey}
+use Rattle.standard.specs.declared.RingKey.the-variants.{D, O}
 use Rattle.standard.specs.declared.Unsealed.{Unsealed}
 use Rattle.standard.specs.declared.UnsealedGroup.{UnsealedGroup}
 use Rattle.standard.specs.declared.UnsealedNumbered.{UnsealedNumbered}
@@ -23,18 +26,22 @@ use Rattle.standard.specs.declared.Version.{Version}
 
 -- ---- the kinds
 
+-- sealed by an algorithm, under a key of the ring
+abbrev pub kind : Algorithm → RingKey → Named
+kind a k = Known (record { algorithm = a; under = k })
+
 -- the kind that a byte names
 unfoldable pub kindOf : ℕ → Named
 kindOf b =
-    choose (eqb b 1) (Known Ta31) (choose (eqb b 2) (Known Ta51) (choose (eqb b 3) (Known Ta81) (choose (eqb b 4) (Known Ta91) Unknown)))
+    choose (eqb b 1) (kind Ta31 D) (choose (eqb b 2) (kind Ta51 O) (choose (eqb b 3) (kind Ta81 O) (choose (eqb b 4) (kind Ta91 O) Unknown)))
 
-abbrev pub keyLength : Kind → ℕ
+abbrev pub keyLength : Algorithm → ℕ
 keyLength Ta31 = 10
 keyLength Ta51 = 10
 keyLength Ta81 = 10
 keyLength Ta91 = 12
 
-abbrev pub highestNumber : Kind → ℕ
+abbrev pub highestNumber : Algorithm → ℕ
 highestNumber Ta31 = 0
 highestNumber Ta51 = 31
 highestNumber Ta81 = 65535
@@ -54,24 +61,31 @@ key10 s v = exp4 (xors 10 (repeated 10 v) s)
 unfoldable pub key16 : List ℕ → List ℕ → List ℕ
 key16 s v = xors 16 (repeated 16 v) s
 
--- ---- the form of a kind
+-- ---- the form of an algorithm
 
--- input: a body to BL1's data input, 16 bytes that end in a zero byte. shrink: BL2's output, 15 bytes, to a body. clear: each of
--- the inserted bytes is the ⊕ of its group, and kind 2's number byte is below 32. fault: 0, or the refusal of a body that may not
--- be sealed. key: sealing key and version to the core's key
+-- input: a body to BL1's data input, 16 bytes that end in a zero byte. shrink: BL2's output, 15 bytes, to a body. found, wanted: what
+-- the check finds in BL2's output, leftmost first, and what should stand there: each inserted byte and the ⊕ of its group, and of kind
+-- 2's number byte the top three bits and zero. fault: 0, or the refusal of a body that may not be sealed. key: sealing key and version
+-- to the core's key
 pub record Form : Type 0 where
   pub input : List ℕ → List ℕ
   pub shrink : List ℕ → List ℕ
-  pub clear : List ℕ → Bool
+  pub found : List ℕ → List ℕ
+  pub wanted : List ℕ → List ℕ
   pub fault : List ℕ → ℕ
   pub key : List ℕ → List ℕ → List ℕ
+
+-- the check: nothing else is found than what is wanted
+abbrev pub clear : Form → List ℕ → Bool
+clear F u = same (F .found u) (F .wanted u)
 
 -- EXP1 of the key, then a zero byte
 abbrev pub form31 : Form
 form31 = record {
   input = λ b. exp1 b ++ 0 ∷ [];
   shrink = λ u. shr1 u ++ 0 ∷ 0 ∷ [];
-  clear = λ u. same (inserted exp1Groups 0 u) (expected exp1Groups 0 u);
+  found = λ u. inserted exp1Groups 0 u;
+  wanted = λ u. expected exp1Groups 0 u;
   fault = λ b. first ((eqb (b ! 10) 0 && eqb (b ! 11) 0, notZero) ∷ []);
   key = key10;
 }
@@ -81,7 +95,8 @@ abbrev pub form51 : Form
 form51 = record {
   input = λ b. exp3 (part 0 10 b ++ b ! 11 ∷ []) ++ 0 ∷ [];
   shrink = λ u. part 0 10 (shr2 u) ++ 0 ∷ shr2 u ! 10 % 32 ∷ [];
-  clear = λ u. same (inserted exp3Groups 0 u) (expected exp3Groups 0 u) && ltb (u ! 13) 32;
+  found = λ u. inserted exp3Groups 0 u ++ u ! 13 / 32 ∷ [];
+  wanted = λ u. expected exp3Groups 0 u ++ 0 ∷ [];
   fault = λ b. first ((eqb (b ! 10) 0, notZero) ∷ (leb (b ! 11) (highestNumber Ta51), wrongNumber) ∷ []);
   key = key16;
 }
@@ -91,18 +106,23 @@ abbrev pub form81 : Form
 form81 = record {
   input = λ b. x16 b;
   shrink = λ u. ungrouped x16Groups 0 u;
-  clear = λ u. same (inserted x16Groups 0 u) (expected x16Groups 0 u);
+  found = λ u. inserted x16Groups 0 u;
+  wanted = λ u. expected x16Groups 0 u;
   fault = λ b. 0;
   key = key16;
 }
 
-abbrev pub form : Kind → Form
-form Ta31 = form31
-form Ta51 = form51
-form Ta81 = form81
-form Ta91 = form81
+abbrev pub formOf : Algorithm → Form
+formOf Ta31 = form31
+formOf Ta51 = form51
+formOf Ta81 = form81
+formOf Ta91 = form81
 
--- ---- sealing, by a kind's form
+-- the form of a kind
+abbrev pub form : Kind → Form
+form k = formOf (k .algorithm)
+
+-- ---- sealing, by a form
 
 -- a sealed text leaves out byte 8 of sixteen, the eighth from the left; unsealing takes a zero byte in its place
 abbrev pub without8 : List ℕ → List ℕ
@@ -126,7 +146,7 @@ unfoldable pub unseal : Form → List ℕ → List ℕ → List ℕ → List ℕ
 unseal F s v t = F .shrink (opened (F .key s v) t)
 
 unfoldable pub clears : Form → List ℕ → List ℕ → List ℕ → Bool
-clears F s v t = F .clear (opened (F .key s v) t)
+clears F s v t = clear F (opened (F .key s v) t)
 
 -- ---- the bodies of single keys
 

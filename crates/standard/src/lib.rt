@@ -1,8 +1,50 @@
 // What the calls take and answer with. An answer's first field is 0, or the number of the refusal; on a refusal every other field is
 // zero.
+ghost use mathlib.Core.List.{[], _∷_};
 ghost use mathlib.Core.Path.{_≡_};
-ghost use Rattle.standard.specs.Bytes.{zeros};
-ghost use Rattle.standard.specs.Seals.{kindOf, keyLength, highestNumber};
+ghost use Prim.Native.Nat.{_+_, _*_};
+ghost use Rattle.standard.specs.Bytes.{zeros, bytesOf};
+ghost use Rattle.standard.specs.Sizes.{ringSize};
+ghost use Rattle.standard.specs.Seals.{kind, kindOf, keyLength, highestNumber};
+
+// Sizes in bytes: a ring, a plain and a sealed record, a sitting's file; and the most records of a list.
+pub const RING: usize = 36;
+
+pub const PLAIN_RECORD: usize = 18;
+
+pub const SEALED_RECORD: usize = 21;
+
+pub const SITTING: usize = 70;
+
+pub const MOST_RECORDS: usize = 1024;
+
+// The refusals: the candidate's, the setter's, the host's.
+pub const BOOK_TOO_LONG: u32 = 1;
+
+pub const BOOK_NOT_WHOLE: u32 = 2;
+
+pub const WRONG_KIND: u32 = 3;
+
+pub const NOT_ZERO: u32 = 4;
+
+pub const WRONG_NUMBER: u32 = 5;
+
+pub const FLAG_SET: u32 = 6;
+
+pub const WRONG_MASK: u32 = 7;
+
+pub const SHARED_BIT: u32 = 8;
+
+pub const WRONG_WIDTH: u32 = 9;
+
+pub const VALUE_WIDE: u32 = 10;
+
+pub const WRONG_LENGTH: u32 = 11;
+
+pub const OUTPUT_SHORT: u32 = 12;
+
+// A ring's bytes, after their length was tested.
+pub type RingBytes = [u8; RING];
 
 // A version number, which is never taken for a key number.
 #[repr(C)]
@@ -92,7 +134,7 @@ pub struct RingInputs {
 #[repr(C)]
 pub struct RingMade {
     pub refusal: u32,
-    pub ring: [u8; 36],
+    pub ring: RingBytes,
     pub response1: [u8; 4],
     pub response2: [u8; 4],
 }
@@ -112,12 +154,24 @@ pub struct TextAnswer {
     pub written: usize,
 }
 
-// The kinds of sealed key, named by the algorithm that seals them.
-pub enum Kind {
+// The algorithms that seal a key, each with its inverse.
+pub enum Algorithm {
     Ta31,
     Ta51,
     Ta81,
     Ta91,
+}
+
+// The keys of a ring that seal.
+pub enum RingKey {
+    D,
+    O,
+}
+
+// The kind of a record: the algorithm that seals its key, and the key of the ring that it is sealed under.
+pub struct Kind {
+    pub algorithm: Algorithm,
+    pub under: RingKey,
 }
 
 // What a kind byte names.
@@ -146,36 +200,44 @@ impl Kind {
         ensures { λ r. ⌜ r ≡ kindOf b ⌝ }
     {
         match b {
-            1 => Named::Known(Kind::Ta31),
-            2 => Named::Known(Kind::Ta51),
-            3 => Named::Known(Kind::Ta81),
-            4 => Named::Known(Kind::Ta91),
+            1 => known(Algorithm::Ta31, RingKey::D),
+            2 => known(Algorithm::Ta51, RingKey::O),
+            3 => known(Algorithm::Ta81, RingKey::O),
+            4 => known(Algorithm::Ta91, RingKey::O),
             _ => Named::Unknown,
         }
     }
 
     pub fn key_length(self) -> usize
-        ensures { λ r. ⌜ r ≡ keyLength self ⌝ }
+        ensures { λ r. ⌜ r ≡ keyLength (self .algorithm) ⌝ }
     {
-        match self {
-            Kind::Ta31 => Self::CIPHER_KEY,
-            Kind::Ta51 => Self::CIPHER_KEY,
-            Kind::Ta81 => Self::CIPHER_KEY,
-            Kind::Ta91 => Self::GROUP_KEY,
+        let algorithm = self.algorithm;
+        match algorithm {
+            Algorithm::Ta31 => Self::CIPHER_KEY,
+            Algorithm::Ta51 => Self::CIPHER_KEY,
+            Algorithm::Ta81 => Self::CIPHER_KEY,
+            Algorithm::Ta91 => Self::GROUP_KEY,
         }
     }
 
     // The highest key number; 0 where the kind has none.
     pub fn highest_number(self) -> u16
-        ensures { λ r. ⌜ r ≡ highestNumber self ⌝ }
+        ensures { λ r. ⌜ r ≡ highestNumber (self .algorithm) ⌝ }
     {
-        match self {
-            Kind::Ta31 => 0,
-            Kind::Ta51 => Self::TA51_HIGHEST,
-            Kind::Ta81 => Self::TA81_HIGHEST,
-            Kind::Ta91 => 0,
+        let algorithm = self.algorithm;
+        match algorithm {
+            Algorithm::Ta31 => 0,
+            Algorithm::Ta51 => Self::TA51_HIGHEST,
+            Algorithm::Ta81 => Self::TA81_HIGHEST,
+            Algorithm::Ta91 => 0,
         }
     }
+}
+
+fn known(algorithm: Algorithm, under: RingKey) -> Named
+    ensures { λ r. ⌜ r ≡ kind algorithm under ⌝ }
+{
+    Named::Known(Kind { algorithm, under })
 }
 
 // What a refused call answers.
@@ -198,12 +260,19 @@ pub fn refused16(number: u32) -> Bytes16
 }
 
 pub fn refused_ring(number: u32) -> RingMade
-    ensures { λ r. ⌜ r ≡ record { refusal = number; ring = zeros 36; response1 = zeros 4; response2 = zeros 4 } ⌝ }
+    ensures { λ r. ⌜ r ≡ record { refusal = number; ring = zeros ringSize; response1 = zeros 4; response2 = zeros 4 } ⌝ }
 {
     RingMade {
         refusal: number,
-        ring: [0; 36],
+        ring: [0; RING],
         response1: [0; 4],
         response2: [0; 4],
     }
+}
+
+// The number that two bytes spell, the high one first.
+pub fn pair(high: u8, low: u8) -> u16
+    ensures { λ r. ⌜ (r ≡ 256 * high + low) × (bytesOf 2 r ≡ high ∷ low ∷ []) ⌝ }
+{
+    256 * (high as u16) + (low as u16)
 }

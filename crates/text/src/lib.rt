@@ -1,5 +1,6 @@
 // Text in the making: fixed words and numbers, put together in a line, and a line put into an output.
 use arrays::copy;
+use standard::OUTPUT_SHORT;
 use standard::TextAnswer;
 ghost use mathlib.Core.List.{[], _∷_};
 ghost use mathlib.Core.Path.{_≡_};
@@ -123,7 +124,7 @@ impl Line {
     {
         if out.len() < self.size() {
             return TextAnswer {
-                refusal: 12,
+                refusal: OUTPUT_SHORT,
                 written: 0,
             };
         }

@@ -1,7 +1,7 @@
-// The forms of the kinds: BL1's data input from a body of 12 bytes, and the check and the body of BL2's 15 bytes.
-use standard::Kind;
+// The forms of the algorithms: BL1's data input from a body of 12 bytes, and the check and the body of BL2's 15 bytes.
+use standard::Algorithm;
 ghost use mathlib.Core.Path.{_≡_};
-ghost use Rattle.standard.specs.Seals.{form, form31, form51, form81};
+ghost use Rattle.standard.specs.Seals.{clear, formOf, form31, form51, form81};
 
 fn input31(b: [u8; 12]) -> [u8; 16]
     ensures { λ r. ⌜ r ≡ form31 .input b ⌝ }
@@ -72,14 +72,14 @@ fn input81(b: [u8; 12]) -> [u8; 16]
     ]
 }
 
-pub(crate) fn input_of(kind: Kind, b: [u8; 12]) -> [u8; 16]
-    ensures { λ r. ⌜ r ≡ form kind .input b ⌝ }
+pub(crate) fn input_of(algorithm: Algorithm, b: [u8; 12]) -> [u8; 16]
+    ensures { λ r. ⌜ r ≡ formOf algorithm .input b ⌝ }
 {
-    match kind {
-        Kind::Ta31 => input31(b),
-        Kind::Ta51 => input51(b),
-        Kind::Ta81 => input81(b),
-        Kind::Ta91 => input81(b),
+    match algorithm {
+        Algorithm::Ta31 => input31(b),
+        Algorithm::Ta51 => input51(b),
+        Algorithm::Ta81 => input81(b),
+        Algorithm::Ta91 => input81(b),
     }
 }
 
@@ -140,19 +140,19 @@ fn body81(u: [u8; 15]) -> [u8; 12]
     ]
 }
 
-pub(crate) fn body_of(kind: Kind, u: [u8; 15]) -> [u8; 12]
-    ensures { λ r. ⌜ r ≡ form kind .shrink u ⌝ }
+pub(crate) fn body_of(algorithm: Algorithm, u: [u8; 15]) -> [u8; 12]
+    ensures { λ r. ⌜ r ≡ formOf algorithm .shrink u ⌝ }
 {
-    match kind {
-        Kind::Ta31 => body31(u),
-        Kind::Ta51 => body51(u),
-        Kind::Ta81 => body81(u),
-        Kind::Ta91 => body81(u),
+    match algorithm {
+        Algorithm::Ta31 => body31(u),
+        Algorithm::Ta51 => body51(u),
+        Algorithm::Ta81 => body81(u),
+        Algorithm::Ta91 => body81(u),
     }
 }
 
 fn clear31(u: [u8; 15]) -> bool
-    ensures { λ r. ⌜ r ≡ form31 .clear u ⌝ }
+    ensures { λ r. ⌜ r ≡ clear form31 u ⌝ }
 {
     (u[2] == u[0] ^ u[1])
         & (u[5] == u[3] ^ u[4])
@@ -162,30 +162,30 @@ fn clear31(u: [u8; 15]) -> bool
 }
 
 fn clear51(u: [u8; 15]) -> bool
-    ensures { λ r. ⌜ r ≡ form51 .clear u ⌝ }
+    ensures { λ r. ⌜ r ≡ clear form51 u ⌝ }
 {
     (u[2] == u[0] ^ u[1])
         & (u[6] == u[3] ^ u[4] ^ u[5])
         & (u[10] == u[7] ^ u[8] ^ u[9])
         & (u[14] == u[11] ^ u[12] ^ u[13])
-        & (u[13] < 32)
+        & (u[13] / 32 == 0)
 }
 
 fn clear81(u: [u8; 15]) -> bool
-    ensures { λ r. ⌜ r ≡ form81 .clear u ⌝ }
+    ensures { λ r. ⌜ r ≡ clear form81 u ⌝ }
 {
     (u[4] == u[0] ^ u[1] ^ u[2] ^ u[3])
         & (u[9] == u[5] ^ u[6] ^ u[7] ^ u[8])
         & (u[14] == u[10] ^ u[11] ^ u[12] ^ u[13])
 }
 
-pub(crate) fn is_clear(kind: Kind, u: [u8; 15]) -> bool
-    ensures { λ r. ⌜ r ≡ form kind .clear u ⌝ }
+pub(crate) fn is_clear(algorithm: Algorithm, u: [u8; 15]) -> bool
+    ensures { λ r. ⌜ r ≡ clear (formOf algorithm) u ⌝ }
 {
-    match kind {
-        Kind::Ta31 => clear31(u),
-        Kind::Ta51 => clear51(u),
-        Kind::Ta81 => clear81(u),
-        Kind::Ta91 => clear81(u),
+    match algorithm {
+        Algorithm::Ta31 => clear31(u),
+        Algorithm::Ta51 => clear51(u),
+        Algorithm::Ta81 => clear81(u),
+        Algorithm::Ta91 => clear81(u),
     }
 }

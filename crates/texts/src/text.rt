@@ -5,12 +5,12 @@ use crate::forms::is_clear;
 use cores::bl1;
 use cores::bl2;
 use cores::exp4;
-use standard::Kind;
+use standard::Algorithm;
 use standard::Version;
 ghost use mathlib.Core.Bool.{not};
 ghost use mathlib.Core.Path.{_≡_};
 ghost use Rattle.standard.specs.Bytes.{bytesOf, xors};
-ghost use Rattle.standard.specs.Seals.{form, sealed as sealedOf, opened as openedOf, key10 as key10Of, key16 as key16Of, repeated, without8 as without8Of, with8 as with8Of};
+ghost use Rattle.standard.specs.Seals.{clear, formOf, sealed as sealedOf, opened as openedOf, key10 as key10Of, key16 as key16Of, repeated, without8 as without8Of, with8 as with8Of};
 ghost use Rattle.texts.specs.Steps.{Opened as OpenedOf};
 
 // The version's two bytes, the high one first.
@@ -121,10 +121,10 @@ fn with8(t: [u8; 15]) -> [u8; 16]
 }
 
 // The sealed text of a body.
-pub fn seal_body(kind: Kind, key: [u8; 16], body: [u8; 12]) -> [u8; 15]
-    ensures { λ r. ⌜ r ≡ sealedOf (form kind) key body ⌝ }
+pub fn seal_body(algorithm: Algorithm, key: [u8; 16], body: [u8; 12]) -> [u8; 15]
+    ensures { λ r. ⌜ r ≡ sealedOf (formOf algorithm) key body ⌝ }
 {
-    without8(bl1(key, input_of(kind, body)))
+    without8(bl1(key, input_of(algorithm, body)))
 }
 
 // The body of a sealed text, and its flag.
@@ -133,19 +133,19 @@ pub struct Opened {
     pub flag: bool,
 }
 
-pub fn open_text(kind: Kind, key: [u8; 16], text: [u8; 15]) -> Opened
-    ensures { λ r. ⌜ OpenedOf (form kind) (openedOf key text) (r .body) (r .flag) ⌝ }
+pub fn open_text(algorithm: Algorithm, key: [u8; 16], text: [u8; 15]) -> Opened
+    ensures { λ r. ⌜ OpenedOf (formOf algorithm) (openedOf key text) (r .body) (r .flag) ⌝ }
 {
     let u = bl2(key, with8(text));
     Opened {
-        body: body_of(kind, u),
-        flag: !is_clear(kind, u),
+        body: body_of(algorithm, u),
+        flag: !is_clear(algorithm, u),
     }
 }
 
 // The flag alone.
-pub fn flag_of(kind: Kind, key: [u8; 16], text: [u8; 15]) -> bool
-    ensures { λ r. ⌜ r ≡ not (form kind .clear (openedOf key text)) ⌝ }
+pub fn flag_of(algorithm: Algorithm, key: [u8; 16], text: [u8; 15]) -> bool
+    ensures { λ r. ⌜ r ≡ not (clear (formOf algorithm) (openedOf key text)) ⌝ }
 {
-    !is_clear(kind, bl2(key, with8(text)))
+    !is_clear(algorithm, bl2(key, with8(text)))
 }

@@ -1,30 +1,27 @@
 -- `books::book_call` meets its contract.
 -- Assumes nothing.
-use mathlib.Core.List.{List, _++_}
-use mathlib.Core.Path.{_≡_, sym, ap, _∙_}
-use Prim.Native.Nat.{ℕ, _+_, _*_, _/_, _%_, _<_, _≤_}
-use native.Mathlib.Nat.{div-add-mod}
+use mathlib.Core.Path.{_≡_, _∙_}
+use Prim.Native.Nat.{_*_, _/_, _≤_}
 use native.Mathlib.Omega.{arith}
-use lib.ListN.{length, drop}
+use lib.ListN.{length}
 use denote.Ref.{now}
 use borrow.Author.Needs.{needs}
-use Rattle.books.proofs.CallLaws.{Fine, fine, call-head, call-stop, call-done}
-use Rattle.books.specs.Steps.{sizeOf, toOf, headOf, wayOf, faultAt, recordOf, Stopped}
-use Rattle.books.specs.declared.walk.Direction.the-variants.{Sealing, Opening}
-use Rattle.books.specs.declared.walk.Direction.{Direction}
+use Rattle.books.proofs.CallLaws.{ring-refused, lengths-refused, record-refused, all-written, room}
+use Rattle.books.proofs.WayLaws.{sizes}
+use Rattle.books.specs.Steps.{sizeOf}
+use Rattle.lists.proofs.LengthLaws.{records-within}
 use Rattle.standard.proofs.BytesLaws.{spelled}
-use Rattle.standard.specs.Books.{each}
-use Rattle.standard.specs.Bytes.{_!_, table}
+use Rattle.standard.specs.Sizes.{ringSize}
 use Rattle.books.proofs.book_call.Statement.{statement}
 use Rattle.books.proofs.book_call.Tie as tie
 
-sizes : (w : Direction) → (0 < sizeOf w) × (sizeOf w ≤ 21) × (toOf w ≤ 21)
-sizes Sealing = omega arith
-sizes Opening = omega arith
+refused-requires : tie.Need-refused-requires
+refused-requires c κs = search needs
 
--- whole records lie within the book
-whole : (w : ℕ) (xs : List ℕ) → w * (length xs / w) ≤ length xs
-whole w xs = omega (arith, div-add-mod (length xs) w)
+returns : tie.Need-returns
+returns c =
+    let x = c .before .before .before .before .before .args in
+    rw (c .refused .ensures) (ring-refused (now (x .ring)) (x .way) (now (x .book)) (now (x .out)) (c .before .if1 .taken))
 
 size-requires : tie.Need-size-requires
 size-requires c κs = search needs
@@ -32,113 +29,113 @@ size-requires c κs = search needs
 to-requires : tie.Need-to-requires
 to-requires c κs = search needs
 
-head-requires : tie.Need-head-requires
-head-requires c κs =
-    let z = sizes (c .before .before .before .before .before .args .way) in
-    omega (arith, z .0, z .1, z .2, c .before .size .ensures, c .to .ensures)
-
-refused-requires : tie.Need-refused-requires
-refused-requires c κs = search needs
-
-returns : tie.Need-returns
-returns c =
-    let lens = c .before .before in
-    let to = lens .before in
-    let size = to .before in
-    let x = size .before .before .before .before .args in
-    let h = rw (size .size .ensures, to .to .ensures) at (lens .head .ensures) in
-    rw (c .refused .ensures) (call-head (wayOf (now (x .ring)) (x .way)) (now (x .ring)) (now (x .book)) (now (x .out)) _ h (c .before .if1 .taken))
-
-array36-requires : tie.Need-array36-requires
-array36-requires c κs = search needs
-
-div-n : tie.Need-div-n
-div-n c =
-    let size = c .before .before .before .before in
-    omega (arith, sizes (size .before .before .before .before .args .way) .0, size .size .ensures)
-
-scan-requires : tie.Need-scan-requires
-scan-requires c κs =
-    let size = c .before .before .before .before .before in
-    rw (size .size .ensures) (whole (sizeOf (size .before .before .before .before .args .way)) (now (size .before .before .before .before .args .book)))
+lengths-and-output-requires : tie.Need-lengths-and-output-requires
+lengths-and-output-requires c κs = search needs
 
 refused-requires-2 : tie.Need-refused-requires-2
 refused-requires-2 c κs = search needs
 
 returns-2 : tie.Need-returns-2
 returns-2 c =
+    let lens = c .before .before in
+    let size = lens .before .before in
+    let x = size .before .before .before .before .before .args in
+    let e = rw (size .size .ensures, lens .before .to .ensures) at (lens .lengths-and-output .ensures) in
+    rw (c .refused2 .ensures) (lengths-refused (now (x .ring)) (x .way) (now (x .book)) (now (x .out)) (size .before .if1 .left) _ e (c .before .if2 .taken))
+
+ring-bytes-requires : tie.Need-ring-bytes-requires
+ring-bytes-requires c κs = search needs
+
+cast-n : tie.Need-cast-n
+cast-n c = search needs
+
+div-n : tie.Need-div-n
+div-n c =
+    let size = c .before .before .before .before in
+    omega (arith, sizes (size .before .before .before .before .before .args .way) .0, size .size .ensures)
+
+scan-requires : tie.Need-scan-requires
+scan-requires c κs =
+    let size = c .before .before .before .before .before in
+    let x = size .before .before .before .before .before .args in
+    rw (size .size .ensures) (records-within (sizeOf (x .way)) (length (now (x .book))))
+
+refused-requires-3 : tie.Need-refused-requires-3
+refused-requires-3 c κs = search needs
+
+returns-3 : tie.Need-returns-3
+returns-3 c =
     let found = c .before .before .before in
     let ring = found .before .before in
     let lens = ring .before .before in
-    let to = lens .before in
-    let size = to .before in
-    let x = size .before .before .before .before .args in
-    let h = rw (size .size .ensures, to .to .ensures) at (lens .head .ensures) in
-    let z = ring .before .if1 .left in
-    let f : Fine (sizeOf (x .way)) (toOf (x .way)) (length (now (x .ring))) (length (now (x .book))) (length (now (x .out))) = fine _ _ _ _ _ (sym h ∙ z) in
-    let keys = ring .array36 .ensures ∙ spelled 36 (now (x .ring)) (f .right) in
-    let stopped = rw (keys, size .size .ensures) at (found .scan .ensures) in
-    rw (c .refused2 .ensures) (call-stop (wayOf (now (x .ring)) (x .way)) (now (x .ring)) (now (x .book)) (now (x .out)) _ h z _ _ stopped (c .before .if2 .taken))
+    let size = lens .before .before in
+    let x = size .before .before .before .before .before .args in
+    let h : length (now (x .ring)) ≡ ringSize = size .before .if1 .left in
+    let e = rw (size .size .ensures, lens .before .to .ensures) at (lens .lengths-and-output .ensures) in
+    let keys = ring .ring-bytes .ensures ∙ spelled ringSize (now (x .ring)) h in
+    rw (c .refused3 .ensures)
+    (record-refused (now (x .ring)) (x .way) (now (x .book)) (now (x .out)) h _ e (ring .before .if2 .left) _ _ (rw (keys, size .size .ensures) at (found .scan .ensures)) (c .before .if3 .taken))
 
 write-requires : tie.Need-write-requires
 write-requires c κs =
     let lens = c .before .before .before .before .before .before .before .before in
-    let to = lens .before in
-    let size = to .before in
-    let x = size .before .before .before .before .args in
-    let h = rw (size .size .ensures, to .to .ensures) at (lens .head .ensures) in
-    let f : Fine (sizeOf (x .way)) (toOf (x .way)) (length (now (x .ring))) (length (now (x .book))) (length (now (x .out))) =
-    fine _ _ _ _ _ (sym h ∙ c .before .before .before .before .before .before .before .if1 .left) in
-    (rw (size .size .ensures) (whole (sizeOf (x .way)) (now (x .book))), rw (size .size .ensures) (f .room))
+    let size = lens .before .before in
+    let x = size .before .before .before .before .before .args in
+    let e = rw (size .size .ensures, lens .before .to .ensures) at (lens .lengths-and-output .ensures) in
+    rw (size .size .ensures)
+    (records-within (sizeOf (x .way)) (length (now (x .book))), room (now (x .ring)) (x .way) (now (x .book)) (now (x .out)) (size .before .if1 .left) _ e (c .before .before .before .before .before .before .before .if2 .left))
 
-mul-t12 : tie.Need-mul-t12
-mul-t12 c =
+cast-t11 : tie.Need-cast-t11
+cast-t11 c = search needs
+
+mul-t13 : tie.Need-mul-t13
+mul-t13 c =
     let lens = c .before .before .before .before .before .before .before .before .before .before .before in
-    let to = lens .before in
-    let size = to .before in
-    let start = size .before .before .before .before in
+    let size = lens .before .before in
+    let start = size .before .before .before .before .before in
     let x = start .args in
-    let h = rw (size .size .ensures, to .to .ensures) at (lens .head .ensures) in
-    let f : Fine (sizeOf (x .way)) (toOf (x .way)) (length (now (x .ring))) (length (now (x .book))) (length (now (x .out))) =
-    fine _ _ _ _ _ (sym h ∙ c .before .before .before .before .before .before .before .before .before .before .if1 .left) in
-    let room : to .to .result * (length (now (x .book)) / size .size .result) ≤ length (now (x .out)) = rw (to .to .ensures, size .size .ensures) (f .room) in
-    omega (arith, room, start .good)
+    let e = rw (size .size .ensures, lens .before .to .ensures) at (lens .lengths-and-output .ensures) in
+    let r = room (now (x .ring)) (x .way) (now (x .book)) (now (x .out)) (size .before .if1 .left) _ e (c .before .before .before .before .before .before .before .before .before .before .if2 .left) in
+    let fits : lens .before .to .result * (length (now (x .book)) / size .size .result) ≤ length (now (x .out)) = rw (lens .before .to .ensures, size .size .ensures) r in
+    omega (arith, fits, start .good)
 
 same-length : tie.Need-same-length
 same-length c = search needs
 
-returns-3 : tie.Need-returns-3
-returns-3 c =
+returns-4 : tie.Need-returns-4
+returns-4 c =
     let found = c .before .before .before .before .before .before .before in
     let ring = found .before .before in
     let lens = ring .before .before in
-    let to = lens .before in
-    let size = to .before in
-    let x = size .before .before .before .before .args in
-    let h = rw (size .size .ensures, to .to .ensures) at (lens .head .ensures) in
-    let z = ring .before .if1 .left in
-    let f : Fine (sizeOf (x .way)) (toOf (x .way)) (length (now (x .ring))) (length (now (x .book))) (length (now (x .out))) = fine _ _ _ _ _ (sym h ∙ z) in
-    let keys = ring .array36 .ensures ∙ spelled 36 (now (x .ring)) (f .right) in
+    let size = lens .before .before in
+    let x = size .before .before .before .before .before .args in
+    let h : length (now (x .ring)) ≡ ringSize = size .before .if1 .left in
+    let e = rw (size .size .ensures, lens .before .to .ensures) at (lens .lengths-and-output .ensures) in
+    let keys = ring .ring-bytes .ensures ∙ spelled ringSize (now (x .ring)) h in
     let stopped = rw (keys, size .size .ensures) at (found .scan .ensures) in
     let written = rw (keys, size .size .ensures) at (c .before .before .write .ensures) in
-    rw (to .to .ensures, size .size .ensures)
-    (call-done (wayOf (now (x .ring)) (x .way)) (now (x .ring)) (now (x .book)) (now (x .out)) _ h z (stopped .none (c .before .before .before .before .before .if2 .left)) _ written)
+    rw (lens .before .to .ensures, size .size .ensures)
+    (all-written (now (x .ring)) (x .way) (now (x .book)) (now (x .out)) h _ e (ring .before .if2 .left) (stopped .none (c .before .before .before .before .before .if3 .left)) _ written)
 
 pub book-call-spec : {M : Type 1} → statement M
 book-call-spec =
     tie.close
     (tie.spec
-    size-requires
-    to-requires
-    head-requires
     refused-requires
     returns
-    array36-requires
-    div-n
-    scan-requires
+    size-requires
+    to-requires
+    lengths-and-output-requires
     refused-requires-2
     returns-2
+    ring-bytes-requires
+    cast-n
+    div-n
+    scan-requires
+    refused-requires-3
+    returns-3
     write-requires
-    mul-t12
+    cast-t11
+    mul-t13
     same-length
-    returns-3)
+    returns-4)

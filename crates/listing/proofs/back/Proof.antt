@@ -7,10 +7,10 @@ use Rattle.listing.proofs.back.Statement.{statement}
 use Rattle.listing.proofs.back.Tie as tie
 
 add-end : tie.Need-add-end
-add-end c = omega (arith, key-short (c .before .before .args .kind), c .key-length .ensures)
+add-end c = omega (arith, key-short (c .before .before .args .kind .algorithm), c .key-length .ensures)
 
 part-hex-end : tie.Need-part-hex-end
-part-hex-end c = omega (arith, key-short (c .before .before .before .before .args .kind), c .before .before .key-length .ensures)
+part-hex-end c = omega (arith, key-short (c .before .before .before .before .args .kind .algorithm), c .before .before .key-length .ensures)
 
 returns : tie.Need-returns
 returns c =

@@ -7,7 +7,7 @@ use native.Mathlib.Omega.{arith}
 use lib.ListN.{length, take, drop, length-take, length-drop}
 use denote.Ref.{now}
 use borrow.Author.Needs.{needs}
-use Rattle.books.proofs.WalkLaws.{lent}
+use Rattle.lists.proofs.WalkLaws.{lent}
 use Rattle.listing.proofs.ListLaws.{entry-short, lines-short, lines-none, lines-next}
 use Rattle.standard.specs.Listing.{entryLine, entryLines}
 use Rattle.text.proofs.LineLaws.{put-length, put-keeps}

@@ -6,13 +6,14 @@ use native.Mathlib.Omega.{arith}
 use lib.ListN.{length}
 use borrow.Author.Needs.{needs}
 use Rattle.programs.proofs.ReadLaws.{no-ring}
+use Rattle.standard.specs.Sizes.{ringSize}
 use Rattle.programs.proofs.read_ring.Statement.{statement}
 use Rattle.programs.proofs.read_ring.Tie as tie
 
 returns-4 : tie.Need-returns-4
 returns-4 c =
     let read = c .before .before .before .read-argument in
-    let n : length (read .last .1 .0) ≡ 36 = search needs in
+    let n : length (read .last .1 .0) ≡ ringSize = search needs in
     record { filled = λ _. omega (arith, read .ensures .counts .0, c .if3 .left); none = λ e. absurd (true≢false (sym e)) }
 
 pub read-ring-spec : {M : Type 1} → statement M

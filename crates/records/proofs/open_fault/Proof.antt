@@ -9,7 +9,7 @@ use borrow.Author.Needs.{needs}
 use Rattle.records.proofs.StepLaws.{named-by, open-unknown, open-set, open-clear}
 use Rattle.standard.specs.Books.{sealingKey}
 use Rattle.standard.specs.Bytes.{_!_, part}
-use Rattle.standard.specs.Seals.{form, opened}
+use Rattle.standard.specs.Seals.{clear, form, opened}
 use Rattle.records.proofs.open_fault.Statement.{statement}
 use Rattle.records.proofs.open_fault.Tie as tie
 
@@ -37,11 +37,8 @@ returns c =
     open-unknown (now (x .ring)) t
     (named-by t (copy .array21 .result) (ap (λ (y : List ℕ). y ! 0) (copy .array21 .ensures)) (found .from-byte .ensures) ∙ c .enum-told .given .1)
 
-array-read-version-of : tie.Need-array-read-version-of
-array-read-version-of c = search needs
-
-array-read-version-of-2 : tie.Need-array-read-version-of-2
-array-read-version-of-2 c = search needs
+sealed-head-requires : tie.Need-sealed-head-requires
+sealed-head-requires c κs = search needs
 
 version-of-requires : tie.Need-version-of-requires
 version-of-requires c κs = search needs
@@ -59,7 +56,7 @@ returns-2 : tie.Need-returns-2
 returns-2 c =
     let flag = c .before in
     let core = flag .before .before in
-    let known = core .before .before .before in
+    let known = core .before .before .before .before in
     let found = known .before .before in
     let copy = found .before in
     let x = copy .before .before .args in
@@ -67,8 +64,8 @@ returns-2 c =
     let k = known .kind .given .0 .0 in
     let e = named-by t (copy .array21 .result) (ap (λ (y : List ℕ). y ! 0) (copy .array21 .ensures)) (found .from-byte .ensures) ∙ known .kind .given .1 in
     let q : core .core-key .result ≡ form k .key (sealingKey k (now (x .ring))) (part 4 2 t) =
-    core .core-key .ensures ∙ rw (core .before .version-of .ensures, copy .array21 .ensures) in
-    let f : not (form k .clear (opened (core .core-key .result) (part 6 15 t))) ≡ true =
+    core .core-key .ensures ∙ rw (core .before .version-of .ensures, core .before .before .sealed-head .ensures, copy .array21 .ensures) in
+    let f : not (clear (form k) (opened (core .core-key .result) (part 6 15 t))) ≡ true =
     sym (rw (flag .before .text-part .ensures, copy .array21 .ensures) at (flag .flag-of .ensures)) ∙ c .if1 .taken in
     open-set (now (x .ring)) t k e (core .core-key .result) q f
 
@@ -76,7 +73,7 @@ returns-3 : tie.Need-returns-3
 returns-3 c =
     let flag = c .before in
     let core = flag .before .before in
-    let known = core .before .before .before in
+    let known = core .before .before .before .before in
     let found = known .before .before in
     let copy = found .before in
     let x = copy .before .before .args in
@@ -84,8 +81,8 @@ returns-3 c =
     let k = known .kind .given .0 .0 in
     let e = named-by t (copy .array21 .result) (ap (λ (y : List ℕ). y ! 0) (copy .array21 .ensures)) (found .from-byte .ensures) ∙ known .kind .given .1 in
     let q : core .core-key .result ≡ form k .key (sealingKey k (now (x .ring))) (part 4 2 t) =
-    core .core-key .ensures ∙ rw (core .before .version-of .ensures, copy .array21 .ensures) in
-    let f : not (form k .clear (opened (core .core-key .result) (part 6 15 t))) ≡ false =
+    core .core-key .ensures ∙ rw (core .before .version-of .ensures, core .before .before .sealed-head .ensures, copy .array21 .ensures) in
+    let f : not (clear (form k) (opened (core .core-key .result) (part 6 15 t))) ≡ false =
     sym (rw (flag .before .text-part .ensures, copy .array21 .ensures) at (flag .flag-of .ensures)) ∙ c .if1 .left in
     open-clear (now (x .ring)) t k e (core .core-key .result) q f
 
@@ -99,8 +96,7 @@ open-fault-spec =
     enum-known-kind
     enum-told
     returns
-    array-read-version-of
-    array-read-version-of-2
+    sealed-head-requires
     version-of-requires
     core-key-requires
     text-part-requires

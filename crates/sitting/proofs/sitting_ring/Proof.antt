@@ -32,23 +32,23 @@ ten-requires-4 c κs = search needs
 ten-requires-5 : tie.Need-ten-requires-5
 ten-requires-5 c κs = search needs
 
-shared-slice-read-mask : tie.Need-shared-slice-read-mask
-shared-slice-read-mask c = search needs
+shared-slice-read-pair : tie.Need-shared-slice-read-pair
+shared-slice-read-pair c = search needs
 
-shared-slice-read-mask-2 : tie.Need-shared-slice-read-mask-2
-shared-slice-read-mask-2 c = search needs
+shared-slice-read-pair-2 : tie.Need-shared-slice-read-pair-2
+shared-slice-read-pair-2 c = search needs
 
-mask-requires : tie.Need-mask-requires
-mask-requires c κs = search needs
+pair-requires : tie.Need-pair-requires
+pair-requires c κs = search needs
 
-shared-slice-read-mask-3 : tie.Need-shared-slice-read-mask-3
-shared-slice-read-mask-3 c = search needs
+shared-slice-read-pair-3 : tie.Need-shared-slice-read-pair-3
+shared-slice-read-pair-3 c = search needs
 
-shared-slice-read-mask-4 : tie.Need-shared-slice-read-mask-4
-shared-slice-read-mask-4 c = search needs
+shared-slice-read-pair-4 : tie.Need-shared-slice-read-pair-4
+shared-slice-read-pair-4 c = search needs
 
-mask-requires-2 : tie.Need-mask-requires-2
-mask-requires-2 c κs = search needs
+pair-requires-2 : tie.Need-pair-requires-2
+pair-requires-2 c κs = search needs
 
 ring-of-requires : tie.Need-ring-of-requires
 ring-of-requires c κs = search needs
@@ -60,7 +60,7 @@ returns-2 c =
     let c5 = mask .before .before .before in
     let c2 = c5 .before .before .before in
     let root = c2 .before .before in
-    rw (c .ring-of .ensures, c .before .mask2 .ensures, mask .mask .ensures, c5 .ten5 .ensures, c5 .before .ten4 .ensures, c5 .before .before .ten3 .ensures, c2 .ten2 .ensures, c2 .before .ten .ensures, root .array16 .ensures, eq-eqb _ _ (root .before .if1 .left))
+    rw (c .ring-of .ensures, c .before .pair2 .ensures .0, mask .pair .ensures .0, c5 .ten5 .ensures, c5 .before .ten4 .ensures, c5 .before .before .ten3 .ensures, c2 .ten2 .ensures, c2 .before .ten .ensures, root .array16 .ensures, eq-eqb _ _ (root .before .if1 .left))
 
 pub sitting-ring-spec : {M : Type 1} → statement M
 sitting-ring-spec =
@@ -74,11 +74,11 @@ sitting-ring-spec =
     ten-requires-3
     ten-requires-4
     ten-requires-5
-    shared-slice-read-mask
-    shared-slice-read-mask-2
-    mask-requires
-    shared-slice-read-mask-3
-    shared-slice-read-mask-4
-    mask-requires-2
+    shared-slice-read-pair
+    shared-slice-read-pair-2
+    pair-requires
+    shared-slice-read-pair-3
+    shared-slice-read-pair-4
+    pair-requires-2
     ring-of-requires
     returns-2)

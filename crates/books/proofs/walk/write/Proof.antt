@@ -7,9 +7,9 @@ use native.Mathlib.Nat.{mul-zero}
 use lib.ListN.{drop}
 use denote.Ref.{now}
 use borrow.Author.Needs.{needs}
-use Rattle.books.proofs.WalkLaws.{converted-is}
+use Rattle.books.proofs.WayLaws.{converted-is}
 use Rattle.books.specs.Steps.{sizeOf, toOf, convertOf}
-use Rattle.standard.specs.Books.{each}
+use Rattle.standard.specs.Lists.{each}
 use Rattle.books.proofs.walk.write.Statement.{statement}
 use Rattle.books.proofs.walk.write.Tie as tie
 

@@ -1,0 +1,37 @@
+-- The tests of a list's length, as code makes them: by how many records of w bytes there are.
+-- Assumes nothing.
+use mathlib.Core.Bool.{true, false}
+use mathlib.Core.List.{[], _∷_}
+use mathlib.Core.Path.{_≡_, refl, sym, _∙_}
+use Prim.Native.Nat.{ℕ, _*_, _/_, _%_, _≤_}
+use native.Mathlib.Nat.{div-add-mod, mul-le-mul, div-le-of-le-mul}
+use native.Mathlib.Omega.{arith}
+use lib.Dec.{eqb, leb}
+use borrow.Author.Tests.{eq-eqb, ne-eqb, leb-true}
+use Rattle.standard.proofs.FirstLaws.{all-pass, first-append}
+use Rattle.standard.specs.Lists.{lengthTests, listTests}
+use Rattle.standard.specs.Refusals.{outputShort, first}
+use Rattle.standard.specs.Sizes.{mostRecords}
+
+module _ (w size : ℕ) where
+  pub records-within : w * (size / w) ≤ size
+  records-within = omega (arith, div-add-mod size w)
+
+  -- what is left behind the last whole record
+  pub whole : w * (size / w) ≡ size → eqb (size % w) 0 ≡ true
+  whole e = eq-eqb (size % w) 0 (omega (arith, div-add-mod size w))
+
+  pub not-whole : (w * (size / w) ≡ size → ⊥) → eqb (size % w) 0 ≡ false
+  not-whole h = ne-eqb (size % w) 0 (λ (e : size % w ≡ 0). h (omega (arith, div-add-mod size w)))
+
+  -- 1,024 records at most, once 1 and 2 are passed
+  pub few-records : first (lengthTests w size) ≡ 0 → size / w ≤ mostRecords
+  few-records e = div-le-of-le-mul w (leb-true _ _ (all-pass (lengthTests w size) refl e 0))
+
+  -- 12 goes behind 1 and 2
+  module _ (v room number : ℕ) (e : number ≡ first (lengthTests w size)) where
+    pub output-last : (number ≡ 0 → ⊥) → number ≡ first (listTests w v size room)
+    output-last h = e ∙ sym (first-append (lengthTests w size) ((leb (v * (size / w)) room, outputShort) ∷ []) refl ∙ rw (← e, ne-eqb _ _ h))
+
+    pub output-tested : number ≡ 0 → first ((leb (v * (size / w)) room, outputShort) ∷ []) ≡ first (listTests w v size room)
+    output-tested h = sym (first-append (lengthTests w size) ((leb (v * (size / w)) room, outputShort) ∷ []) refl ∙ rw (← e, h))

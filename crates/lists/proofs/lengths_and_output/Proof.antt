@@ -1,0 +1,46 @@
+-- `lists::lengths_and_output` meets its contract.
+-- Assumes nothing.
+use Prim.Native.Nat.{_*_, _/_, _≤_}
+use mathlib.Core.Path.{sym, _∙_}
+use native.Mathlib.Nat.{mul-le-mul}
+use native.Mathlib.Omega.{arith}
+use borrow.Author.Needs.{needs}
+use borrow.Author.Tests.{le-leb, lt-leb}
+use Rattle.lists.proofs.LengthLaws.{few-records, output-last, output-tested}
+use Rattle.lists.proofs.lengths_and_output.Statement.{statement}
+use Rattle.lists.proofs.lengths_and_output.Tie as tie
+
+lengths-requires : tie.Need-lengths-requires
+lengths-requires c κs = search needs
+
+returns : tie.Need-returns
+returns c =
+    let x = c .before .before .args in
+    output-last (x .size) (x .list) (x .to) (x .out) _ (c .before .lengths .ensures) (c .if1 .taken)
+
+count-requires : tie.Need-count-requires
+count-requires c κs = search needs
+
+mul-if2 : tie.Need-mul-if2
+mul-if2 c =
+    let tested = c .before .before in
+    let x = tested .before .args in
+    let few = few-records (x .size) (x .list) (sym (tested .lengths .ensures) ∙ c .before .if1 .left) in
+    let fits : x .to ≤ 4294967295 = search needs in
+    let small : x .to * (x .list / x .size) ≤ 4294967295 * 1024 = mul-le-mul fits few in
+    rw (c .count .ensures) (omega (arith, small))
+
+returns-2 : tie.Need-returns-2
+returns-2 c =
+    let tested = c .before .before .before in
+    let x = tested .before .args in
+    rw (← output-tested (x .size) (x .list) (x .to) (x .out) _ (tested .lengths .ensures) (c .before .before .if1 .left), lt-leb _ _ (rw (c .before .count .ensures) at (c .if2 .taken)))
+
+returns-3 : tie.Need-returns-3
+returns-3 c =
+    let tested = c .before .before .before in
+    let x = tested .before .args in
+    rw (← output-tested (x .size) (x .list) (x .to) (x .out) _ (tested .lengths .ensures) (c .before .before .if1 .left), le-leb _ _ (rw (c .before .count .ensures) at (c .if2 .left)))
+
+pub lengths-and-output-spec : {M : Type 1} → statement M
+lengths-and-output-spec = tie.close (tie.spec lengths-requires returns count-requires mul-if2 returns-2 returns-3)

@@ -1,0 +1,19 @@
+-- The sizes that many definitions share, in bytes, and the most records of a list (01, Books).
+-- Assumes nothing.
+use Prim.Native.Nat.{ℕ}
+
+abbrev pub ringSize : ℕ
+ringSize = 36
+
+abbrev pub plainSize : ℕ
+plainSize = 18
+
+abbrev pub sealedSize : ℕ
+sealedSize = 21
+
+-- a sitting's file, which makering reads
+abbrev pub sittingSize : ℕ
+sittingSize = 70
+
+abbrev pub mostRecords : ℕ
+mostRecords = 1024
