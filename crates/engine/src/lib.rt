@@ -236,12 +236,23 @@ pub extern "C" fn taa1_ring(
     rand1: &[u8],
     rand2: &[u8],
     c: &[u8],
+    sides: u64,
     response_mask: u16,
     key_mask: u16,
 ) -> RingMade
-    ensures { λ r. ⌜ r ≡ ringCall (now (root .entry)) (now (rs .entry)) (now (rso .entry)) (now (rand1 .entry)) (now (rand2 .entry)) (now (c .entry)) «response_mask» «key_mask» ⌝ }
+    ensures { λ r. ⌜ r ≡ ringCall (now (root .entry)) (now (rs .entry)) (now (rso .entry)) (now (rand1 .entry)) (now (rand2 .entry)) (now (c .entry)) sides «response_mask» «key_mask» ⌝ }
 {
-    keys::ring(root, rs, rso, rand1, rand2, c, response_mask, key_mask)
+    keys::ring(
+        root,
+        rs,
+        rso,
+        rand1,
+        rand2,
+        c,
+        sides,
+        response_mask,
+        key_mask,
+    )
 }
 
 #[no_mangle]

@@ -20,6 +20,7 @@ use standard::RingInputs;
 use standard::RingMade;
 use standard::VALUE_WIDE;
 use standard::WRONG_LENGTH;
+use standard::WRONG_SIDES;
 use standard::refused_ring;
 use standard::refused10;
 use standard::refused16;
@@ -139,6 +140,10 @@ pub fn ta101(ks: &[u8], gck0: &[u8], mni: u64) -> Bytes16
 pub fn ring_of(x: RingInputs) -> RingMade
     ensures { λ r. ⌜ r ≡ ringOf x ⌝ }
 {
+    let known = (x.sides >= 1) & (x.sides <= 3);
+    if !known {
+        return refused_ring(WRONG_SIDES);
+    }
     let number = refusal_of(x.response_mask, x.key_mask);
     if number != 0 {
         return refused_ring(number);
@@ -153,10 +158,11 @@ pub fn ring(
     rand1: &[u8],
     rand2: &[u8],
     c: &[u8],
+    sides: u64,
     response_mask: u16,
     key_mask: u16,
 ) -> RingMade
-    ensures { λ r. ⌜ r ≡ ringCall (now (root .entry)) (now (rs .entry)) (now (rso .entry)) (now (rand1 .entry)) (now (rand2 .entry)) (now (c .entry)) «response_mask» «key_mask» ⌝ }
+    ensures { λ r. ⌜ r ≡ ringCall (now (root .entry)) (now (rs .entry)) (now (rso .entry)) (now (rand1 .entry)) (now (rand2 .entry)) (now (c .entry)) sides «response_mask» «key_mask» ⌝ }
 {
     let long = (root.len() == 16)
         & (rs.len() == 10)
@@ -174,6 +180,7 @@ pub fn ring(
         rand1: array10(rand1),
         rand2: array10(rand2),
         c: array10(c),
+        sides,
         response_mask,
         key_mask,
     })

@@ -13,10 +13,12 @@ ghost use mathlib.Core.List.{_++_};
 ghost use mathlib.Core.Path.{_≡_};
 ghost use lib.Count.{ones};
 ghost use Rattle.standard.specs.Bytes.{part};
-ghost use Rattle.standard.specs.Derivation.{core as coreOf, split as splitOf, ringAnswer};
+ghost use Rattle.standard.specs.Derivation.{core as coreOf, half as halfOf, ringAnswer};
 
-// One half of the recipe: a session key from root and seed, and what it answers to a challenge.
+// One half of the recipe: a session key from root and seed, and what it answers to a challenge. A half that does not run answers zero bytes,
+// with no cipher run.
 fn half(
+    runs: bool,
     root: [u8; 16],
     seed: [u8; 10],
     challenge: [u8; 10],
@@ -24,8 +26,15 @@ fn half(
     key_mask: u16,
 ) -> Authentication
     requires { ⌜ (ones «response_mask» ≡ 4) × (ones «key_mask» ≡ 10) ⌝ }
-    ensures { λ r. ⌜ r ≡ splitOf «response_mask» «key_mask» (coreOf (coreOf root seed) challenge) ⌝ }
+    ensures { λ r. ⌜ r ≡ halfOf runs «response_mask» «key_mask» (coreOf (coreOf root seed) challenge) ⌝ }
 {
+    if !runs {
+        return Authentication {
+            refusal: 0,
+            response: [0; 4],
+            key: [0; 10],
+        };
+    }
     split(core(core(root, seed), challenge), response_mask, key_mask)
 }
 
@@ -51,8 +60,9 @@ pub(crate) fn make(x: RingInputs) -> RingMade
     let rand1 = x.rand1;
     let rand2 = x.rand2;
     let c = x.c;
-    let first = half(root, rs, rand1, x.response_mask, x.key_mask);
-    let second = half(root, reversed(rs), rand2, x.response_mask, x.key_mask);
+    let first = half(x.sides != 2, root, rs, rand1, x.response_mask, x.key_mask);
+    let seed = reversed(rs);
+    let second = half(x.sides != 1, root, seed, rand2, x.response_mask, x.key_mask);
     let key1 = first.key;
     let key2 = second.key;
     let d = mix4(key1, key2);

@@ -24,6 +24,7 @@ fn meaning(l: Line, refusal: u32) -> Line
         10 => l.word(b"value too wide for its field"),
         11 => l.word(b"input of a wrong length"),
         12 => l.word(b"output shorter than the result"),
+        13 => l.word(b"number of sides not 1 to 3"),
         _ => l.word(b"not in the list"),
     }
 }

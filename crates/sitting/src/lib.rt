@@ -1,4 +1,5 @@
-// The ring recipe on a sitting's file: root 16 bytes, RS, RSO, RAND1, RAND2 and C 10 each, response mask 2, key mask 2.
+// The ring recipe on a sitting's file: root 16 bytes, RS, RSO, RAND1, RAND2 and C 10 each, sides 1, response mask 2, key mask
+// 2.
 use arrays::array10;
 use arrays::array16;
 use keys::ring_of;
@@ -21,6 +22,12 @@ fn ten(s: &[u8], from: usize) -> [u8; 10]
     array10(&s[from..from + 10])
 }
 
+fn wide(x: u8) -> u64
+    ensures { λ r. ⌜ r ≡ x ⌝ }
+{
+    x as u64
+}
+
 // A mask has its high byte first. A file of another length is refused with 11.
 pub fn sitting_ring(s: &[u8]) -> RingMade
     ensures { λ r. ⌜ r ≡ sittingRing (now (s .entry)) ⌝ }
@@ -28,6 +35,7 @@ pub fn sitting_ring(s: &[u8]) -> RingMade
     if s.len() != SITTING {
         return refused_ring(WRONG_LENGTH);
     }
+    let sides = wide(s[66]);
     ring_of(RingInputs {
         root: array16(s),
         rs: ten(s, 16),
@@ -35,7 +43,8 @@ pub fn sitting_ring(s: &[u8]) -> RingMade
         rand1: ten(s, 36),
         rand2: ten(s, 46),
         c: ten(s, 56),
-        response_mask: pair(s[66], s[67]),
-        key_mask: pair(s[68], s[69]),
+        sides,
+        response_mask: pair(s[67], s[68]),
+        key_mask: pair(s[69], s[70]),
     })
 }

@@ -15,7 +15,7 @@ use lib.Pow.{pow-pos, mod-pow-add}
 use borrow.Author.Tests.{eqb-true}
 use Rattle.standard.specs.Bytes.{byte, bit, part, choose}
 use Rattle.standard.specs.Derivation.{chosenOf, chosen, ringOf, long6, ringCall}
-use Rattle.standard.specs.Refusals.{wrongMask, sharedBit, maskTests, first}
+use Rattle.standard.specs.Refusals.{wrongMask, sharedBit, long, maskTests, first}
 use Rattle.standard.proofs.BytesLaws.{long-spelled, and-split}
 
 first-test : (t u : Bool) → first ((t, wrongMask) ∷ (u, sharedBit) ∷ []) ≡ 0 → t ≡ true
@@ -51,7 +51,18 @@ length-chosen m o h = length-of 16 m o ∙ ap ones (mod-eq-of-lt h)
 
 -- ---- the ring recipe
 
-pub ring-long : (root rs rso rand1 rand2 c : List ℕ) (rm km : ℕ) → long6 root rs rso rand1 rand2 c ≡ true
+-- the six strings, one by one
+pub long6-split : (root rs rso rand1 rand2 c : List ℕ) → long6 root rs rso rand1 rand2 c ≡ true
+    → (long 16 root ≡ true) × (long 10 rs ≡ true) × (long 10 rso ≡ true) × (long 10 rand1 ≡ true) × (long 10 rand2 ≡ true) × (long 10 c ≡ true)
+long6-split root rs rso rand1 rand2 c t =
+    let s₅ = and-split _ _ t in
+    let s₄ = and-split _ _ (s₅ .0) in
+    let s₃ = and-split _ _ (s₄ .0) in
+    let s₂ = and-split _ _ (s₃ .0) in
+    let s₁ = and-split _ _ (s₂ .0) in
+    (s₁ .0, s₁ .1, s₂ .1, s₃ .1, s₄ .1, s₅ .1)
+
+pub ring-long : (root rs rso rand1 rand2 c : List ℕ) (sides rm km : ℕ) → long6 root rs rso rand1 rand2 c ≡ true
     → ringOf (record {
       root = part 0 16 root;
       rs = part 0 10 rs;
@@ -59,14 +70,11 @@ pub ring-long : (root rs rso rand1 rand2 c : List ℕ) (rm km : ℕ) → long6 r
       rand1 = part 0 10 rand1;
       rand2 = part 0 10 rand2;
       c = part 0 10 c;
+      sides = sides;
       «response_mask» = rm;
       «key_mask» = km;
-    }) ≡ ringCall root rs rso rand1 rand2 c rm km
+    }) ≡ ringCall root rs rso rand1 rand2 c sides rm km
 unfolding ringOf ringCall
-ring-long root rs rso rand1 rand2 c rm km t =
-    let s₅ = and-split _ _ t in
-    let s₄ = and-split _ _ (s₅ .0) in
-    let s₃ = and-split _ _ (s₄ .0) in
-    let s₂ = and-split _ _ (s₃ .0) in
-    let s₁ = and-split _ _ (s₂ .0) in
-    rw (long-spelled 16 root (s₁ .0), long-spelled 10 rs (s₁ .1), long-spelled 10 rso (s₂ .1), long-spelled 10 rand1 (s₃ .1), long-spelled 10 rand2 (s₄ .1), long-spelled 10 c (s₅ .1), t)
+ring-long root rs rso rand1 rand2 c sides rm km t =
+    let s = long6-split root rs rso rand1 rand2 c t in
+    rw (long-spelled 16 root (s .0), long-spelled 10 rs (s .1), long-spelled 10 rso (s .2), long-spelled 10 rand1 (s .3), long-spelled 10 rand2 (s .4), long-spelled 10 c (s .5), t)

@@ -16,4 +16,5 @@ pub mod BookLaws
 pub mod AnswerLaws
 pub mod Demand3Laws
 pub mod ListingLaws
+pub mod FactLaws
 pub mod Cases

@@ -1,14 +1,14 @@
 -- Responses and derived keys (01, Responses and derived keys; 000, 5.6, 5.7, 5.13, 5.18).
 -- Assumes nothing.
-use mathlib.Core.Bool.{Bool, _&&_}
+use mathlib.Core.Bool.{Bool, _&&_, not}
 use mathlib.Core.List.{List, [], _∷_, _++_}
 use Prim.Native.Nat.{ℕ, zero, suc, _+_, _-_}
-use lib.Dec.{eqb}
-use Rattle.standard.specs.Bytes.{_!_, byte, bit, _⊕_, table, part, xors, bytesOf, choose}
+use lib.Dec.{eqb, leb}
+use Rattle.standard.specs.Bytes.{_!_, byte, bit, _⊕_, table, part, xors, zeros, bytesOf, choose}
 use Rattle.standard.specs.Cores.{bl1}
 use Rattle.standard.specs.Expansions.{exp2, shr3}
 use Rattle.standard.specs.Mixing.{tb4}
-use Rattle.standard.specs.Refusals.{wrongLength, valueWide, long, fits, maskTests, first, answer10, answer16, authentication, ringMade}
+use Rattle.standard.specs.Refusals.{wrongLength, wrongSides, valueWide, long, fits, maskTests, first, answer10, answer16, authentication, ringMade}
 use Rattle.standard.specs.declared.Authentication.{Authentication}
 use Rattle.standard.specs.declared.Bytes10.{Bytes10}
 use Rattle.standard.specs.declared.Bytes16.{Bytes16}
@@ -62,7 +62,10 @@ int gck0 mni = xors 10 gck0 (bytesOf 3 mni ++ bytesOf 3 mni ++ bytesOf 3 mni ++ 
 abbrev pub ta101 : List ℕ → List ℕ → ℕ → List ℕ
 ta101 ks gck0 mni = core ks (int gck0 mni)
 
--- ---- the ring recipe: D, O, C, and both responses
+-- ---- the ring recipe: D, O, C, and both responses. The sides say who proves itself (02, 1): 1 runs TA12 alone, 2 TA22 alone, 3 both
+
+abbrev pub sidesTest : ℕ → Bool × ℕ
+sidesTest sides = (leb 1 sides && leb sides 3, wrongSides)
 
 -- the outputs of TA12 and TA22 before their split
 abbrev pub output1 : RingInputs → List ℕ
@@ -71,15 +74,25 @@ output1 x = core (ta11 (x .root) (x .rs)) (x .rand1)
 abbrev pub output2 : RingInputs → List ℕ
 output2 x = core (ta21 (x .root) (x .rs)) (x .rand2)
 
+-- a half that runs gives its output's response and key, one that does not run zero bytes
+abbrev pub half : Bool → ℕ → ℕ → List ℕ → Authentication
+half runs rm km o = choose runs (split rm km o) (authentication 0 (zeros 4) (zeros 10))
+
+abbrev pub half1 : RingInputs → Authentication
+half1 x = half (not (eqb (x .sides) 2)) (x .«response_mask») (x .«key_mask») (output1 x)
+
+abbrev pub half2 : RingInputs → Authentication
+half2 x = half (not (eqb (x .sides) 1)) (x .«response_mask») (x .«key_mask») (output2 x)
+
 unfoldable pub ring : RingInputs → List ℕ
-ring x = tb4 (chosen (x .«key_mask») (output1 x)) (chosen (x .«key_mask») (output2 x)) ++ part 0 16 (ta41 (x .root) (x .rso)) ++ part 0 10 (x .c)
+ring x = tb4 (half1 x .key) (half2 x .key) ++ part 0 16 (ta41 (x .root) (x .rso)) ++ part 0 10 (x .c)
 
 -- the tests of the inputs besides their lengths
 abbrev pub ringTests : RingInputs → List (Bool × ℕ)
-ringTests x = maskTests (x .«response_mask») (x .«key_mask»)
+ringTests x = sidesTest (x .sides) ∷ maskTests (x .«response_mask») (x .«key_mask»)
 
 abbrev pub ringAnswer : ℕ → RingInputs → RingMade
-ringAnswer r x = ringMade r (ring x) (chosen (x .«response_mask») (output1 x)) (chosen (x .«response_mask») (output2 x))
+ringAnswer r x = ringMade r (ring x) (half1 x .response) (half2 x .response)
 
 -- the recipe on inputs of the right lengths
 unfoldable pub ringOf : RingInputs → RingMade
@@ -116,7 +129,7 @@ ta101Call ks gck0 mni =
 abbrev pub long6 : (root rs rso rand1 rand2 c : List ℕ) → Bool
 long6 root rs rso rand1 rand2 c = long 16 root && long 10 rs && long 10 rso && long 10 rand1 && long 10 rand2 && long 10 c
 
-unfoldable pub ringCall : (root rs rso rand1 rand2 c : List ℕ) (rm km : ℕ) → RingMade
-ringCall root rs rso rand1 rand2 c rm km =
-    let x : RingInputs = record { root = root; rs = rs; rso = rso; rand1 = rand1; rand2 = rand2; c = c; «response_mask» = rm; «key_mask» = km } in
+unfoldable pub ringCall : (root rs rso rand1 rand2 c : List ℕ) (sides rm km : ℕ) → RingMade
+ringCall root rs rso rand1 rand2 c sides rm km =
+    let x : RingInputs = record { root = root; rs = rs; rso = rso; rand1 = rand1; rand2 = rand2; c = c; sides = sides; «response_mask» = rm; «key_mask» = km } in
     ringAnswer (first ((long6 root rs rso rand1 rand2 c, wrongLength) ∷ ringTests x)) x

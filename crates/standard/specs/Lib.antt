@@ -13,4 +13,5 @@ pub mod Demand3
 pub mod Derivation
 pub mod Mixing
 pub mod Refusals
+pub mod Facts
 pub mod Programs

@@ -6,7 +6,8 @@ use lib.Dec.{eqb}
 use Rattle.standard.specs.Bytes.{_!_, part, choose}
 use Rattle.standard.specs.Derivation.{ringCall}
 use Rattle.standard.specs.Listing.{refusedAt}
-use Rattle.standard.specs.Refusals.{bookTooLong, bookNotWhole, wrongKind, notZero, wrongNumber, flagSet, wrongMask, sharedBit, wrongWidth, valueWide, wrongLength, outputShort, long, ringMade}
+use Rattle.standard.specs.Refusals.{bookTooLong, bookNotWhole, wrongKind, notZero, wrongNumber, flagSet, wrongMask, sharedBit, wrongWidth, valueWide, wrongLength, outputShort, wrongSides, long, ringMade}
+use Rattle.standard.specs.Sizes.{sittingSize}
 use Rattle.standard.specs.Text.{ascii, decimal, textCall}
 use Rattle.standard.specs.declared.BookAnswer.{BookAnswer}
 use Rattle.standard.specs.declared.RingMade.{RingMade}
@@ -14,12 +15,13 @@ use Rattle.standard.specs.declared.TextAnswer.{TextAnswer}
 
 -- ---- makering
 
--- the ring recipe on a sitting's 70 bytes: root 16, RS, RSO, RAND1, RAND2 and C 10 each, response mask 2, key mask 2, the high byte first
+-- the ring recipe on a sitting's bytes: root 16, RS, RSO, RAND1, RAND2 and C 10 each, sides 1 (02, 1), response mask 2, key mask 2, the
+-- high byte first
 unfoldable pub sittingRing : List ℕ → RingMade
 sittingRing s =
-    choose (long 70 s)
+    choose (long sittingSize s)
     (ringCall (part 0 16 s) (part 16 10 s) (part 26 10 s) (part 36 10 s) (part 46 10 s) (part 56 10 s)
-    (256 * s ! 66 + s ! 67) (256 * s ! 68 + s ! 69))
+    (s ! 66) (256 * s ! 67 + s ! 68) (256 * s ! 69 + s ! 70))
     (ringMade wrongLength [] [] [])
 
 -- ---- a refusal's meaning (01, Who causes which number)
@@ -43,6 +45,7 @@ meanings =
     ∷ (valueWide, ascii "value too wide for its field")
     ∷ (wrongLength, ascii "input of a wrong length")
     ∷ (outputShort, ascii "output shorter than the result")
+    ∷ (wrongSides, ascii "number of sides not 1 to 3")
     ∷ []
 
 unfoldable pub meaning : ℕ → List ℕ

@@ -1,6 +1,6 @@
 -- Refusals (01, Who causes which number): the numbers by name, their tests, and the answers of single calls.
 -- A book is tested for 11, 1, 2 and 12, and then each of its records for 3, and for 4 and 5 when it is sealed or for 6 when it is opened.
--- A single call tests 11, 7, 8, 9, 10, 5.
+-- A single call tests 11, 13, 7, 8, 9, 10, 5.
 -- Assumes nothing.
 use mathlib.Core.Bool.{Bool, true, false, _&&_}
 use mathlib.Core.List.{List, [], _∷_}
@@ -75,6 +75,12 @@ wrongLength = 11
 -- the output has fewer bytes than the result
 abbrev pub outputShort : ℕ
 outputShort = 12
+
+-- ---- of the requests (02)
+
+-- (02, 1) the number of sides is none of 1, 2 and 3
+abbrev pub wrongSides : ℕ
+wrongSides = 13
 
 -- ---- tests
 

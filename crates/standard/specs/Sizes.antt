@@ -13,7 +13,7 @@ sealedSize = 21
 
 -- a sitting's file, which makering reads
 abbrev pub sittingSize : ℕ
-sittingSize = 70
+sittingSize = 71
 
 abbrev pub mostRecords : ℕ
 mostRecords = 1024

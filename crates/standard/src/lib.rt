@@ -14,7 +14,7 @@ pub const PLAIN_RECORD: usize = 18;
 
 pub const SEALED_RECORD: usize = 21;
 
-pub const SITTING: usize = 70;
+pub const SITTING: usize = 71;
 
 pub const MOST_RECORDS: usize = 1024;
 
@@ -42,6 +42,9 @@ pub const VALUE_WIDE: u32 = 10;
 pub const WRONG_LENGTH: u32 = 11;
 
 pub const OUTPUT_SHORT: u32 = 12;
+
+// The refusals of the requests.
+pub const WRONG_SIDES: u32 = 13;
 
 // A ring's bytes, after their length was tested.
 pub type RingBytes = [u8; RING];
@@ -126,6 +129,7 @@ pub struct RingInputs {
     pub rand1: [u8; 10],
     pub rand2: [u8; 10],
     pub c: [u8; 10],
+    pub sides: u64,
     pub response_mask: u16,
     pub key_mask: u16,
 }

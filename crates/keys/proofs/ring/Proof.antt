@@ -46,7 +46,7 @@ returns-2 c =
     let rand1 = c .before .before .before in
     let root = rand1 .before .before .before in
     rw (c .ring-of .ensures, c .before .array105 .ensures, c .before .before .array104 .ensures, rand1 .array103 .ensures, rand1 .before .array102 .ensures, rand1 .before .before .array10 .ensures, root .array16 .ensures)
-    (ring-long _ _ _ _ _ _ _ _ (not-false _ (root .before .if1 .left)))
+    (ring-long _ _ _ _ _ _ _ _ _ (not-false _ (root .before .if1 .left)))
 
 pub ring-spec : {M : Type 1} → statement M
 ring-spec =

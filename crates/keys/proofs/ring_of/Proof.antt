@@ -1,34 +1,60 @@
 -- `keys::ring_of` meets its contract.
 -- Assumes nothing.
+use mathlib.Core.Bool.{true, false, _&&_}
 use mathlib.Core.Path.{_≡_, sym, _∙_}
+use lib.Dec.{leb}
 use borrow.Author.Needs.{needs}
-use borrow.Author.Tests.{ne-eqb}
+use borrow.Author.Tests.{ne-eqb, not-true, not-false}
 use Rattle.standard.proofs.DerivationLaws.{masks-ones}
-use Rattle.standard.specs.Derivation.{ringTests, ringOf}
-use Rattle.standard.specs.Refusals.{first}
+use Rattle.standard.specs.Derivation.{ringOf}
+use Rattle.standard.specs.Refusals.{maskTests, first}
 use Rattle.keys.proofs.ring_of.Statement.{statement}
 use Rattle.keys.proofs.ring_of.Tie as tie
-
-refusal-of-requires : tie.Need-refusal-of-requires
-refusal-of-requires c κs = search needs
 
 refused-ring-requires : tie.Need-refused-ring-requires
 refused-ring-requires c κs = search needs
 
 returns : tie.Need-returns
 unfolding ringOf
-returns c = rw (c .refused-ring .ensures, ← c .before .before .refusal-of .ensures, ne-eqb _ _ (c .before .if1 .taken))
+returns c =
+    let x = c .before .before .before .before .args .x in
+    let t : leb 1 (x .sides) && leb (x .sides) 3 ≡ false = not-true _ (c .before .if1 .taken) in
+    rw (c .refused-ring .ensures, t)
 
-make-requires : tie.Need-make-requires
-make-requires c κs = masks-ones _ _ (sym (c .before .refusal-of .ensures) ∙ c .if1 .left)
+refusal-of-requires : tie.Need-refusal-of-requires
+refusal-of-requires c κs = search needs
+
+refused-ring-requires-2 : tie.Need-refused-ring-requires-2
+refused-ring-requires-2 c κs = search needs
 
 returns-2 : tie.Need-returns-2
 unfolding ringOf
 returns-2 c =
-    let x = c .before .before .before .args .x in
-    let m : first (ringTests x) ≡ 0 = sym (c .before .before .refusal-of .ensures) ∙ c .before .if1 .left in
-    rw (c .make .ensures, m)
+    let masked = c .before .before in
+    let x = masked .before .before .before .before .args .x in
+    let t : leb 1 (x .sides) && leb (x .sides) 3 ≡ true = not-false _ (masked .before .if1 .left) in
+    rw (c .refused-ring2 .ensures, t, ← masked .refusal-of .ensures, ne-eqb _ _ (c .before .if2 .taken))
+
+make-requires : tie.Need-make-requires
+make-requires c κs = masks-ones _ _ (sym (c .before .refusal-of .ensures) ∙ c .if2 .left)
+
+returns-3 : tie.Need-returns-3
+unfolding ringOf
+returns-3 c =
+    let masked = c .before .before in
+    let x = masked .before .before .before .before .args .x in
+    let t : leb 1 (x .sides) && leb (x .sides) 3 ≡ true = not-false _ (masked .before .if1 .left) in
+    let m : first (maskTests (x .«response_mask») (x .«key_mask»)) ≡ 0 = sym (masked .refusal-of .ensures) ∙ c .before .if2 .left in
+    rw (c .make .ensures, t, m)
 
 pub ring-of-spec : {M : Type 1} → statement M
 ring-of-spec =
-    tie.close (tie.spec refusal-of-requires refused-ring-requires returns make-requires returns-2)
+    tie.close
+    (tie.spec
+    refused-ring-requires
+    returns
+    refusal-of-requires
+    refused-ring-requires-2
+    returns-2
+    make-requires
+    returns-3)

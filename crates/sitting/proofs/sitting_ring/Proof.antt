@@ -1,9 +1,10 @@
 -- `sitting::sitting_ring` meets its contract.
 -- Assumes nothing.
 use borrow.Author.Needs.{needs}
-use borrow.Author.Tests.{eq-eqb, ne-eqb}
-use Rattle.standard.specs.Derivation.{ringOf, ringCall}
+use denote.Ref.{now}
+use borrow.Author.Tests.{ne-eqb}
 use Rattle.standard.specs.Programs.{sittingRing}
+use Rattle.sitting.proofs.SittingLaws.{sitting-recipe}
 use Rattle.sitting.proofs.sitting_ring.Statement.{statement}
 use Rattle.sitting.proofs.sitting_ring.Tie as tie
 
@@ -13,6 +14,12 @@ refused-ring-requires c κs = search needs
 returns : tie.Need-returns
 unfolding sittingRing
 returns c = rw (c .refused-ring .ensures, ne-eqb _ _ (c .before .if1 .taken))
+
+shared-slice-read-wide : tie.Need-shared-slice-read-wide
+shared-slice-read-wide c = search needs
+
+wide-requires : tie.Need-wide-requires
+wide-requires c κs = search needs
 
 array16-requires : tie.Need-array16-requires
 array16-requires c κs = search needs
@@ -54,13 +61,13 @@ ring-of-requires : tie.Need-ring-of-requires
 ring-of-requires c κs = search needs
 
 returns-2 : tie.Need-returns-2
-unfolding sittingRing ringOf ringCall
 returns-2 c =
     let mask = c .before .before .before .before in
     let c5 = mask .before .before .before in
     let c2 = c5 .before .before .before in
     let root = c2 .before .before in
-    rw (c .ring-of .ensures, c .before .pair2 .ensures .0, mask .pair .ensures .0, c5 .ten5 .ensures, c5 .before .ten4 .ensures, c5 .before .before .ten3 .ensures, c2 .ten2 .ensures, c2 .before .ten .ensures, root .array16 .ensures, eq-eqb _ _ (root .before .if1 .left))
+    rw (c .ring-of .ensures, c .before .pair2 .ensures .0, mask .pair .ensures .0, c5 .ten5 .ensures, c5 .before .ten4 .ensures, c5 .before .before .ten3 .ensures, c2 .ten2 .ensures, c2 .before .ten .ensures, root .array16 .ensures, root .before .wide .ensures)
+    (sitting-recipe (now (root .before .before .before .before .before .args .s)) (root .before .before .before .if1 .left))
 
 pub sitting-ring-spec : {M : Type 1} → statement M
 sitting-ring-spec =
@@ -68,6 +75,8 @@ sitting-ring-spec =
     (tie.spec
     refused-ring-requires
     returns
+    shared-slice-read-wide
+    wide-requires
     array16-requires
     ten-requires
     ten-requires-2

@@ -1,8 +1,14 @@
 -- `keys::recipe::half` meets its contract.
 -- Assumes nothing.
+use mathlib.Core.Bool.{true, false}
+use mathlib.Core.Path.{_≡_}
 use borrow.Author.Needs.{needs}
+use borrow.Author.Tests.{not-true, not-false}
 use Rattle.keys.proofs.recipe.half.Statement.{statement}
 use Rattle.keys.proofs.recipe.half.Tie as tie
+
+returns : tie.Need-returns
+returns c = let t : c .before .args .runs ≡ false = not-true _ (c .if1 .taken) in rw t
 
 core-requires : tie.Need-core-requires
 core-requires c κs = search needs
@@ -13,8 +19,11 @@ core-requires-2 c κs = search needs
 split-requires : tie.Need-split-requires
 split-requires c κs = search needs
 
-returns : tie.Need-returns
-returns c = rw (c .split .ensures, c .before .core2 .ensures, c .before .before .core .ensures)
+returns-2 : tie.Need-returns-2
+returns-2 c =
+    let start = c .before .before .before in
+    let t : start .before .args .runs ≡ true = not-false _ (start .if1 .left) in
+    rw (c .split .ensures, c .before .core2 .ensures, c .before .before .core .ensures, t)
 
 pub half-spec : {M : Type 1} → statement M
-half-spec = tie.close (tie.spec core-requires core-requires-2 split-requires returns)
+half-spec = tie.close (tie.spec returns core-requires core-requires-2 split-requires returns-2)

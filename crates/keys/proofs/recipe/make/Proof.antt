@@ -2,7 +2,7 @@
 -- Assumes nothing.
 use mathlib.Core.Path.{_≡_}
 use borrow.Author.Needs.{needs}
-use Rattle.standard.specs.Derivation.{split, output1, output2, ring}
+use Rattle.standard.specs.Derivation.{half1, half2, ring}
 use Rattle.keys.proofs.recipe.make.Statement.{statement}
 use Rattle.keys.proofs.recipe.make.Tie as tie
 
@@ -29,9 +29,9 @@ unfolding ring
 returns c =
     let mixed = c .before .before .before .before in
     let second = mixed .before .before .before in
-    let x = second .before .before .before .before .before .before .before .before .before .args .x in
-    let o₁ : second .before .before .half .result ≡ split (x .«response_mask») (x .«key_mask») (output1 x) = second .before .before .half .ensures in
-    let o₂ : second .half2 .result ≡ split (x .«response_mask») (x .«key_mask») (output2 x) = rw (second .half2 .ensures, second .before .reversed .ensures) in
+    let x = second .before .before .before .before .before .before .before .before .before .before .before .args .x in
+    let o₁ : second .before .before .before .half .result ≡ half1 x = second .before .before .before .half .ensures in
+    let o₂ : second .half2 .result ≡ half2 x = rw (second .half2 .ensures, second .before .before .reversed .ensures) in
     rw (c .joined .ensures, c .before .core .ensures, mixed .mix4 .ensures, o₂, o₁)
 
 pub make-spec : {M : Type 1} → statement M

@@ -8,17 +8,19 @@ use Rattle.standard.specs.Programs.{meaning}
 use Rattle.listing.proofs.answer.meaning.Statement.{statement}
 use Rattle.listing.proofs.answer.meaning.Tie as tie
 
-returns-13 : tie.Need-returns-13
+returns-14 : tie.Need-returns-14
 unfolding meaning
-returns-13 c =
+returns-14 c =
     let r = c .before .before .match .rest in
-    rw (ne-eqb _ _ (r .0 .0 .0 .0 .0 .0 .0 .0 .0 .0 .0 .1), ne-eqb _ _ (r .0 .0 .0 .0 .0 .0 .0 .0 .0 .0 .1), ne-eqb _ _ (r .0 .0 .0 .0 .0 .0 .0 .0 .0 .1), ne-eqb _ _ (r .0 .0 .0 .0 .0 .0 .0 .0 .1), ne-eqb _ _ (r .0 .0 .0 .0 .0 .0 .0 .1), ne-eqb _ _ (r .0 .0 .0 .0 .0 .0 .1), ne-eqb _ _ (r .0 .0 .0 .0 .0 .1), ne-eqb _ _ (r .0 .0 .0 .0 .1), ne-eqb _ _ (r .0 .0 .0 .1), ne-eqb _ _ (r .0 .0 .1), ne-eqb _ _ (r .0 .1), ne-eqb _ _ (r .1))
-    (c .word13 .ensures)
+    rw (ne-eqb _ _ (r .0 .0 .0 .0 .0 .0 .0 .0 .0 .0 .0 .0 .1), ne-eqb _ _ (r .0 .0 .0 .0 .0 .0 .0 .0 .0 .0 .0 .1), ne-eqb _ _ (r .0 .0 .0 .0 .0 .0 .0 .0 .0 .0 .1), ne-eqb _ _ (r .0 .0 .0 .0 .0 .0 .0 .0 .0 .1), ne-eqb _ _ (r .0 .0 .0 .0 .0 .0 .0 .0 .1), ne-eqb _ _ (r .0 .0 .0 .0 .0 .0 .0 .1), ne-eqb _ _ (r .0 .0 .0 .0 .0 .0 .1), ne-eqb _ _ (r .0 .0 .0 .0 .0 .1), ne-eqb _ _ (r .0 .0 .0 .0 .1), ne-eqb _ _ (r .0 .0 .0 .1), ne-eqb _ _ (r .0 .0 .1), ne-eqb _ _ (r .0 .1), ne-eqb _ _ (r .1))
+    (c .word14 .ensures)
 
 pub meaning-spec : {M : Type 1} → statement M
 meaning-spec =
     tie.close
     (tie.spec
+    (λ c. search needs)
+    (λ c κs. search needs)
     (λ c. search needs)
     (λ c κs. search needs)
     (λ c. search needs)
@@ -57,4 +59,5 @@ meaning-spec =
     (λ c. said _ _ 10 (c .before .before .match .keys10) (c .word10 .ensures) refl)
     (λ c. said _ _ 11 (c .before .before .match .keys11) (c .word11 .ensures) refl)
     (λ c. said _ _ 12 (c .before .before .match .keys12) (c .word12 .ensures) refl)
-    returns-13)
+    (λ c. said _ _ 13 (c .before .before .match .keys13) (c .word13 .ensures) refl)
+    returns-14)

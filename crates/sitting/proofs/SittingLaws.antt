@@ -1,0 +1,38 @@
+-- The recipe's inputs, read off a sitting of the right length.
+-- Assumes nothing.
+use mathlib.Core.List.{List}
+use mathlib.Core.Path.{_≡_, refl, sym, _∙_}
+use Prim.Native.Nat.{ℕ, _+_, _*_}
+use lib.ListN.{length}
+use borrow.Author.Tests.{eq-eqb}
+use Rattle.standard.proofs.DerivationLaws.{ring-long}
+use Rattle.standard.specs.Bytes.{_!_, part}
+use Rattle.standard.specs.Derivation.{ringOf, ringCall}
+use Rattle.standard.specs.Programs.{sittingRing}
+use Rattle.standard.specs.Sizes.{sittingSize}
+use Rattle.standard.specs.declared.RingInputs.{RingInputs}
+
+module _ (s : List ℕ) where
+  abbrev pub inputs : RingInputs
+  inputs = record {
+    root = part 0 16 s;
+    rs = part 16 10 s;
+    rso = part 26 10 s;
+    rand1 = part 36 10 s;
+    rand2 = part 46 10 s;
+    c = part 56 10 s;
+    sides = s ! 66;
+    «response_mask» = 256 * s ! 67 + s ! 68;
+    «key_mask» = 256 * s ! 69 + s ! 70;
+  }
+
+  sitting-long : length s ≡ sittingSize
+      → ringCall (part 0 16 s) (part 16 10 s) (part 26 10 s) (part 36 10 s) (part 46 10 s) (part 56 10 s) (s ! 66) (256 * s ! 67 + s ! 68) (256 * s ! 69 + s ! 70)
+      ≡ sittingRing s
+  unfolding sittingRing
+  sitting-long h = rw (eq-eqb _ _ h)
+
+  pub sitting-recipe : length s ≡ sittingSize → ringOf inputs ≡ sittingRing s
+  sitting-recipe h =
+      ring-long (part 0 16 s) (part 16 10 s) (part 26 10 s) (part 36 10 s) (part 46 10 s) (part 56 10 s) (s ! 66) (256 * s ! 67 + s ! 68) (256 * s ! 69 + s ! 70) refl
+      ∙ sitting-long h

@@ -1,0 +1,94 @@
+-- The facts that the requests ask for (02), proved.
+-- Assumes nothing.
+use mathlib.Core.Bool.{Bool, true, _&&_}
+use mathlib.Core.List.{List, [], _∷_, _++_}
+use mathlib.Core.Path.{_≡_, refl, ap₂, _∙_}
+use Prim.Native.Nat.{ℕ, zero, suc, _^_, _<_}
+use native.Mathlib.Nat.{suc-ne-zero}
+use lib.Bits.{xor-zero-r}
+use lib.Dec.{eqb}
+use lib.ListN.{length}
+use borrow.Author.Tests.{eq-eqb, ne-eqb}
+use Rattle.standard.specs.Bytes.{part, xors, zeros}
+use Rattle.standard.specs.Cores.{bl1With, bl1}
+use Rattle.standard.specs.Derivation.{core, ta11, ta21, chosen, ta12Call, sidesTest, ring, long6, ringCall}
+use Rattle.standard.specs.Facts.{BothSides, IdleChallenge, OneSide}
+use Rattle.standard.specs.Mixing.{tb4}
+use Rattle.standard.specs.Refusals.{wrongLength, long, maskTests, first, ringMade}
+use Rattle.standard.proofs.BytesLaws.{spelled, long-spelled}
+use Rattle.standard.proofs.DerivationLaws.{masks-ones, length-chosen, long6-split}
+use Rattle.standard.proofs.FirstLaws.{all-pass, none-fails}
+
+-- ---- one-sided authentication (02, 1)
+
+-- what a refused recipe answers hangs on the number alone
+ring-same : (r : ℕ) (k k′ s s′ t t′ : List ℕ) → (r ≡ 0 → (k ≡ k′) × (s ≡ s′) × (t ≡ t′)) → ringMade r k s t ≡ ringMade r k′ s′ t′
+ring-same zero k k′ s s′ t t′ h = let e = h refl in rw (e .0, e .1, e .2)
+ring-same (suc r) k k′ s s′ t t′ h = rw (ne-eqb (suc r) 0 (suc-ne-zero r))
+
+-- TA12 under a session key of 16 bytes, where its challenge and the masks pass
+ta12-passes : (ks rand : List ℕ) (rm km : ℕ) → long 16 ks ≡ true → long 10 rand ≡ true → first (maskTests rm km) ≡ 0
+    → ta12Call ks rand rm km ≡ record { refusal = 0; response = chosen rm (core ks rand); key = chosen km (core ks rand) }
+unfolding ta12Call
+ta12-passes ks rand rm km l₁ l₂ m = rw (l₁, l₂, m)
+
+-- a session key has 16 bytes
+core-long : (k seed : List ℕ) → long 16 (core k seed) ≡ true
+unfolding bl1 bl1With
+core-long k seed = refl
+
+core-spelled : (k seed : List ℕ) → part 0 16 (core k seed) ≡ core k seed
+core-spelled k seed = long-spelled 16 (core k seed) (core-long k seed)
+
+module _ (root rs rso rand1 rand2 c : List ℕ) (sides rm km : ℕ) where
+  abbrev tests : List (Bool × ℕ)
+  tests = (long6 root rs rso rand1 rand2 c, wrongLength) ∷ sidesTest sides ∷ maskTests rm km
+
+  -- what an accepted recipe's tests say
+  lengths : first tests ≡ 0 → long6 root rs rso rand1 rand2 c ≡ true
+  lengths z = all-pass tests refl z 0
+
+  masks : first tests ≡ 0 → first (maskTests rm km) ≡ 0
+  masks z = let p = all-pass tests refl z in none-fails (maskTests rm km) (λ i. p (suc (suc i)))
+
+pub both-sides : BothSides
+unfolding ringCall ring
+both-sides root rs rso rand1 rand2 c rm km =
+    ring-same (first (tests root rs rso rand1 rand2 c 3 rm km)) _ _ _ _ _ _
+    (λ z.
+    let s = long6-split root rs rso rand1 rand2 c (lengths root rs rso rand1 rand2 c 3 rm km z) in
+    let m = masks root rs rso rand1 rand2 c 3 rm km z in
+    let a = ta12-passes (ta11 root rs) rand1 rm km (core-long root rs) (s .3) m in
+    let b = ta12-passes (ta21 root rs) rand2 rm km (core-long root _) (s .4) m in
+    let d = tb4 (chosen km (core (ta11 root rs) rand1)) (chosen km (core (ta21 root rs) rand2)) in
+    rw (a, b) (ap₂ (λ (o k : List ℕ). d ++ o ++ k) (core-spelled root rso) (long-spelled 10 c (s .5)), refl, refl))
+
+pub idle-challenge : IdleChallenge
+unfolding ringCall ring
+idle-challenge = record {
+  ta12-alone = λ root rs rso rand1 c rm km x y hx hy. rw (eq-eqb _ _ hx, eq-eqb _ _ hy);
+  ta22-alone = λ root rs rso rand2 c rm km x y hx hy. rw (eq-eqb _ _ hx, eq-eqb _ _ hy);
+}
+
+xors-zeros : (k : List ℕ) → length k ≡ 10 → xors 10 k (zeros 10) ≡ k
+xors-zeros k e = simp xor-zero-r (spelled 10 k e)
+
+chosen10 : (km : ℕ) (o : List ℕ) → km < 2 ^ 16 → (rm : ℕ) → first (maskTests rm km) ≡ 0 → length (chosen km o) ≡ 10
+chosen10 km o h rm m = length-chosen km o h ∙ masks-ones rm km m .1
+
+pub one-side : OneSide
+unfolding ringCall ring
+one-side = record {
+  ta12-alone = λ root rs rso rand1 rand2 c rm km h z.
+      let s = long6-split root rs rso rand1 rand2 c (lengths root rs rso rand1 rand2 c 1 rm km z) in
+      let m = masks root rs rso rand1 rand2 c 1 rm km z in
+      let a = ta12-passes (ta11 root rs) rand1 rm km (core-long root rs) (s .3) m in
+      let o = core (ta11 root rs) rand1 in
+      rw (z, a) (xors-zeros (chosen km o) (chosen10 km o h rm m), refl);
+  ta22-alone = λ root rs rso rand1 rand2 c rm km h z.
+      let s = long6-split root rs rso rand1 rand2 c (lengths root rs rso rand1 rand2 c 2 rm km z) in
+      let m = masks root rs rso rand1 rand2 c 2 rm km z in
+      let b = ta12-passes (ta21 root rs) rand2 rm km (core-long root _) (s .4) m in
+      let o = core (ta21 root rs) rand2 in
+      rw (z, b) (spelled 10 (chosen km o) (chosen10 km o h rm m), refl);
+}
