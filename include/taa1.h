@@ -35,7 +35,7 @@ enum {
     TAA1_PLAIN_RECORD_BYTES = 18,
     TAA1_SEALED_RECORD_BYTES = 21,
     TAA1_MOST_RECORDS = 1024, /* of a book */
-    TAA1_SITTING_BYTES = 70   /* of a file with what taa1_ring takes */
+    TAA1_SITTING_BYTES = 71   /* of a file with what taa1_ring takes */
 };
 
 /* The kinds of a record, by the call that seals the key. */
@@ -63,6 +63,7 @@ enum taa1_refusal {
     TAA1_SHARED_BIT = 8,   /* the masks share a bit */
     TAA1_WRONG_WIDTH = 9,  /* a width is not 16 to 32 */
     TAA1_VALUE_WIDE = 10,  /* a value is too wide for its field */
+    TAA1_WRONG_SIDES = 13, /* the number of sides is not 1 to 3 */
 
     /* caused by the host */
     TAA1_WRONG_LENGTH = 11, /* an input has another length than its call takes */
@@ -85,6 +86,7 @@ static inline const char *taa1_refusal_text(uint32_t refusal)
     case TAA1_VALUE_WIDE: return "value too wide for its field";
     case TAA1_WRONG_LENGTH: return "input of a wrong length";
     case TAA1_OUTPUT_SHORT: return "output shorter than the result";
+    case TAA1_WRONG_SIDES: return "number of sides not 1 to 3";
     default: return "not in the list";
     }
 }
@@ -319,6 +321,10 @@ taa1_bytes16 taa1_tb7(const uint8_t *group_key, size_t group_key_length);
  * c, for identities. D is TB4 of the keys from TA12 (rs, rand1) and TA22 (rs,
  * rand2), and O is TA41 (rso). The masks are those of TA12 and TA22, whose
  * responses come along.
+ *
+ * The number of sides says which of the two run: 1 TA12 alone, 2 TA22 alone, 3
+ * both. One that does not run gives zeros to TB4 and as its response; of its
+ * challenge only the length is tested.
  */
 taa1_ring_made taa1_ring(const uint8_t *root, size_t root_length,
                          const uint8_t *rs, size_t rs_length,
@@ -326,7 +332,7 @@ taa1_ring_made taa1_ring(const uint8_t *root, size_t root_length,
                          const uint8_t *rand1, size_t rand1_length,
                          const uint8_t *rand2, size_t rand2_length,
                          const uint8_t *c, size_t c_length,
-                         uint16_t response_mask, uint16_t key_mask);
+                         uint64_t sides, uint16_t response_mask, uint16_t key_mask);
 
 /*
  * ---- Books: up to TAA1_MOST_RECORDS under a ring [TAA1_RING_BYTES] of taa1_ring ----

@@ -119,8 +119,12 @@ static void single_calls(bool at_end, int longer)
     CHECK(taa1_tb5(S(key), 1, 2, 3).refusal == wanted);
     CHECK(taa1_tb6(S(key), 1, 2).refusal == wanted);
     CHECK(taa1_tb7(S(group_key)).refusal == wanted);
+    for (uint64_t sides = 1; sides <= 3; sides++)
+        CHECK(taa1_ring(S(root), S(key), S(key2), S(key), S(key2), S(key),
+                        sides, response_mask, key_mask).refusal == wanted);
+    uint32_t no_sides = longer == 0 ? TAA1_WRONG_SIDES : TAA1_WRONG_LENGTH;
     CHECK(taa1_ring(S(root), S(key), S(key2), S(key), S(key2), S(key),
-                    response_mask, key_mask).refusal == wanted);
+                    0, response_mask, key_mask).refusal == no_sides);
 
     /* A random text has its flag set, or the answer is zero. */
     taa1_unsealed kind1 = taa1_ta32(S(text), S(key), version);

@@ -69,10 +69,11 @@ static taa1_ring_made make_ring(const contents *sitting) {
         exit(EXIT_FAILURE);
     }
     const uint8_t *at = sitting->bytes;
-    uint16_t response_mask = (uint16_t)(at[66] << 8 | at[67]);
-    uint16_t key_mask = (uint16_t)(at[68] << 8 | at[69]);
+    uint64_t sides = at[66];
+    uint16_t response_mask = (uint16_t)(at[67] << 8 | at[68]);
+    uint16_t key_mask = (uint16_t)(at[69] << 8 | at[70]);
     taa1_ring_made made = taa1_ring(at, 16, at + 16, 10, at + 26, 10, at + 36, 10, at + 46, 10,
-                                    at + 56, 10, response_mask, key_mask);
+                                    at + 56, 10, sides, response_mask, key_mask);
     if (made.refusal != TAA1_ACCEPTED) {
         fprintf(stderr, "sitting: sitting.bin: refused %u (%s)\n", (unsigned)made.refusal,
                 taa1_refusal_text(made.refusal));

@@ -37,8 +37,9 @@ def parse(data: bytes) -> taa1.Sitting:
         rand1=data[36:46],
         rand2=data[46:56],
         c=data[56:66],
-        response_mask=int.from_bytes(data[66:68], "big"),
-        key_mask=int.from_bytes(data[68:70], "big"),
+        sides=data[66],
+        response_mask=int.from_bytes(data[67:69], "big"),
+        key_mask=int.from_bytes(data[69:71], "big"),
     )
 
 

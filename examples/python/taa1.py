@@ -14,7 +14,7 @@ RING_BYTES = 36
 PLAIN_RECORD_BYTES = 18
 SEALED_RECORD_BYTES = 21
 MOST_RECORDS = 1024  # of a book
-SITTING_BYTES = 70  # of a file with what a ring is made from
+SITTING_BYTES = 71  # of a file with what a ring is made from
 
 
 class Kind(IntEnum):
@@ -41,6 +41,7 @@ class Refusal(IntEnum):
     VALUE_WIDE = 10
     WRONG_LENGTH = 11
     OUTPUT_SHORT = 12
+    WRONG_SIDES = 13
 
 
 NAMES: dict[int, str] = {
@@ -56,6 +57,7 @@ NAMES: dict[int, str] = {
     Refusal.VALUE_WIDE: "value too wide for its field",
     Refusal.WRONG_LENGTH: "input of a wrong length",
     Refusal.OUTPUT_SHORT: "output shorter than the result",
+    Refusal.WRONG_SIDES: "number of sides not 1 to 3",
 }
 
 
@@ -111,7 +113,11 @@ class KeyNumber(_Sixteen):
 
 
 class Sitting(NamedTuple):
-    """What a ring is made from: a root of 16 bytes, five strings of 10, two masks."""
+    """What a ring is made from.
+
+    A root of 16 bytes, five strings of 10, the number of sides (1 for TA12 alone,
+    2 for TA22 alone, 3 for both) and two masks.
+    """
 
     root: Bytes
     rs: Bytes
@@ -119,6 +125,7 @@ class Sitting(NamedTuple):
     rand1: Bytes
     rand2: Bytes
     c: Bytes
+    sides: int
     response_mask: int
     key_mask: int
 
@@ -239,7 +246,7 @@ _CALLS: dict[str, tuple[type[ctypes.Structure], tuple[Any, ...]]] = {
     "tb5": (_BYTES10, (bytes, c_uint64, c_uint64, c_uint64)),
     "tb6": (_BYTES10, (bytes, c_uint64, c_uint64)),
     "tb7": (_BYTES16, (bytes,)),
-    "ring": (_RING_MADE, (bytes,) * 6 + _MASKS),
+    "ring": (_RING_MADE, (bytes,) * 6 + (c_uint64, *_MASKS)),
     "seal_book": (_BOOK, (bytes, bytes, bytearray)),
     "open_book": (_BOOK, (bytes, bytes, bytearray)),
     "check_plain": (_BOOK, (bytes,)),
@@ -418,7 +425,10 @@ class Engine:
         return self._call("tb7", group_key)
 
     def ring(self, sitting: Sitting) -> RingMade:
-        """The ring of a sitting, and both responses."""
+        """The ring of a sitting, and both responses.
+
+        A side that does not run gives zeros for its key and its response.
+        """
         return self._call("ring", *_expect(sitting, Sitting))
 
     def seal_book(self, ring: Bytes, plain: Bytes) -> Book:

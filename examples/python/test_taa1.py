@@ -48,8 +48,17 @@ BLOCK = upward(8)
 VERSION = Version(0x0708)
 RESPONSE_MASK = 0xF000
 KEY_MASK = 0x0FFC
+BOTH_SIDES = 3
 SITTING = Sitting(
-    ROOT, upward(10), KEY, b"challenge1", b"challenge2", b"common key", RESPONSE_MASK, KEY_MASK
+    ROOT,
+    upward(10),
+    KEY,
+    b"challenge1",
+    b"challenge2",
+    b"common key",
+    BOTH_SIDES,
+    RESPONSE_MASK,
+    KEY_MASK,
 )
 RING = upward(RING_BYTES)
 
@@ -208,11 +217,22 @@ class Results(unittest.TestCase):
         self.assertEqual(ENGINE.tb6(KEY, 0xABC, 0x123456), xor(KEY, carried))
 
     def test_ring(self) -> None:
-        root, rs, rso, rand1, rand2, c, *masks = SITTING
+        root, rs, rso, rand1, rand2, c, _, *masks = SITTING
         first = ENGINE.ta12(ENGINE.ta11(root, rs), rand1, *masks)
         second = ENGINE.ta22(ENGINE.ta21(root, rs), rand2, *masks)
-        ring = ENGINE.tb4(first.key, second.key) + ENGINE.ta41(root, rso) + c
-        self.assertEqual(ENGINE.ring(SITTING), (ring, first.response, second.response))
+        idle = taa1.Authentication(bytes(4), bytes(10))
+        for sides, (left, right) in enumerate([(first, idle), (idle, second), (first, second)], 1):
+            with self.subTest(sides=sides):
+                ring = ENGINE.tb4(left.key, right.key) + ENGINE.ta41(root, rso) + c
+                made = ENGINE.ring(SITTING._replace(sides=sides))
+                self.assertEqual(made, (ring, left.response, right.response))
+
+    def test_idle_challenges(self) -> None:
+        for sides, idle in ((1, "rand2"), (2, "rand1")):
+            with self.subTest(sides=sides):
+                sitting = SITTING._replace(sides=sides)
+                other = sitting._replace(**{idle: bytes(10)})
+                self.assertEqual(ENGINE.ring(other), ENGINE.ring(sitting))
 
     def test_books(self) -> None:
         kind1, others, c = RING[:10], RING[10:26], RING[26:]
@@ -270,7 +290,11 @@ class Refusals(unittest.TestCase):
         self.refuses(Refusal.WRONG_NUMBER, None, "ta51", KEY, VERSION, ROOT, KeyNumber(32))
         self.refuses(Refusal.WRONG_MASK, None, "ta12", ROOT, KEY, 0x7000, KEY_MASK)
         self.refuses(Refusal.SHARED_BIT, None, "ta22", ROOT, KEY, 0x3C00, KEY_MASK)
-        self.refuses(Refusal.WRONG_MASK, None, "ring", *SITTING[:6], KEY_MASK, RESPONSE_MASK)
+        for sides in (1, 2, 3):
+            exchanged = (*SITTING[:6], sides, KEY_MASK, RESPONSE_MASK)
+            self.refuses(Refusal.WRONG_MASK, None, "ring", *exchanged)
+        for sides in (0, 4, 259, (1 << 32) + 1):
+            self.refuses(Refusal.WRONG_SIDES, None, "ring", *SITTING[:6], sides, 0, 0)
         self.refuses(Refusal.WRONG_WIDTH, None, "tb1", 1, 15)
         self.refuses(Refusal.WRONG_WIDTH, None, "tb3", ROOT, 1, 33)
         self.refuses(Refusal.VALUE_WIDE, None, "ta61", KEY, 1 << 24)
@@ -354,10 +378,10 @@ class Values(unittest.TestCase):
     def test_wide_integers(self) -> None:
         """The widest that fits goes to the engine, which refuses it."""
         for name, values in ACCEPTED.items():
-            bits = 16 if name in ("ta12", "ta22", "ring") else 64
             for at, value in enumerate(values):
                 if not isinstance(value, int):
                     continue
+                bits = 16 if value in (RESPONSE_MASK, KEY_MASK) else 64
                 for wide, error in (
                     ((1 << bits) - 1, Refused),
                     (1 << bits, OverflowError),

@@ -14,7 +14,7 @@ pub const SEALED_RECORD_BYTES: usize = 21;
 /// The most records of a book.
 pub const MOST_RECORDS: usize = 1024;
 /// Bytes of a file with what a ring is made from.
-pub const SITTING_BYTES: usize = 70;
+pub const SITTING_BYTES: usize = 71;
 
 /// The kinds of a record, by the call that seals the key.
 #[repr(u8)]
@@ -48,7 +48,8 @@ impl From<u16> for KeyNumber {
     }
 }
 
-/// What a ring is made from: a root of 16 bytes, five strings of 10, two masks.
+/// What a ring is made from: a root of 16 bytes, five strings of 10, the number
+/// of sides, two masks.
 #[derive(Clone, Copy, Debug)]
 pub struct Sitting<'a> {
     pub root: &'a [u8],
@@ -57,6 +58,8 @@ pub struct Sitting<'a> {
     pub rand1: &'a [u8],
     pub rand2: &'a [u8],
     pub c: &'a [u8],
+    /// 1 for TA12 alone, 2 for TA22 alone, 3 for both.
+    pub sides: u64,
     pub response_mask: u16,
     pub key_mask: u16,
 }
@@ -296,7 +299,8 @@ pub fn tb7(group_key: &[u8]) -> Result<[u8; 16], Refusal> {
     bytes(call!(tb7([group_key])))
 }
 
-/// The ring of a sitting, and both responses.
+/// The ring of a sitting, and both responses. A side that does not run gives
+/// zeros for its key and its response.
 pub fn ring(sitting: &Sitting) -> Result<RingMade, Refusal> {
     let Sitting {
         root,
@@ -305,6 +309,7 @@ pub fn ring(sitting: &Sitting) -> Result<RingMade, Refusal> {
         rand1,
         rand2,
         c,
+        sides,
         response_mask,
         key_mask,
     } = *sitting;
@@ -315,6 +320,7 @@ pub fn ring(sitting: &Sitting) -> Result<RingMade, Refusal> {
         [rand1],
         [rand2],
         [c],
+        sides,
         response_mask,
         key_mask
     ));

@@ -1,4 +1,4 @@
-//! The twelve refusals.
+//! The thirteen refusals.
 
 use std::error::Error;
 use std::fmt;
@@ -18,10 +18,11 @@ pub enum Refusal {
     ValueWide = 10,
     WrongLength = 11,
     OutputShort = 12,
+    WrongSides = 13,
 }
 
 impl Refusal {
-    pub const ALL: [Refusal; 12] = [
+    pub const ALL: [Refusal; 13] = [
         Refusal::BookTooLong,
         Refusal::BookNotWhole,
         Refusal::WrongKind,
@@ -34,6 +35,7 @@ impl Refusal {
         Refusal::ValueWide,
         Refusal::WrongLength,
         Refusal::OutputShort,
+        Refusal::WrongSides,
     ];
 
     pub fn number(self) -> u32 {
@@ -54,6 +56,7 @@ impl Refusal {
             Refusal::ValueWide => "value too wide for its field",
             Refusal::WrongLength => "input of a wrong length",
             Refusal::OutputShort => "output shorter than the result",
+            Refusal::WrongSides => "number of sides not 1 to 3",
         }
     }
 
@@ -61,7 +64,7 @@ impl Refusal {
     pub(crate) fn test(number: u32) -> Result<(), Refusal> {
         match number {
             0 => Ok(()),
-            1..=12 => Err(Refusal::ALL[number as usize - 1]),
+            1..=13 => Err(Refusal::ALL[number as usize - 1]),
             _ => unreachable!("the engine has no refusal {number}"),
         }
     }

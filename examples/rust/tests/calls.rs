@@ -193,34 +193,64 @@ fn keys_are_made_for_cells() {
     assert_eq!(taa1::tb6(&KEY, 0xabc, 0x123456), Ok(xor(KEY, carried)));
 }
 
+/// A sitting of so many sides.
+fn sitting(sides: u64) -> Sitting<'static> {
+    Sitting {
+        root: &ROOT,
+        rs: b"first seed",
+        rso: b"other seed",
+        rand1: b"challenge1",
+        rand2: b"challenge2",
+        c: b"common key",
+        sides,
+        response_mask: RESPONSE_MASK,
+        key_mask: KEY_MASK,
+    }
+}
+
 #[test]
 fn rings_are_made() {
-    let (rs, rso, c) = (upward::<10>(), KEY, *b"common key");
-    let (rand1, rand2) = (b"challenge1", b"challenge2");
-    let (response_mask, key_mask) = (RESPONSE_MASK, KEY_MASK);
-    let made = taa1::ring(&Sitting {
-        root: &ROOT,
-        rs: &rs,
-        rso: &rso,
+    let Sitting {
+        rs,
+        rso,
         rand1,
         rand2,
-        c: &c,
-        response_mask,
-        key_mask,
-    });
-
-    let key1 = taa1::ta11(&ROOT, &rs).unwrap();
-    let key2 = taa1::ta21(&ROOT, &rs).unwrap();
-    let first = taa1::ta12(&key1, rand1, response_mask, key_mask).unwrap();
-    let second = taa1::ta22(&key2, rand2, response_mask, key_mask).unwrap();
-    let d = taa1::tb4(&first.key, &second.key).unwrap();
-    let o = taa1::ta41(&ROOT, &rso).unwrap();
-    let wanted = RingMade {
-        ring: [&d[..], &o, &c].concat().try_into().unwrap(),
-        response1: first.response,
-        response2: second.response,
+        c,
+        ..
+    } = sitting(3);
+    let key1 = taa1::ta11(&ROOT, rs).unwrap();
+    let key2 = taa1::ta21(&ROOT, rs).unwrap();
+    let first = taa1::ta12(&key1, rand1, RESPONSE_MASK, KEY_MASK).unwrap();
+    let second = taa1::ta22(&key2, rand2, RESPONSE_MASK, KEY_MASK).unwrap();
+    let o = taa1::ta41(&ROOT, rso).unwrap();
+    let idle = Authentication {
+        response: [0; 4],
+        key: [0; 10],
     };
-    assert_eq!(made, Ok(wanted));
+    for (sides, first, second) in [(1, first, idle), (2, idle, second), (3, first, second)] {
+        let d = taa1::tb4(&first.key, &second.key).unwrap();
+        let wanted = RingMade {
+            ring: [&d[..], &o, c].concat().try_into().unwrap(),
+            response1: first.response,
+            response2: second.response,
+        };
+        assert_eq!(taa1::ring(&sitting(sides)), Ok(wanted), "sides {sides}");
+    }
+}
+
+#[test]
+fn idle_challenges_change_nothing() {
+    let (first, second) = (sitting(1), sitting(2));
+    let other = Sitting {
+        rand2: &KEY,
+        ..first
+    };
+    assert_eq!(taa1::ring(&other), taa1::ring(&first));
+    let other = Sitting {
+        rand1: &KEY,
+        ..second
+    };
+    assert_eq!(taa1::ring(&other), taa1::ring(&second));
 }
 
 #[test]
@@ -331,6 +361,10 @@ fn single_calls_are_refused() {
     assert_eq!(taa1::tb1(1 << 16, 16), Err(Refusal::ValueWide));
     assert_eq!(taa1::ta61(&KEY, 1 << 24), Err(Refusal::ValueWide));
     assert_eq!(taa1::encrypt(&KEY, b"8 bytes."), Err(Refusal::WrongLength));
+    for sides in [0, 4, 259, (1 << 32) + 1, u64::MAX] {
+        let made = taa1::ring(&sitting(sides));
+        assert_eq!(made, Err(Refusal::WrongSides), "sides {sides}");
+    }
 }
 
 #[test]

@@ -1,4 +1,5 @@
-//! The algorithms of TAA1, clause 5, and the ring recipe of document 01.
+//! The algorithms of TAA1, clause 5, and the ring recipe of document 01 as
+//! document 02 widens it.
 //!
 //! Byte strings hold the leftmost byte first. Every call answers a struct
 //! whose first field is the refusal number; on a refusal the rest is zero.
@@ -153,6 +154,14 @@ fn check_masks(response_mask: u16, key_mask: u16) -> Result<(), u32> {
         Err(8)
     } else {
         Ok(())
+    }
+}
+
+/// Refusal 13 (02, 1).
+fn check_sides(sides: u64) -> Result<(), u32> {
+    match sides {
+        1..=3 => Ok(()),
+        _ => Err(13),
     }
 }
 
@@ -686,7 +695,15 @@ pub fn tb7(group_key: &[u8]) -> Bytes16 {
     })
 }
 
-/// The ring recipe of document 01: D, O and C in a row.
+/// What a side that does not run gives to the ring (02, 1).
+const IDLE: Authentication = Authentication {
+    refusal: 0,
+    response: [0; 4],
+    key: [0; 10],
+};
+
+/// The ring recipe of documents 01 and 02, 1: D, O and C in a row. TA12 runs
+/// unless `sides` is 2, and TA22 unless it is 1.
 #[allow(clippy::too_many_arguments)]
 pub fn ring(
     root: &[u8],
@@ -695,6 +712,7 @@ pub fn ring(
     rand1: &[u8],
     rand2: &[u8],
     c: &[u8],
+    sides: u64,
     response_mask: u16,
     key_mask: u16,
 ) -> RingMade {
@@ -703,9 +721,16 @@ pub fn ring(
         for input in [rs, rso, rand1, rand2, c] {
             exact::<10>(input)?;
         }
+        check_sides(sides)?;
         check_masks(response_mask, key_mask)?;
-        let first = ta12(&ta11(root, rs).bytes, rand1, response_mask, key_mask);
-        let second = ta22(&ta21(root, rs).bytes, rand2, response_mask, key_mask);
+        let first = match sides {
+            2 => IDLE,
+            _ => ta12(&ta11(root, rs).bytes, rand1, response_mask, key_mask),
+        };
+        let second = match sides {
+            1 => IDLE,
+            _ => ta22(&ta21(root, rs).bytes, rand2, response_mask, key_mask),
+        };
         let d = tb4(&first.key, &second.key).bytes;
         let o = ta41(root, rso).bytes;
         Ok(RingMade {
@@ -1003,7 +1028,7 @@ mod tests {
         let mut random = Random::new(6);
         let root = random.bytes::<16>();
         let [rs, rso, rand1, rand2, c]: [[u8; 10]; 5] = from_fn(|_| random.bytes());
-        let made = ring(&root, &rs, &rso, &rand1, &rand2, &c, 0x000f, 0xffc0);
+        let made = ring(&root, &rs, &rso, &rand1, &rand2, &c, 3, 0x000f, 0xffc0);
         assert_eq!(made.refusal, 0);
         let mut reversed = rs;
         reversed.reverse();
@@ -1015,10 +1040,49 @@ mod tests {
         assert_eq!(made.ring[26..], c);
         assert_eq!(made.response1, one[12..]);
         assert_eq!(made.response2, two[12..]);
-        let refused = |c: &[u8], a, b| ring(&root, &rs, &rso, &rand1, &rand2, c, a, b);
-        assert_eq!(refused(&c, 0x000f, 0xff80), RingMade::refused(7));
-        assert_eq!(refused(&c, 0x000f, 0x03ff), RingMade::refused(8));
-        assert_eq!(refused(&c[..9], 0, 0), RingMade::refused(11));
+
+        let mut wanted = made;
+        wanted.ring[..10].copy_from_slice(&one[..10]);
+        wanted.response2 = [0; 4];
+        let made = ring(&root, &rs, &rso, &rand1, &[0; 10], &c, 1, 0x000f, 0xffc0);
+        assert_eq!(made, wanted);
+        wanted.ring[..10].copy_from_slice(&two[..10]);
+        wanted.response1 = [0; 4];
+        wanted.response2.copy_from_slice(&two[12..]);
+        let made = ring(&root, &rs, &rso, &[0; 10], &rand2, &c, 2, 0x000f, 0xffc0);
+        assert_eq!(made, wanted);
+    }
+
+    #[test]
+    fn ring_is_refused() {
+        let (root, a) = ([1; 16], [2; 10]);
+        let (right, short) = (&a[..], &a[..9]);
+        let refusal = |rand1: &[u8], rand2: &[u8], sides, response_mask, key_mask| {
+            let made = ring(
+                &root,
+                &a,
+                &a,
+                rand1,
+                rand2,
+                &a,
+                sides,
+                response_mask,
+                key_mask,
+            );
+            assert_eq!(made, RingMade::refused(made.refusal));
+            made.refusal
+        };
+        for sides in 1..=3 {
+            assert_eq!(refusal(right, right, sides, 0x000f, 0xff80), 7);
+            assert_eq!(refusal(right, right, sides, 0x000f, 0x03ff), 8);
+            assert_eq!(refusal(short, right, sides, 0x000f, 0xffc0), 11);
+            assert_eq!(refusal(right, short, sides, 0x000f, 0xffc0), 11);
+        }
+        for sides in [0, 4, 259, (1 << 32) + 1, u64::MAX] {
+            assert_eq!(refusal(right, right, sides, 0x000f, 0xffc0), 13);
+            assert_eq!(refusal(right, right, sides, 0, 0), 13);
+            assert_eq!(refusal(right, short, sides, 0, 0), 11);
+        }
     }
 
     #[test]

@@ -30,8 +30,9 @@ fn parse(bytes: &[u8]) -> Option<Sitting<'_>> {
         rand1: &bytes[36..46],
         rand2: &bytes[46..56],
         c: &bytes[56..66],
-        response_mask: u16::from_be_bytes([bytes[66], bytes[67]]),
-        key_mask: u16::from_be_bytes([bytes[68], bytes[69]]),
+        sides: bytes[66].into(),
+        response_mask: u16::from_be_bytes([bytes[67], bytes[68]]),
+        key_mask: u16::from_be_bytes([bytes[69], bytes[70]]),
     })
 }
 

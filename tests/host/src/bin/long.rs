@@ -50,6 +50,14 @@ fn masks(random: &mut Random) -> (u16, u16) {
     }
 }
 
+/// Mostly a right number.
+fn sides(random: &mut Random) -> u64 {
+    match random.below(16) {
+        0 => random.number() >> random.below(64),
+        _ => 1 + random.number() % 3,
+    }
+}
+
 fn cipher(group: &mut Group, random: &mut Random) {
     let (key, block, seed) = (string(random, 16), string(random, 8), string(random, 10));
     compare!(group, encrypt([key], [block]));
@@ -61,8 +69,9 @@ fn cipher(group: &mut Group, random: &mut Random) {
     compare!(group, ta12([key], [seed], response_mask, key_mask));
     compare!(group, ta22([key], [seed], response_mask, key_mask));
     let [rs, rso, rand1, rand2, c] = [(); 5].map(|_| string(random, 10));
+    let sides = sides(random);
     #[rustfmt::skip]
-    compare!(group, ring([key], [rs], [rso], [rand1], [rand2], [c], response_mask, key_mask));
+    compare!(group, ring([key], [rs], [rso], [rand1], [rand2], [c], sides, response_mask, key_mask));
 }
 
 /// Unseals of right texts, and of texts with a bit flipped.
