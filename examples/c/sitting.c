@@ -1,8 +1,8 @@
 /*
- * Plays a sitting: makes the ring, seals the model book, opens it and seals it
- * again, then opens the candidate's book.
+ * Plays a sitting: makes the ring, and the ring of the one-sided sitting, seals
+ * the model book, opens it and seals it again, then opens the candidate's book.
  *
- *     sitting [FOLDER]    the folder with the three files; samples by default
+ *     sitting [FOLDER]    the folder with the four files; samples by default
  */
 #include <stdio.h>
 #include <stdlib.h>
@@ -63,9 +63,10 @@ static void must_accept(const char *book, taa1_book_answer answer) {
     }
 }
 
-static taa1_ring_made make_ring(const contents *sitting) {
+/* The ring of the sitting in a file of this name. */
+static taa1_ring_made make_ring(const char *name, const contents *sitting) {
     if (sitting->length != TAA1_SITTING_BYTES) {
-        fprintf(stderr, "sitting: sitting.bin does not have %d bytes\n", TAA1_SITTING_BYTES);
+        fprintf(stderr, "sitting: %s does not have %d bytes\n", name, TAA1_SITTING_BYTES);
         exit(EXIT_FAILURE);
     }
     const uint8_t *at = sitting->bytes;
@@ -75,27 +76,38 @@ static taa1_ring_made make_ring(const contents *sitting) {
     taa1_ring_made made = taa1_ring(at, 16, at + 16, 10, at + 26, 10, at + 36, 10, at + 46, 10,
                                     at + 56, 10, sides, response_mask, key_mask);
     if (made.refusal != TAA1_ACCEPTED) {
-        fprintf(stderr, "sitting: sitting.bin: refused %u (%s)\n", (unsigned)made.refusal,
+        fprintf(stderr, "sitting: %s: refused %u (%s)\n", name, (unsigned)made.refusal,
                 taa1_refusal_text(made.refusal));
         exit(EXIT_FAILURE);
     }
     return made;
 }
 
+/* Prints a ring and both responses; each line begins with these words. */
+static void print_ring(const char *words, const taa1_ring_made *made) {
+    fputs(words, stdout);
+    print_hex("ring", made->ring, sizeof made->ring);
+    fputs(words, stdout);
+    print_hex("response 1", made->response1, sizeof made->response1);
+    fputs(words, stdout);
+    print_hex("response 2", made->response2, sizeof made->response2);
+}
+
 int main(int argc, char **argv) {
-    static contents sitting, plain, candidate;
+    static contents sitting, one_sided, plain, candidate;
     static uint8_t sealed[LONGEST], opened[LONGEST], again[LONGEST];
     const char *folder = argc > 1 ? argv[1] : "samples";
     read_file(folder, "sitting.bin", &sitting);
+    read_file(folder, "one-sided.bin", &one_sided);
     read_file(folder, "plain.book", &plain);
     read_file(folder, "candidate.book", &candidate);
 
-    taa1_ring_made made = make_ring(&sitting);
+    taa1_ring_made made = make_ring("sitting.bin", &sitting);
     const uint8_t *ring = made.ring;
     const size_t ring_length = sizeof made.ring;
-    print_hex("ring", ring, ring_length);
-    print_hex("response 1", made.response1, sizeof made.response1);
-    print_hex("response 2", made.response2, sizeof made.response2);
+    print_ring("", &made);
+    taa1_ring_made of_one_side = make_ring("one-sided.bin", &one_sided);
+    print_ring("one-sided ", &of_one_side);
 
     taa1_book_answer answer =
         taa1_seal_book(ring, ring_length, plain.bytes, plain.length, sealed, sizeof sealed);

@@ -1,9 +1,9 @@
-"""Plays a sitting: makes the ring, seals the model book, opens it and seals it
-again, then opens the candidate's book.
+"""Plays a sitting: makes the ring, and the ring of the one-sided sitting, seals the
+model book, opens it and seals it again, then opens the candidate's book.
 
     sitting.py LIBRARY [FOLDER]
 
-LIBRARY is the engine's shared object; FOLDER has the three files (samples by
+LIBRARY is the engine's shared object; FOLDER has the four files (samples by
 default).
 """
 
@@ -26,10 +26,10 @@ def read(folder: str, name: str) -> bytes:
         sys.exit(f"sitting: {path} cannot be read")
 
 
-def parse(data: bytes) -> taa1.Sitting:
-    """The sitting in the bytes of sitting.bin."""
+def parse(name: str, data: bytes) -> taa1.Sitting:
+    """The sitting in the bytes of a file of this name."""
     if len(data) != taa1.SITTING_BYTES:
-        sys.exit(f"sitting: sitting.bin does not have {taa1.SITTING_BYTES} bytes")
+        sys.exit(f"sitting: {name} does not have {taa1.SITTING_BYTES} bytes")
     return taa1.Sitting(
         root=data[:16],
         rs=data[16:26],
@@ -51,16 +51,25 @@ def must(what: str, call: Callable[..., Any], *inputs: Any) -> Any:
         sys.exit(f"sitting: {what}: {refused}")
 
 
+def print_ring(words: str, made: taa1.RingMade) -> None:
+    """Prints a ring and both responses; each line begins with these words."""
+    print(f"{words}ring {made.ring.hex()}")
+    print(f"{words}response 1 {made.response1.hex()}")
+    print(f"{words}response 2 {made.response2.hex()}")
+
+
 def play(engine: taa1.Engine, folder: str) -> None:
     """Plays the sitting of a folder."""
     sitting = read(folder, "sitting.bin")
+    one_sided = read(folder, "one-sided.bin")
     plain = read(folder, "plain.book")
     candidate = read(folder, "candidate.book")
 
-    ring, response1, response2 = must("sitting.bin", engine.ring, parse(sitting))
-    print("ring", ring.hex())
-    print("response 1", response1.hex())
-    print("response 2", response2.hex())
+    made = must("sitting.bin", engine.ring, parse("sitting.bin", sitting))
+    print_ring("", made)
+    of_one_side = must("one-sided.bin", engine.ring, parse("one-sided.bin", one_sided))
+    print_ring("one-sided ", of_one_side)
+    ring = made.ring
 
     records, sealed = must("plain.book", engine.seal_book, ring, plain)
     print(f"sealed {records} records, {len(sealed)} bytes")

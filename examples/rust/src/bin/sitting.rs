@@ -1,7 +1,7 @@
-//! Plays a sitting: makes the ring, seals the model book, opens it and seals it
-//! again, then opens the candidate's book.
+//! Plays a sitting: makes the ring, and the ring of the one-sided sitting, seals
+//! the model book, opens it and seals it again, then opens the candidate's book.
 //!
-//!     sitting [FOLDER]    the folder with the three files; samples by default
+//!     sitting [FOLDER]    the folder with the four files; samples by default
 
 use std::ffi::OsStr;
 use std::io::{self, Write};
@@ -9,7 +9,7 @@ use std::path::Path;
 use std::process::ExitCode;
 use std::{env, fs};
 
-use taa1::{Sitting, SEALED_RECORD_BYTES, SITTING_BYTES};
+use taa1::{RingMade, Sitting, SEALED_RECORD_BYTES, SITTING_BYTES};
 
 fn read(folder: &OsStr, name: &str) -> Result<Vec<u8>, String> {
     let mut path = folder.to_os_string();
@@ -18,7 +18,7 @@ fn read(folder: &OsStr, name: &str) -> Result<Vec<u8>, String> {
     fs::read(&path).map_err(|_| format!("{} cannot be read", Path::new(&path).display()))
 }
 
-/// The sitting in the bytes of sitting.bin.
+/// The sitting in the bytes of its file.
 fn parse(bytes: &[u8]) -> Option<Sitting<'_>> {
     if bytes.len() != SITTING_BYTES {
         return None;
@@ -36,6 +36,22 @@ fn parse(bytes: &[u8]) -> Option<Sitting<'_>> {
     })
 }
 
+/// The ring of the sitting in a file of this name.
+fn make_ring(name: &str, bytes: &[u8]) -> Result<RingMade, String> {
+    let sitting =
+        parse(bytes).ok_or_else(|| format!("{name} does not have {SITTING_BYTES} bytes"))?;
+    taa1::ring(&sitting).map_err(|e| format!("{name}: {e}"))
+}
+
+/// A ring and both responses; each line begins with these words.
+fn ring_lines(words: &str, made: &RingMade) -> [String; 3] {
+    [
+        format!("{words}ring {}", hex(&made.ring)),
+        format!("{words}response 1 {}", hex(&made.response1)),
+        format!("{words}response 2 {}", hex(&made.response2)),
+    ]
+}
+
 fn hex(bytes: &[u8]) -> String {
     bytes.iter().map(|byte| format!("{byte:02x}")).collect()
 }
@@ -43,15 +59,14 @@ fn hex(bytes: &[u8]) -> String {
 /// The lines of a sitting, as far as it goes, into `lines`.
 fn play(folder: &OsStr, lines: &mut Vec<String>) -> Result<(), String> {
     let sitting = read(folder, "sitting.bin")?;
+    let one_sided = read(folder, "one-sided.bin")?;
     let plain = read(folder, "plain.book")?;
     let candidate = read(folder, "candidate.book")?;
 
-    let sitting = parse(&sitting)
-        .ok_or_else(|| format!("sitting.bin does not have {SITTING_BYTES} bytes"))?;
-    let made = taa1::ring(&sitting).map_err(|e| format!("sitting.bin: {e}"))?;
-    lines.push(format!("ring {}", hex(&made.ring)));
-    lines.push(format!("response 1 {}", hex(&made.response1)));
-    lines.push(format!("response 2 {}", hex(&made.response2)));
+    let made = make_ring("sitting.bin", &sitting)?;
+    lines.extend(ring_lines("", &made));
+    let of_one_side = make_ring("one-sided.bin", &one_sided)?;
+    lines.extend(ring_lines("one-sided ", &of_one_side));
 
     let sealed = taa1::seal_book(&made.ring, &plain).map_err(|e| format!("plain.book: {e}"))?;
     let (records, length) = (sealed.records, sealed.bytes.len());
