@@ -15,6 +15,7 @@ use standard::UnsealedNumbered;
 use standard::Version;
 ghost use mathlib.Core.Path.{_≡_};
 ghost use Rattle.standard.specs.Books.{sealBook, openBook, checkPlain};
+ghost use Rattle.standard.specs.Classes.{ta12ClassCall};
 ghost use Rattle.standard.specs.Derivation.{ta11Call, ta21Call, ta41Call, ta12Call, ta22Call, ta71Call, ta101Call, ringCall};
 ghost use Rattle.standard.specs.Hurdle.{encryptCall, decryptCall};
 ghost use Rattle.standard.specs.Identity.{ta61Call, ta61⁻¹Call};
@@ -78,6 +79,19 @@ pub extern "C" fn taa1_ta22(
     ensures { λ r. ⌜ r ≡ ta22Call (now («session_key» .entry)) (now (challenge .entry)) «response_mask» «key_mask» ⌝ }
 {
     keys::ta22(session_key, challenge, response_mask, key_mask)
+}
+
+#[no_mangle]
+pub extern "C" fn taa1_ta12_class(
+    session_key: &[u8],
+    challenges: &[u8],
+    response_mask: u16,
+    key_mask: u16,
+    out: &mut [u8],
+) -> BookAnswer
+    ensures { λ r. ⌜ (r, now (out .exit)) ≡ ta12ClassCall (now («session_key» .entry)) (now (challenges .entry)) «response_mask» «key_mask» (now (out .entry)) ⌝ }
+{
+    classes::ta12_class(session_key, challenges, response_mask, key_mask, out)
 }
 
 #[no_mangle]

@@ -7,12 +7,14 @@ use crate::derivation::combined;
 use crate::derivation::core;
 use crate::derivation::int;
 use crate::derivation::reversed;
-use crate::masks::refusal_of;
+use crate::masks::refused_split;
 use crate::masks::split;
 use crate::recipe::make;
 use arrays::array10;
 use arrays::array16;
 use arrays::both_long;
+pub use masks::authenticate;
+pub use masks::mask_refusal;
 use standard::Authentication;
 use standard::Bytes10;
 use standard::Bytes16;
@@ -30,16 +32,6 @@ ghost use mathlib.Core.Path.{_≡_};
 ghost use Rattle.standard.specs.Bytes.{zeros};
 ghost use Rattle.standard.specs.Derivation.{core as coreOf, ta11Call, ta21Call, ta41Call, ta12Call, ta22Call, ta71Call, ta101Call, ringOf, ringCall};
 ghost use Rattle.standard.specs.Refusals.{wrongLength, long as longOf, first, answer16};
-
-fn refused_split(number: u32) -> Authentication
-    ensures { λ r. ⌜ r ≡ record { refusal = number; response = zeros 4; key = zeros 10 } ⌝ }
-{
-    Authentication {
-        refusal: number,
-        response: [0; 4],
-        key: [0; 10],
-    }
-}
 
 // The core under a root of any length; `long` says that the seed had its length.
 fn under_root(root: &[u8], seed: [u8; 10], long: bool) -> Bytes16
@@ -86,7 +78,7 @@ pub fn ta12(
     if !both_long(session_key, 16, challenge, 10) {
         return refused_split(WRONG_LENGTH);
     }
-    let number = refusal_of(response_mask, key_mask);
+    let number = mask_refusal(response_mask, key_mask);
     if number != 0 {
         return refused_split(number);
     }
@@ -144,7 +136,7 @@ pub fn ring_of(x: RingInputs) -> RingMade
     if !known {
         return refused_ring(WRONG_SIDES);
     }
-    let number = refusal_of(x.response_mask, x.key_mask);
+    let number = mask_refusal(x.response_mask, x.key_mask);
     if number != 0 {
         return refused_ring(number);
     }

@@ -5,11 +5,22 @@ use standard::WRONG_MASK;
 ghost use mathlib.Core.Path.{_≡_};
 ghost use lib.Count.{ones};
 ghost use lib.ListN.{length};
+ghost use Rattle.standard.specs.Bytes.{zeros};
 ghost use Rattle.standard.specs.Derivation.{chosen, split as splitOf};
-ghost use Rattle.standard.specs.Refusals.{maskTests, first};
+ghost use Rattle.standard.specs.Refusals.{maskTests, first, authentication};
+
+pub(crate) fn refused_split(number: u32) -> Authentication
+    ensures { λ r. ⌜ r ≡ record { refusal = number; response = zeros 4; key = zeros 10 } ⌝ }
+{
+    Authentication {
+        refusal: number,
+        response: [0; 4],
+        key: [0; 10],
+    }
+}
 
 // The number of the first test that the masks fail; 0 if none.
-pub(crate) fn refusal_of(response_mask: u16, key_mask: u16) -> u32
+pub fn mask_refusal(response_mask: u16, key_mask: u16) -> u32
     ensures { λ r. ⌜ r ≡ first (maskTests «response_mask» «key_mask») ⌝ }
 {
     let counted = (u16::count_ones(response_mask) == 4) & (u16::count_ones(key_mask) == 10);
@@ -68,4 +79,15 @@ pub(crate) fn split(output: [u8; 16], response_mask: u16, key_mask: u16) -> Auth
         response: chosen4(response_mask, output),
         key: chosen10(key_mask, output),
     }
+}
+
+// What TA12 answers for an output of its core, with the masks' refusals.
+pub fn authenticate(output: [u8; 16], response_mask: u16, key_mask: u16) -> Authentication
+    ensures { λ r. ⌜ r ≡ authentication (first (maskTests «response_mask» «key_mask»)) (chosen «response_mask» output) (chosen «key_mask» output) ⌝ }
+{
+    let number = mask_refusal(response_mask, key_mask);
+    if number != 0 {
+        return refused_split(number);
+    }
+    split(output, response_mask, key_mask)
 }

@@ -22,7 +22,7 @@ pub record Book (w : ℕ) (ok : List ℕ → Bool) (xs : List ℕ) : Type 0 wher
 
 -- ---- a book, record by record
 
-each-same : (n w v : ℕ) (f g : List ℕ → List ℕ) (xs ys : List ℕ)
+pub each-same : (n w v : ℕ) (f g : List ℕ → List ℕ) (xs ys : List ℕ)
     → ((i : ℕ) → i < n → f (part (w * i) w xs) ≡ g (part (v * i) v ys)) → each n w f xs ≡ each n v g ys
 each-same zero w v f g xs ys h = refl
 each-same (suc n) w v f g xs ys h = ap₂ _++_ (each-same n w v f g xs ys (λ i k. h i (omega arith))) (h n (omega arith))

@@ -12,6 +12,7 @@ pub mod Listing
 pub mod Demand3
 pub mod Derivation
 pub mod Mixing
+pub mod Classes
 pub mod Refusals
 pub mod Facts
 pub mod Programs

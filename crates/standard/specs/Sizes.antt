@@ -15,5 +15,12 @@ sealedSize = 21
 abbrev pub sittingSize : ℕ
 sittingSize = 71
 
+-- a challenge, and the response and the key that TA12 answers to it (02, 2)
+abbrev pub challengeSize : ℕ
+challengeSize = 10
+
+abbrev pub authenticationSize : ℕ
+authenticationSize = 14
+
 abbrev pub mostRecords : ℕ
 mostRecords = 1024

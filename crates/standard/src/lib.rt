@@ -7,7 +7,7 @@ ghost use Rattle.standard.specs.Bytes.{zeros, bytesOf};
 ghost use Rattle.standard.specs.Sizes.{ringSize};
 ghost use Rattle.standard.specs.Seals.{kind, kindOf, keyLength, highestNumber};
 
-// Sizes in bytes: a ring, a plain and a sealed record, a sitting's file; and the most records of a list.
+// Sizes in bytes: a ring, a plain and a sealed record, a sitting's file, a challenge and what TA12 answers to it; and the most records of a list.
 pub const RING: usize = 36;
 
 pub const PLAIN_RECORD: usize = 18;
@@ -15,6 +15,10 @@ pub const PLAIN_RECORD: usize = 18;
 pub const SEALED_RECORD: usize = 21;
 
 pub const SITTING: usize = 71;
+
+pub const CHALLENGE: usize = 10;
+
+pub const AUTHENTICATION: usize = 14;
 
 pub const MOST_RECORDS: usize = 1024;
 

@@ -21,8 +21,8 @@ returns c =
     let t : leb 1 (x .sides) && leb (x .sides) 3 ≡ false = not-true _ (c .before .if1 .taken) in
     rw (c .refused-ring .ensures, t)
 
-refusal-of-requires : tie.Need-refusal-of-requires
-refusal-of-requires c κs = search needs
+mask-refusal-requires : tie.Need-mask-refusal-requires
+mask-refusal-requires c κs = search needs
 
 refused-ring-requires-2 : tie.Need-refused-ring-requires-2
 refused-ring-requires-2 c κs = search needs
@@ -33,10 +33,10 @@ returns-2 c =
     let masked = c .before .before in
     let x = masked .before .before .before .before .args .x in
     let t : leb 1 (x .sides) && leb (x .sides) 3 ≡ true = not-false _ (masked .before .if1 .left) in
-    rw (c .refused-ring2 .ensures, t, ← masked .refusal-of .ensures, ne-eqb _ _ (c .before .if2 .taken))
+    rw (c .refused-ring2 .ensures, t, ← masked .mask-refusal .ensures, ne-eqb _ _ (c .before .if2 .taken))
 
 make-requires : tie.Need-make-requires
-make-requires c κs = masks-ones _ _ (sym (c .before .refusal-of .ensures) ∙ c .if2 .left)
+make-requires c κs = masks-ones _ _ (sym (c .before .mask-refusal .ensures) ∙ c .if2 .left)
 
 returns-3 : tie.Need-returns-3
 unfolding ringOf
@@ -44,7 +44,7 @@ returns-3 c =
     let masked = c .before .before in
     let x = masked .before .before .before .before .args .x in
     let t : leb 1 (x .sides) && leb (x .sides) 3 ≡ true = not-false _ (masked .before .if1 .left) in
-    let m : first (maskTests (x .«response_mask») (x .«key_mask»)) ≡ 0 = sym (masked .refusal-of .ensures) ∙ c .before .if2 .left in
+    let m : first (maskTests (x .«response_mask») (x .«key_mask»)) ≡ 0 = sym (masked .mask-refusal .ensures) ∙ c .before .if2 .left in
     rw (c .make .ensures, t, m)
 
 pub ring-of-spec : {M : Type 1} → statement M
@@ -53,7 +53,7 @@ ring-of-spec =
     (tie.spec
     refused-ring-requires
     returns
-    refusal-of-requires
+    mask-refusal-requires
     refused-ring-requires-2
     returns-2
     make-requires

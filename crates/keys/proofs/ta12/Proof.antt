@@ -21,8 +21,8 @@ returns : tie.Need-returns
 unfolding ta12Call
 returns c = rw (c .refused-split .ensures, failed (c .before .before .both-long .ensures) (c .before .if1 .taken))
 
-refusal-of-requires : tie.Need-refusal-of-requires
-refusal-of-requires c κs = search needs
+mask-refusal-requires : tie.Need-mask-refusal-requires
+mask-refusal-requires c κs = search needs
 
 refused-split-requires-2 : tie.Need-refused-split-requires-2
 refused-split-requires-2 c κs = search needs
@@ -32,7 +32,7 @@ unfolding ta12Call
 returns-2 c =
     let masked = c .before .before in
     let t = passed (masked .before .before .both-long .ensures) (masked .before .if1 .left) in
-    rw (c .refused-split2 .ensures, t, ← masked .refusal-of .ensures, ne-eqb _ _ (c .before .if2 .taken))
+    rw (c .refused-split2 .ensures, t, ← masked .mask-refusal .ensures, ne-eqb _ _ (c .before .if2 .taken))
 
 array16-requires : tie.Need-array16-requires
 array16-requires c κs = search needs
@@ -46,7 +46,7 @@ core-requires c κs = search needs
 split-requires : tie.Need-split-requires
 split-requires c κs =
     let accepted = c .before .before .before in
-    masks-ones _ _ (sym (accepted .before .refusal-of .ensures) ∙ accepted .if2 .left)
+    masks-ones _ _ (sym (accepted .before .mask-refusal .ensures) ∙ accepted .if2 .left)
 
 returns-3 : tie.Need-returns-3
 unfolding ta12Call
@@ -56,7 +56,7 @@ returns-3 c =
     let x = tested .before .before .before .args in
     let t = passed (tested .both-long .ensures) (accepted .before .before .if1 .left) in
     let s = both-spelled 16 10 (now (x .session-key)) (now (x .challenge)) t in
-    let m : first (maskTests (x .response-mask) (x .key-mask)) ≡ 0 = sym (accepted .before .refusal-of .ensures) ∙ accepted .if2 .left in
+    let m : first (maskTests (x .response-mask) (x .key-mask)) ≡ 0 = sym (accepted .before .mask-refusal .ensures) ∙ accepted .if2 .left in
     rw (c .split .ensures, c .before .core .ensures, c .before .before .array10 .ensures, c .before .before .before .array16 .ensures, s .0, s .1, t, m)
 
 pub ta12-spec : {M : Type 1} → statement M
@@ -66,7 +66,7 @@ ta12-spec =
     both-long-requires
     refused-split-requires
     returns
-    refusal-of-requires
+    mask-refusal-requires
     refused-split-requires-2
     returns-2
     array16-requires

@@ -1,12 +1,12 @@
--- `keys::masks::refusal_of` meets its contract.
+-- `keys::masks::mask_refusal` meets its contract.
 -- Assumes nothing.
 use mathlib.Core.Bool.{true, false, _&&_}
 use mathlib.Core.Path.{_≡_}
 use lib.Count.{ones}
 use lib.Dec.{eqb}
 use borrow.Author.Tests.{eq-eqb, ne-eqb, not-true, not-false}
-use Rattle.keys.proofs.masks.refusal_of.Statement.{statement}
-use Rattle.keys.proofs.masks.refusal_of.Tie as tie
+use Rattle.keys.proofs.masks.mask_refusal.Statement.{statement}
+use Rattle.keys.proofs.masks.mask_refusal.Tie as tie
 
 returns : tie.Need-returns
 returns c =
@@ -26,5 +26,5 @@ returns-3 c =
     let t : eqb (ones (x .response-mask)) 4 && eqb (ones (x .key-mask)) 10 ≡ true = not-false _ (c .before .if1 .left) in
     rw (t, eq-eqb _ _ (c .if2 .left))
 
-pub refusal-of-spec : {M : Type 1} → statement M
-refusal-of-spec = tie.close (tie.spec returns returns-2 returns-3)
+pub mask-refusal-spec : {M : Type 1} → statement M
+mask-refusal-spec = tie.close (tie.spec returns returns-2 returns-3)

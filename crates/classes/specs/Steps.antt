@@ -1,0 +1,19 @@
+-- What TA12 answers to a challenge, under round keys laid out first.
+-- Assumes nothing.
+use mathlib.Core.List.{List, _++_}
+use Prim.Native.Nat.{ℕ}
+use Rattle.standard.specs.Bytes.{part}
+use Rattle.standard.specs.Cores.{bl1With}
+use Rattle.standard.specs.Derivation.{chosen}
+use Rattle.standard.specs.Expansions.{exp2}
+use Rattle.standard.specs.Refusals.{maskTests, first, authentication}
+use Rattle.standard.specs.declared.Authentication.{Authentication}
+
+-- of an output of the core
+abbrev pub answerOf : (rm km : ℕ) → List ℕ → Authentication
+answerOf rm km o = authentication (first (maskTests rm km)) (chosen rm o) (chosen km o)
+
+unfoldable pub recordWith : (keys : List ℕ) (rm km : ℕ) → List ℕ → List ℕ
+recordWith keys rm km x =
+    let a : Authentication = answerOf rm km (bl1With keys (exp2 x)) in
+    part 0 4 (a .response) ++ part 0 10 (a .key)
