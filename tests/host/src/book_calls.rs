@@ -1,6 +1,6 @@
 //! Books: sealing, opening, and the check of a plain book.
 
-use crate::edges;
+use crate::edges::{self, rooms};
 use host::both::{check_plain, sealed, Call, MOST, OPEN, PLAIN, RING, SEAL, SEALED};
 use host::damaged::{self, flipped, under_version};
 use host::engine::null;
@@ -149,11 +149,6 @@ pub fn run(tally: &mut Tally, random: &mut Random) {
             check_plain(group, &bytes[..length - length % PLAIN]);
         }
     });
-}
-
-/// None, one byte short, exact, one byte longer, and much longer.
-fn rooms(need: usize) -> [usize; 5] {
-    [0, need.saturating_sub(1), need, need + 1, need + 50]
 }
 
 /// Every comparison of a plain book but those of short outputs.

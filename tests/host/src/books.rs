@@ -20,7 +20,7 @@ pub struct BookAnswer {
 }
 
 /// A refusal number and a record's index.
-type Refusal = (u32, usize);
+pub(crate) type Refusal = (u32, usize);
 
 /// The three keys of a ring.
 struct Ring<'a> {
@@ -161,7 +161,7 @@ fn joined(kind: u8, identity: u64, version: u16, rest: &[u8]) -> Vec<u8> {
 }
 
 /// The number of records; refusals 1 and 2.
-fn count(length: usize, size: usize) -> Result<usize, Refusal> {
+pub(crate) fn count(length: usize, size: usize) -> Result<usize, Refusal> {
     let (records, rest) = (length / size, length % size);
     if length > MOST * size {
         Err((1, 0))
@@ -169,6 +169,16 @@ fn count(length: usize, size: usize) -> Result<usize, Refusal> {
         Err((2, 0))
     } else {
         Ok(records)
+    }
+}
+
+/// The bytes of so many records; refusal 12.
+pub(crate) fn room(records: usize, size: usize, out: &[u8]) -> Result<usize, Refusal> {
+    let bytes = records * size;
+    if out.len() < bytes {
+        Err((12, 0))
+    } else {
+        Ok(bytes)
     }
 }
 
@@ -182,10 +192,7 @@ fn turn(
     record: impl Fn(&[u8]) -> Result<Vec<u8>, u32>,
 ) -> Result<(usize, usize), Refusal> {
     let records = count(book.len(), from)?;
-    let written = records * to;
-    if out.len() < written {
-        return Err((12, 0));
-    }
+    let written = room(records, to, out)?;
     let mut made = Vec::new();
     for (index, bytes) in book.chunks_exact(from).enumerate() {
         made.extend(record(bytes).map_err(|refusal| (refusal, index))?);
@@ -194,7 +201,7 @@ fn turn(
     Ok((records, written))
 }
 
-fn answer(outcome: Result<(usize, usize), Refusal>) -> BookAnswer {
+pub(crate) fn answer(outcome: Result<(usize, usize), Refusal>) -> BookAnswer {
     match outcome {
         Ok((index, written)) => BookAnswer {
             refusal: 0,

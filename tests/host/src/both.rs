@@ -1,4 +1,5 @@
-//! Book calls made twice: through the engine and by the independent implementation.
+//! Calls with an output made twice: through the engine and by the independent
+//! implementation.
 
 use crate::books;
 use crate::engine::{self, null_out, BookAnswer};
@@ -99,7 +100,6 @@ impl Call {
         }
     }
 
-    /// Compares the answer, and the whole output with the bytes around it.
     fn same(
         &self,
         group: &mut Group,
@@ -108,21 +108,35 @@ impl Call {
         room: usize,
         wanted: impl FnOnce(&mut [u8]) -> BookAnswer,
     ) {
-        let (answer, got) = lent(room, |out| (self.engine)(ring, book, out));
-        let (wanted_answer, wanted) = lent(room, wanted);
-        let place = (0..got.len()).find(|&i| got[i] != wanted[i]);
-        let difference = place.map(|i| Difference {
-            place: i as isize - MARGIN as isize,
-            got: got[i],
-            wanted: wanted[i],
-        });
-        group.same(
+        same_output(
+            group,
             self.name,
             &[("ring", &ring), ("book", &Start(book)), ("room", &room)],
-            (answer, difference),
-            (wanted_answer, None),
+            room,
+            |out| (self.engine)(ring, book, out),
+            wanted,
         );
     }
+}
+
+/// Compares the answer, and the whole output with the bytes around it.
+pub fn same_output(
+    group: &mut Group,
+    call: &str,
+    inputs: &[(&str, &dyn Debug)],
+    room: usize,
+    got: impl FnOnce(&mut [u8]) -> BookAnswer,
+    wanted: impl FnOnce(&mut [u8]) -> BookAnswer,
+) {
+    let (answer, got) = lent(room, got);
+    let (wanted_answer, wanted) = lent(room, wanted);
+    let place = (0..got.len()).find(|&i| got[i] != wanted[i]);
+    let difference = place.map(|i| Difference {
+        place: i as isize - MARGIN as isize,
+        got: got[i],
+        wanted: wanted[i],
+    });
+    group.same(call, inputs, (answer, difference), (wanted_answer, None));
 }
 
 /// The first byte that is not as wanted, counted from the output's start.
@@ -164,7 +178,7 @@ pub fn sealed(ring: &[u8], plain: &[u8]) -> Vec<u8> {
 }
 
 /// Shows the first records of a book; the seed of the run gives the others.
-struct Start<'a>(&'a [u8]);
+pub struct Start<'a>(pub &'a [u8]);
 
 impl Debug for Start<'_> {
     fn fmt(&self, f: &mut Formatter) -> Result {

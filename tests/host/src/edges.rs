@@ -43,6 +43,11 @@ pub fn lengths<const N: usize>(
     check([null(); N]);
 }
 
+/// Outputs: none, one byte short, exact, one byte longer, and much longer.
+pub fn rooms(need: usize) -> [usize; 5] {
+    [0, need.saturating_sub(1), need, need + 1, need + 50]
+}
+
 /// All zeros, all ones, and each single bit.
 pub fn strings<const N: usize>() -> Vec<[u8; N]> {
     let singles = (0..8 * N).map(|bit| flipped([0; N], bit));

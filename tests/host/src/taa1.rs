@@ -142,12 +142,12 @@ fn accepted<const N: usize>(bytes: [u8; N]) -> Result<Bytes<N>, u32> {
 }
 
 /// An input of fixed length, or refusal 11.
-fn exact<const N: usize>(input: &[u8]) -> Result<[u8; N], u32> {
+pub(crate) fn exact<const N: usize>(input: &[u8]) -> Result<[u8; N], u32> {
     input.try_into().map_err(|_| 11)
 }
 
 /// Refusals 7 and 8.
-fn check_masks(response_mask: u16, key_mask: u16) -> Result<(), u32> {
+pub(crate) fn check_masks(response_mask: u16, key_mask: u16) -> Result<(), u32> {
     if response_mask.count_ones() != 4 || key_mask.count_ones() != 10 {
         Err(7)
     } else if response_mask & key_mask != 0 {
@@ -213,10 +213,14 @@ fn halves(data: &[u8; 16]) -> ([u8; 8], [u8; 8]) {
 
 /// BL1 (5.2).
 pub fn bl1(key: &[u8; 16], data: &[u8; 16]) -> [u8; 16] {
-    let schedule = hurdle::schedule(key);
+    bl1_with(&hurdle::schedule(key), data)
+}
+
+/// BL1, with round keys made before.
+pub(crate) fn bl1_with(schedule: &hurdle::Schedule, data: &[u8; 16]) -> [u8; 16] {
     let (left, right) = halves(data);
-    let left = hurdle::encrypt_with(&schedule, &left);
-    let right = hurdle::encrypt_with(&schedule, &xor(&right, &left));
+    let left = hurdle::encrypt_with(schedule, &left);
+    let right = hurdle::encrypt_with(schedule, &xor(&right, &left));
     from_fn(|i| if i < 8 { left[i] } else { right[i - 8] })
 }
 
@@ -300,7 +304,7 @@ pub fn ta41(root: &[u8], seed: &[u8]) -> Bytes16 {
 }
 
 /// The bytes that a counted mask chooses, higher numbers first.
-fn chosen<const N: usize>(block: &[u8; 16], mask: u16) -> [u8; N] {
+pub(crate) fn chosen<const N: usize>(block: &[u8; 16], mask: u16) -> [u8; N] {
     let numbers: Vec<usize> = (0..16).rev().filter(|i| mask >> i & 1 == 1).collect();
     from_fn(|n| block[15 - numbers[n]])
 }
