@@ -14,6 +14,10 @@
  * book's answer. Compare fields and not whole structs: padding is no part of an
  * answer.
  *
+ * An output is a pointer and a length too, and must not overlap an input. It may
+ * be longer than the result: the bytes behind those written stay as they are. It
+ * may be null where its length is 0. A refusal leaves it unchanged.
+ *
  * A Rust host declares `*const u8, usize` for a byte string, `*mut u8, usize`
  * for an output, and never `&[u8]`: Rust's slices do not pass this way.
  */
@@ -34,8 +38,10 @@ enum {
     TAA1_RING_BYTES = 36,
     TAA1_PLAIN_RECORD_BYTES = 18,
     TAA1_SEALED_RECORD_BYTES = 21,
-    TAA1_MOST_RECORDS = 1024, /* of a book */
-    TAA1_SITTING_BYTES = 71   /* of a file with what taa1_ring takes */
+    TAA1_CHALLENGE_BYTES = 10,
+    TAA1_AUTHENTICATION_BYTES = 14, /* a response, then a key */
+    TAA1_MOST_RECORDS = 1024,       /* of a book; of challenges in a class */
+    TAA1_SITTING_BYTES = 71         /* of a file with what taa1_ring takes */
 };
 
 /* The kinds of a record, by the call that seals the key. */
@@ -51,7 +57,7 @@ enum taa1_refusal {
     TAA1_ACCEPTED = 0,
 
     /* caused by the candidate */
-    TAA1_BOOK_TOO_LONG = 1,  /* a book is longer than TAA1_MOST_RECORDS records */
+    TAA1_BOOK_TOO_LONG = 1,  /* a book or class is longer than TAA1_MOST_RECORDS records */
     TAA1_BOOK_NOT_WHOLE = 2, /* its length is not a whole number of records */
     TAA1_WRONG_KIND = 3,     /* a kind is not 1 to 4 */
     TAA1_NOT_ZERO = 4,       /* a byte that fills up a body is not zero */
@@ -163,7 +169,8 @@ typedef struct {
 
 /*
  * The index: in a refused book, that of the first offending record (0 for 1, 2, 11
- * and 12); in an accepted one, how many records it has.
+ * and 12); in an accepted one, how many records it has. For a class it is 0 on
+ * every refusal, else how many challenges there are.
  */
 typedef struct {
     uint32_t refusal;
@@ -212,6 +219,15 @@ taa1_authentication taa1_ta12(const uint8_t *session_key, size_t session_key_len
 taa1_authentication taa1_ta22(const uint8_t *session_key, size_t session_key_length,
                               const uint8_t *challenge, size_t challenge_length,
                               uint16_t response_mask, uint16_t key_mask);
+
+/*
+ * TA12 for each of a class of up to TAA1_MOST_RECORDS challenges, which stand one
+ * after the other; writes TAA1_AUTHENTICATION_BYTES for each.
+ */
+taa1_book_answer taa1_ta12_class(const uint8_t *session_key, size_t session_key_length,
+                                 const uint8_t *challenges, size_t challenges_length,
+                                 uint16_t response_mask, uint16_t key_mask,
+                                 uint8_t *out, size_t out_length);
 
 /* ---- TA31, TA32: a cipher key [10] under a sealing key [10], kind 1 ---- */
 
@@ -344,10 +360,6 @@ taa1_ring_made taa1_ring(const uint8_t *root, size_t root_length,
  *
  * A sealed record has 21 bytes: kind, encrypted identity (TA61 under c), version,
  * and the sealed text [15] of the kind's call.
- *
- * The output must not overlap an input. It may be longer than the result: the
- * bytes behind those written stay as they are. It may be null where its length
- * is 0. A refusal leaves it unchanged.
  */
 
 /* Seals a plain book; writes TAA1_SEALED_RECORD_BYTES for each record. */

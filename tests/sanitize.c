@@ -212,14 +212,63 @@ static void books(bool at_end, size_t records)
     give_back(opened);
 }
 
+/* ---- Classes ---- */
+
+static void classes(bool at_end, size_t count)
+{
+    string session_key = input(16, at_end);
+    string challenges = input(TAA1_CHALLENGE_BYTES * count, at_end);
+    string out = writable(TAA1_AUTHENTICATION_BYTES * count, at_end);
+    uint16_t response_mask = 0x9240, key_mask = 0x6db6;
+
+    CHECK(is(taa1_ta12_class(S(session_key), S(challenges), response_mask, key_mask, S(out)),
+             TAA1_ACCEPTED, count, out.length));
+    for (size_t i = 0; i < count; i++) {
+        const uint8_t *challenge = challenges.bytes + TAA1_CHALLENGE_BYTES * i;
+        const uint8_t *record = out.bytes + TAA1_AUTHENTICATION_BYTES * i;
+        taa1_authentication single = taa1_ta12(S(session_key), challenge, TAA1_CHALLENGE_BYTES,
+                                               response_mask, key_mask);
+        CHECK(memcmp(record, single.response, sizeof single.response) == 0);
+        CHECK(memcmp(record + sizeof single.response, single.key, sizeof single.key) == 0);
+    }
+
+    /* What is refused must not be written, not even where it could be. */
+    protect(out, PROT_READ);
+    CHECK(is(taa1_ta12_class(session_key.bytes, session_key.length - 1, S(challenges),
+                             response_mask, key_mask, S(out)),
+             TAA1_WRONG_LENGTH, 0, 0));
+    CHECK(is(taa1_ta12_class(S(session_key), S(challenges), key_mask, response_mask, S(out)),
+             TAA1_WRONG_MASK, 0, 0));
+    CHECK(is(taa1_ta12_class(S(session_key), S(challenges), 0x000f, key_mask, S(out)),
+             TAA1_SHARED_BIT, 0, 0));
+    if (count > 0) {
+        CHECK(is(taa1_ta12_class(S(session_key), S(challenges), response_mask, key_mask,
+                                 out.bytes, out.length - 1),
+                 TAA1_OUTPUT_SHORT, 0, 0));
+        CHECK(is(taa1_ta12_class(S(session_key), challenges.bytes, challenges.length - 1,
+                                 response_mask, key_mask, S(out)),
+                 TAA1_BOOK_NOT_WHOLE, 0, 0));
+    }
+
+    give_back(session_key);
+    give_back(challenges);
+    give_back(out);
+}
+
 static void too_long(bool at_end)
 {
+    string session_key = input(16, at_end);
+    string challenges = input(TAA1_CHALLENGE_BYTES * (TAA1_MOST_RECORDS + 1), at_end);
     string ring = input(TAA1_RING_BYTES, at_end);
     string plain = plain_book(TAA1_MOST_RECORDS + 1, at_end);
     string out = input(TAA1_SEALED_RECORD_BYTES * (TAA1_MOST_RECORDS + 1), at_end);
     CHECK(is(taa1_check_plain(S(plain)), TAA1_BOOK_TOO_LONG, 0, 0));
     CHECK(is(taa1_seal_book(S(ring), S(plain), S(out)), TAA1_BOOK_TOO_LONG, 0, 0));
     CHECK(is(taa1_open_book(S(ring), S(out), S(plain)), TAA1_BOOK_TOO_LONG, 0, 0));
+    CHECK(is(taa1_ta12_class(S(session_key), S(challenges), 0x9240, 0x6db6, S(out)),
+             TAA1_BOOK_TOO_LONG, 0, 0));
+    give_back(session_key);
+    give_back(challenges);
     give_back(ring);
     give_back(plain);
     give_back(out);
@@ -228,12 +277,18 @@ static void too_long(bool at_end)
 static void nulls(void)
 {
     string ring = input(TAA1_RING_BYTES, true);
+    string session_key = input(16, true);
     CHECK(taa1_encrypt(NULL, 0, NULL, 0).refusal == TAA1_WRONG_LENGTH);
     CHECK(is(taa1_check_plain(NULL, 0), TAA1_ACCEPTED, 0, 0));
     CHECK(is(taa1_seal_book(S(ring), NULL, 0, NULL, 0), TAA1_ACCEPTED, 0, 0));
     CHECK(is(taa1_open_book(S(ring), NULL, 0, NULL, 0), TAA1_ACCEPTED, 0, 0));
     CHECK(is(taa1_seal_book(NULL, 0, NULL, 0, NULL, 0), TAA1_WRONG_LENGTH, 0, 0));
+    CHECK(is(taa1_ta12_class(S(session_key), NULL, 0, 0x9240, 0x6db6, NULL, 0),
+             TAA1_ACCEPTED, 0, 0));
+    CHECK(is(taa1_ta12_class(NULL, 0, NULL, 0, 0x9240, 0x6db6, NULL, 0),
+             TAA1_WRONG_LENGTH, 0, 0));
     give_back(ring);
+    give_back(session_key);
 }
 
 static void texts(void)
@@ -250,8 +305,10 @@ int main(void)
     for (int at_end = 0; at_end < 2; at_end++) {
         for (int longer = -8; longer <= 8; longer++)
             single_calls(at_end, longer);
-        for (size_t i = 0; i < sizeof records / sizeof *records; i++)
+        for (size_t i = 0; i < sizeof records / sizeof *records; i++) {
             books(at_end, records[i]);
+            classes(at_end, records[i]);
+        }
         too_long(at_end);
     }
     nulls();

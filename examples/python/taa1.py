@@ -13,7 +13,9 @@ Bytes = Union[bytes, bytearray, memoryview]
 RING_BYTES = 36
 PLAIN_RECORD_BYTES = 18
 SEALED_RECORD_BYTES = 21
-MOST_RECORDS = 1024  # of a book
+CHALLENGE_BYTES = 10
+AUTHENTICATION_BYTES = 14  # a response, then a key
+MOST_RECORDS = 1024  # of a book; of challenges in a class
 SITTING_BYTES = 71  # of a file with what a ring is made from
 
 
@@ -227,6 +229,7 @@ _CALLS: dict[str, tuple[type[ctypes.Structure], tuple[Any, ...]]] = {
     "ta41": (_BYTES16, (bytes, bytes)),
     "ta12": (_AUTHENTICATION, (bytes, bytes, *_MASKS)),
     "ta22": (_AUTHENTICATION, (bytes, bytes, *_MASKS)),
+    "ta12_class": (_BOOK, (bytes, bytes, *_MASKS, bytearray)),
     "ta31": (_BYTES15, (bytes, Version, bytes)),
     "ta32": (_UNSEALED, (bytes, bytes, Version)),
     "ta51": (_BYTES15, (bytes, Version, bytes, KeyNumber)),
@@ -299,10 +302,10 @@ class Engine:
         fields = [getattr(answer, field) for field, _ in answer._fields_[1:]]
         return answer.result(*(bytes(f) if isinstance(f, ctypes.Array) else f for f in fields))
 
-    def _book(self, name: str, ring: Bytes, book: Bytes, record: int) -> Book:
-        """A book that a call writes, with this many bytes for each record."""
+    def _book(self, name: str, record: int, *values: Any) -> Book:
+        """What a call writes, with this many bytes for each record."""
         out = bytearray(MOST_RECORDS * record)
-        written = self._call(name, ring, book, out)
+        written = self._call(name, *values, out)
         return Book(written.records, bytes(out[: written.length]))
 
     def encrypt(self, key: Bytes, block: Bytes) -> bytes:
@@ -340,6 +343,19 @@ class Engine:
     ) -> Authentication:
         """As `ta12`, for a session key from `ta21`."""
         return self._call("ta22", session_key, challenge, response_mask, key_mask)
+
+    def ta12_class(
+        self, session_key: Bytes, challenges: Bytes, response_mask: int, key_mask: int
+    ) -> list[Authentication]:
+        """What `ta12` answers to each of a class of challenges.
+
+        Up to MOST_RECORDS of CHALLENGE_BYTES stand one after the other.
+        """
+        values = (session_key, challenges, response_mask, key_mask)
+        content = self._book("ta12_class", AUTHENTICATION_BYTES, *values).content
+        starts = range(0, len(content), AUTHENTICATION_BYTES)
+        records = (content[at : at + AUTHENTICATION_BYTES] for at in starts)
+        return [Authentication(record[:4], record[4:]) for record in records]
 
     def ta31(self, cipher_key: Bytes, version: Version, sealing_key: Bytes) -> bytes:
         """A cipher key of 10 bytes, sealed under a key of 10."""
@@ -433,11 +449,11 @@ class Engine:
 
     def seal_book(self, ring: Bytes, plain: Bytes) -> Book:
         """A plain book, sealed under a ring of RING_BYTES."""
-        return self._book("seal_book", ring, plain, SEALED_RECORD_BYTES)
+        return self._book("seal_book", SEALED_RECORD_BYTES, ring, plain)
 
     def open_book(self, ring: Bytes, sealed: Bytes) -> Book:
         """The plain book of a sealed one."""
-        return self._book("open_book", ring, sealed, PLAIN_RECORD_BYTES)
+        return self._book("open_book", PLAIN_RECORD_BYTES, ring, sealed)
 
     def check_plain(self, plain: Bytes) -> int:
         """The number of records of a well-formed plain book."""

@@ -13,6 +13,7 @@ from typing import Any, Callable
 
 import taa1
 from taa1 import (
+    CHALLENGE_BYTES,
     MOST_RECORDS,
     PLAIN_RECORD_BYTES,
     RING_BYTES,
@@ -84,6 +85,7 @@ ACCEPTED: dict[str, tuple[Any, ...]] = {
     "ta41": (ROOT, KEY),
     "ta12": (ROOT, KEY, RESPONSE_MASK, KEY_MASK),
     "ta22": (ROOT, KEY, RESPONSE_MASK, KEY_MASK),
+    "ta12_class": (ROOT, upward(10) + KEY, RESPONSE_MASK, KEY_MASK),
     "ta31": (KEY, VERSION, KEY),
     "ta32": (upward(15), KEY, VERSION),
     "ta51": (KEY, VERSION, ROOT, KeyNumber(31)),
@@ -162,6 +164,17 @@ class Results(unittest.TestCase):
             with self.subTest(name):
                 answer = call(name, ROOT, upward(10), RESPONSE_MASK, KEY_MASK)
                 self.assertEqual((answer.response, answer.key), (out[:4], out[4:14]))
+
+    def test_classes(self) -> None:
+        """Each challenge is answered as alone, also in the longest and the empty class."""
+        masks = (RESPONSE_MASK, KEY_MASK)
+        for a, b in ((b"", b""), (upward(10), b""), (upward(10), KEY)):
+            for times in (1, 2, MOST_RECORDS // 2):
+                challenges = (a + b) * times
+                starts = range(0, len(challenges), CHALLENGE_BYTES)
+                single = (challenges[at : at + CHALLENGE_BYTES] for at in starts)
+                alone = [ENGINE.ta12(ROOT, challenge, *masks) for challenge in single]
+                self.assertEqual(ENGINE.ta12_class(ROOT, challenges, *masks), alone)
 
     def test_seals(self) -> None:
         under10 = xor(upward(10), b"\x07\x08" * 5)
@@ -286,6 +299,16 @@ class Refusals(unittest.TestCase):
         self.refuses(Refusal.FLAG_SET, 0, "open_book", RING, b"\x01" * SEALED_RECORD_BYTES)
         self.refuses(Refusal.WRONG_LENGTH, 0, "seal_book", RING[1:], good)
 
+    def test_classes(self) -> None:
+        """In the order of the tests; the masks also where there is no challenge."""
+        long = bytes(CHALLENGE_BYTES * MOST_RECORDS + 1)
+        self.refuses(Refusal.WRONG_LENGTH, 0, "ta12_class", KEY, long, 0, 0)
+        self.refuses(Refusal.BOOK_TOO_LONG, 0, "ta12_class", ROOT, long, 0, 0)
+        self.refuses(Refusal.BOOK_NOT_WHOLE, 0, "ta12_class", ROOT, long[:11], 0, 0)
+        for challenges in (b"", KEY * 2):
+            self.refuses(Refusal.WRONG_MASK, 0, "ta12_class", ROOT, challenges, 0, 0)
+            self.refuses(Refusal.SHARED_BIT, 0, "ta12_class", ROOT, challenges, 0x3C00, KEY_MASK)
+
     def test_single_calls(self) -> None:
         self.refuses(Refusal.WRONG_NUMBER, None, "ta51", KEY, VERSION, ROOT, KeyNumber(32))
         self.refuses(Refusal.WRONG_MASK, None, "ta12", ROOT, KEY, 0x7000, KEY_MASK)
@@ -302,17 +325,18 @@ class Refusals(unittest.TestCase):
 
     def test_lengths(self) -> None:
         """A string of a wrong length, in each place that has a fixed one."""
+        books = (BOOK[0], ACCEPTED["open_book"][1], ACCEPTED["ta12_class"][1])
         for name, values in ACCEPTED.items():
             for at, value in enumerate(values):
-                if isinstance(value, bytes) and value not in (BOOK[0], ACCEPTED["open_book"][1]):
-                    index = 0 if name.endswith("book") else None
+                if isinstance(value, bytes) and value not in books:
+                    index = 0 if name.endswith(("book", "class")) else None
                     others = (*values[:at], value[1:], *values[at + 1 :])
                     self.refuses(Refusal.WRONG_LENGTH, index, name, *others)
 
     def test_short_output(self) -> None:
         """Only a call with too little room is refused so, and the module makes room."""
         with self.assertRaises(Refused) as caught:
-            ENGINE._book("seal_book", RING, BOOK[0], 0)
+            ENGINE._book("seal_book", 0, RING, BOOK[0])
         self.assertEqual(str(caught.exception), "refused 12 at 0 (output shorter than the result)")
 
     def test_names(self) -> None:
@@ -342,7 +366,7 @@ class Values(unittest.TestCase):
         """ACCEPTED, which the tests below go by, has each call, and each accepts it."""
         public = {name for name in vars(taa1.Engine) if not name.startswith("_")}
         self.assertEqual(set(ACCEPTED), public)
-        self.assertEqual(len(public), 30)
+        self.assertEqual(len(public), 31)
         for name, values in ACCEPTED.items():
             with self.subTest(name):
                 call(name, *values)

@@ -6,12 +6,17 @@
 pub mod raw;
 mod refusal;
 
+use std::array::from_fn;
+
 pub use refusal::{BookRefusal, Refusal};
 
 pub const RING_BYTES: usize = 36;
 pub const PLAIN_RECORD_BYTES: usize = 18;
 pub const SEALED_RECORD_BYTES: usize = 21;
-/// The most records of a book.
+pub const CHALLENGE_BYTES: usize = 10;
+/// Bytes of a response and a key.
+pub const AUTHENTICATION_BYTES: usize = 14;
+/// The most records of a book, and the most challenges of a class.
 pub const MOST_RECORDS: usize = 1024;
 /// Bytes of a file with what a ring is made from.
 pub const SITTING_BYTES: usize = 71;
@@ -173,6 +178,30 @@ pub fn ta22(
         response_mask,
         key_mask
     )))
+}
+
+/// What [`ta12`] answers to each of a class of up to [`MOST_RECORDS`] challenges,
+/// which stand one after the other.
+pub fn ta12_class(
+    session_key: &[u8],
+    challenges: &[u8],
+    response_mask: u16,
+    key_mask: u16,
+) -> Result<Vec<Authentication>, BookRefusal> {
+    let mut out = vec![0; challenges.len() / CHALLENGE_BYTES * AUTHENTICATION_BYTES];
+    let answer = call!(ta12_class(
+        [session_key],
+        [challenges],
+        response_mask,
+        key_mask,
+        { out }
+    ));
+    let class = book(answer, out)?.bytes;
+    let one = |record: &[u8]| Authentication {
+        response: from_fn(|i| record[i]),
+        key: from_fn(|i| record[4 + i]),
+    };
+    Ok(class.chunks_exact(AUTHENTICATION_BYTES).map(one).collect())
 }
 
 /// A cipher key of 10 bytes, sealed under a key of 10.
@@ -404,7 +433,7 @@ fn book(answer: raw::BookAnswer, mut bytes: Vec<u8>) -> Result<Book, BookRefusal
 mod tests {
     use super::*;
 
-    /// The calls above make room enough, so only this one meets the refusal.
+    /// The functions above make room enough, so only these calls meet the refusal.
     #[test]
     fn short_outputs_are_refused() {
         let (ring, plain) = ([0; RING_BYTES], [4; PLAIN_RECORD_BYTES]);
@@ -414,6 +443,11 @@ mod tests {
             index: 0,
         });
         let answer = call!(seal_book([ring], [plain], { out }));
+        assert_eq!(book(answer, out), refused);
+        let (key, challenge) = ([0; 16], [0; CHALLENGE_BYTES]);
+        let mut out = vec![0; AUTHENTICATION_BYTES - 1];
+        let (four, ten) = (0xf000, 0x0ffc);
+        let answer = call!(ta12_class([key], [challenge], four, ten, { out }));
         assert_eq!(book(answer, out), refused);
     }
 }

@@ -76,6 +76,9 @@ macro_rules! calls {
             ta41([root], [seed]) -> Bytes<16>;
             ta12([session_key], [challenge], response_mask: u16, key_mask: u16) -> Authentication;
             ta22([session_key], [challenge], response_mask: u16, key_mask: u16) -> Authentication;
+            ta12_class(
+                [session_key], [challenges], response_mask: u16, key_mask: u16, {out}
+            ) -> BookAnswer;
             ta31([cipher_key], version: Version, [sealing_key]) -> Bytes<15>;
             ta32([text], [sealing_key], version: Version) -> Unsealed<10>;
             ta51([cipher_key], version: Version, [sealing_key], number: KeyNumber) -> Bytes<15>;

@@ -78,8 +78,8 @@ impl fmt::Display for Refusal {
 
 impl Error for Refusal {}
 
-/// Why the engine refuses a book, and the first offending record (0 where the
-/// refusal is of no one record).
+/// Why the engine refuses a book or a class, and the first offending record (0
+/// where the refusal is of no one record).
 #[derive(Clone, Copy, Debug, PartialEq, Eq)]
 pub struct BookRefusal {
     pub refusal: Refusal,

@@ -5,7 +5,8 @@ use std::thread;
 
 use taa1::{
     Authentication, Book, BookRefusal, KeyNumber, Kind, Refusal, RingMade, Sitting, Unsealed,
-    UnsealedNumbered, Version, MOST_RECORDS, PLAIN_RECORD_BYTES, RING_BYTES, SEALED_RECORD_BYTES,
+    UnsealedNumbered, Version, CHALLENGE_BYTES, MOST_RECORDS, PLAIN_RECORD_BYTES, RING_BYTES,
+    SEALED_RECORD_BYTES,
 };
 
 const ROOT: [u8; 16] = *b"a root or key...";
@@ -91,6 +92,38 @@ fn masks_choose() {
     let ta12 = taa1::ta12(&ROOT, &challenge, response_mask, key_mask);
     let ta22 = taa1::ta22(&ROOT, &challenge, response_mask, key_mask);
     assert_eq!((ta12, ta22), (chosen, chosen));
+}
+
+/// The empty class and repeated challenges among them.
+#[test]
+fn classes_are_answered_one_by_one() {
+    let (a, b) = (upward::<10>(), KEY);
+    let longest = [a, b].concat().repeat(MOST_RECORDS / 2);
+    for class in [vec![], a.to_vec(), [a, b, b, a, a].concat(), longest] {
+        let single = |challenge| taa1::ta12(&ROOT, challenge, RESPONSE_MASK, KEY_MASK).unwrap();
+        let wanted = class.chunks(CHALLENGE_BYTES).map(single).collect();
+        let answers = taa1::ta12_class(&ROOT, &class, RESPONSE_MASK, KEY_MASK);
+        assert_eq!(answers, Ok(wanted));
+    }
+}
+
+/// In their order, all but the short output, which cannot arise here.
+#[test]
+fn classes_are_refused() {
+    let refused = |key: &[u8], class: &[u8], response_mask, key_mask| {
+        let refused = taa1::ta12_class(key, class, response_mask, key_mask).unwrap_err();
+        assert_eq!(refused.index, 0);
+        refused.refusal
+    };
+    let long = [0; CHALLENGE_BYTES * MOST_RECORDS + 1];
+    assert_eq!(refused(&KEY, &long, 0, 0), Refusal::WrongLength);
+    assert_eq!(refused(&ROOT, &long, 0, 0), Refusal::BookTooLong);
+    assert_eq!(refused(&ROOT, &long[..11], 0, 0), Refusal::BookNotWhole);
+    for class in [&long[..0], &long[..20]] {
+        assert_eq!(refused(&ROOT, class, 0, 0), Refusal::WrongMask);
+        let shared = refused(&ROOT, class, 0x3c00, KEY_MASK);
+        assert_eq!(shared, Refusal::SharedBit);
+    }
 }
 
 #[test]

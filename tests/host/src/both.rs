@@ -5,8 +5,8 @@ use crate::books;
 use crate::engine::{self, null_out, BookAnswer};
 use crate::tally::Group;
 pub use interface::{
-    MOST_RECORDS as MOST, PLAIN_RECORD_BYTES as PLAIN, RING_BYTES as RING,
-    SEALED_RECORD_BYTES as SEALED,
+    AUTHENTICATION_BYTES as AUTHENTICATION, CHALLENGE_BYTES as CHALLENGE, MOST_RECORDS as MOST,
+    PLAIN_RECORD_BYTES as PLAIN, RING_BYTES as RING, SEALED_RECORD_BYTES as SEALED,
 };
 use std::fmt::{Debug, Formatter, Result};
 
@@ -177,7 +177,7 @@ pub fn sealed(ring: &[u8], plain: &[u8]) -> Vec<u8> {
     plain.chunks_exact(PLAIN).flat_map(seal).collect()
 }
 
-/// Shows the first records of a book; the seed of the run gives the others.
+/// Shows the first records of a book or class; the seed of the run gives the others.
 pub struct Start<'a>(pub &'a [u8]);
 
 impl Debug for Start<'_> {

@@ -4,6 +4,7 @@
 
 pub mod books;
 pub mod both;
+pub mod class;
 pub mod damaged;
 pub mod engine;
 pub mod hurdle;

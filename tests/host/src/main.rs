@@ -3,6 +3,7 @@
 
 mod book_calls;
 mod cipher;
+mod class_calls;
 mod derivation;
 mod edges;
 mod identity;
@@ -25,5 +26,6 @@ fn main() -> ExitCode {
     mixing::run(&mut tally, &mut random);
     ring::run(&mut tally, &mut random);
     book_calls::run(&mut tally, &mut random);
+    class_calls::run(&mut tally, &mut random);
     tally.finish()
 }
