@@ -8,23 +8,27 @@ mod osmo;
 mod ours;
 mod rust;
 
-use host::both::{self, MOST, RING};
+use host::both::{self, AUTHENTICATION, CHALLENGE, MOST, RING};
 use host::random::Random;
 use std::time::{Duration, Instant};
 
 #[rustfmt::skip]
-const ROWS: [&str; 14] = [
+const ROWS: [&str; 16] = [
     "schedule", "block, keys laid out", "schedule and block",
     "TA11", "TA31", "TA32", "TA51", "TA52", "TA81", "TA82", "TA91", "TA92",
     "record sealed", "record opened",
+    "TA12, one by one", "TA12, in a class",
 ];
-/// The last rows, whose steps are the records of one book.
-const BOOK_ROWS: usize = 2;
+/// The last rows, whose steps are the records of one book or class.
+const LIST_ROWS: usize = 4;
 const RECORDS: usize = MOST;
 const STEPS: usize = 2_000;
 const ROUNDS: usize = 300;
 const VERSION: u16 = 0x0102;
 const NUMBER: u16 = 3;
+/// With this one the keys are osmo-tetra's too; its responses are not.
+const KEY_MASK: u16 = 0x6db6;
+const RESPONSE_MASK: u16 = 0x9240;
 
 /// One round of a contender in one row: all its steps, and a block that depends
 /// on each of them. None where the contender has no such operation.
@@ -38,6 +42,8 @@ struct Inputs {
     ring: [u8; RING],
     plain: Vec<u8>,
     sealed: Vec<u8>,
+    /// Those of a class; its session key is the first key.
+    challenges: Vec<u8>,
 }
 
 impl Inputs {
@@ -87,8 +93,8 @@ impl Inputs {
         }))
     }
 
-    /// A book into records of this size. Their identities are not compared, for
-    /// osmo-tetra has no TA61.
+    /// A book or class into records of this size. Identities and responses are not
+    /// compared: osmo-tetra has no TA61, and other responses.
     fn book<'a>(&self, size: usize, mut step: impl FnMut(&mut [u8]) + 'a) -> Round<'a> {
         let mut out = vec![0; size * RECORDS];
         Some(Box::new(move || {
@@ -101,6 +107,21 @@ impl Inputs {
             }
             block
         }))
+    }
+
+    /// The challenges of the class one by one: each step gives a response and a key.
+    fn challenges<'a>(
+        &'a self,
+        mut step: impl FnMut(&[u8]) -> ([u8; 4], [u8; 10]) + 'a,
+    ) -> Round<'a> {
+        self.book(AUTHENTICATION, move |out| {
+            let challenges = self.challenges.chunks(CHALLENGE);
+            for (challenge, record) in challenges.zip(out.chunks_mut(AUTHENTICATION)) {
+                let (response, key) = step(challenge);
+                record[..4].copy_from_slice(&response);
+                record[4..].copy_from_slice(&key);
+            }
+        })
     }
 }
 
@@ -150,6 +171,7 @@ fn main() {
         sealed: both::sealed(&ring, &plain),
         ring,
         plain,
+        challenges: random.vec(CHALLENGE * RECORDS),
     };
     let mut ours = ours::rounds(&inputs);
     let mut osmo = osmo_rounds(&inputs);
@@ -160,9 +182,10 @@ fn main() {
         "{:20} {:>8} {:>12} {:>8} {:>16} {:>10}",
         "", "ours", "osmo-tetra", "Rust", "ours/osmo-tetra", "ours/Rust"
     );
+    let mut times = [None; ROWS.len()];
     for (i, row) in ROWS.into_iter().enumerate() {
-        let book = i >= ROWS.len() - BOOK_ROWS;
-        let steps = if book { RECORDS } else { STEPS };
+        let list = i >= ROWS.len() - LIST_ROWS;
+        let steps = if list { RECORDS } else { STEPS };
         let [a, b, c] = least(row, steps, [&mut ours[i], &mut osmo[i], &mut rust[i]]);
         let ratio = |x: Option<f64>| Some(a? / x?);
         println!(
@@ -173,6 +196,11 @@ fn main() {
             shown(ratio(b), 2),
             shown(ratio(c), 2),
         );
+        times[i] = a;
+    }
+    if let [.., Some(one_by_one), Some(class)] = times {
+        let ratio = shown(Some(class / one_by_one), 2);
+        println!("ours: a class of {RECORDS} takes {ratio} times its challenges one by one");
     }
 }
 

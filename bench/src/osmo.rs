@@ -23,7 +23,11 @@ pub fn rounds(inputs: &Inputs) -> Rounds<'_> {
         }),
     ];
     let calls = cipher.into_iter().chain(texts(inputs));
-    calls.chain(books(inputs)).collect()
+    // It has no call for a class, so both rows are its challenges one by one.
+    let class = [(); 2].map(|()| {
+        inputs.challenges(|challenge| osmo::ta12_ta22(&inputs.keys[0], &start(challenge)))
+    });
+    calls.chain(books(inputs)).chain(class).collect()
 }
 
 fn texts(inputs: &Inputs) -> [Round<'_>; 9] {

@@ -1,23 +1,37 @@
 //! The engine. The calls are its own; the steps are another archive's.
 
-use crate::{Inputs, Round, Rounds};
-use host::both::{PLAIN, SEALED};
+use crate::{Inputs, Round, Rounds, KEY_MASK, RESPONSE_MASK};
+use host::both::{AUTHENTICATION, PLAIN, SEALED};
 use host::engine;
 
 pub fn rounds(inputs: &Inputs) -> Rounds<'_> {
     let [schedule, block] = steps(inputs);
     let call = inputs.calls(|key, block| *block = engine::encrypt(key, block).bytes);
     let cipher = [schedule, block, call];
-    let books = [
+    let session_key = &inputs.keys[0];
+    let lists = [
         inputs.book(SEALED, |out| {
             engine::seal_book(&inputs.ring, &inputs.plain, out);
         }),
         inputs.book(PLAIN, |out| {
             engine::open_book(&inputs.ring, &inputs.sealed, out);
         }),
+        inputs.challenges(|challenge| {
+            let one = engine::ta12(session_key, challenge, RESPONSE_MASK, KEY_MASK);
+            (one.response, one.key)
+        }),
+        inputs.book(AUTHENTICATION, |out| {
+            engine::ta12_class(
+                session_key,
+                &inputs.challenges,
+                RESPONSE_MASK,
+                KEY_MASK,
+                out,
+            );
+        }),
     ];
     let calls = cipher.into_iter().chain(texts!(inputs, engine));
-    calls.chain(books).collect()
+    calls.chain(lists).collect()
 }
 
 #[cfg(steps)]

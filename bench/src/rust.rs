@@ -1,8 +1,8 @@
 //! The independent implementation in Rust, at opt-level 3.
 
-use crate::{Inputs, Rounds};
-use host::both::{PLAIN, SEALED};
-use host::{books, hurdle, taa1};
+use crate::{Inputs, Rounds, KEY_MASK, RESPONSE_MASK};
+use host::both::{AUTHENTICATION, PLAIN, SEALED};
+use host::{books, class, hurdle, taa1};
 use std::hint::black_box;
 
 pub fn rounds(inputs: &Inputs) -> Rounds<'_> {
@@ -15,14 +15,28 @@ pub fn rounds(inputs: &Inputs) -> Rounds<'_> {
         inputs.blocks(move |block| *block = hurdle::encrypt_with(&keys, block)),
         inputs.calls(|key, block| *block = hurdle::encrypt(key, block)),
     ];
-    let books = [
+    let session_key = &inputs.keys[0];
+    let lists = [
         inputs.book(SEALED, |out| {
             books::seal_book(&inputs.ring, &inputs.plain, out);
         }),
         inputs.book(PLAIN, |out| {
             books::open_book(&inputs.ring, &inputs.sealed, out);
         }),
+        inputs.challenges(|challenge| {
+            let one = taa1::ta12(session_key, challenge, RESPONSE_MASK, KEY_MASK);
+            (one.response, one.key)
+        }),
+        inputs.book(AUTHENTICATION, |out| {
+            class::ta12_class(
+                session_key,
+                &inputs.challenges,
+                RESPONSE_MASK,
+                KEY_MASK,
+                out,
+            );
+        }),
     ];
     let calls = cipher.into_iter().chain(texts!(inputs, taa1));
-    calls.chain(books).collect()
+    calls.chain(lists).collect()
 }
