@@ -2,20 +2,22 @@
 -- Assumes nothing.
 use mathlib.Core.Bool.{Bool, true, _&&_}
 use mathlib.Core.List.{List, [], _∷_, _++_}
-use mathlib.Core.Path.{_≡_, refl, ap₂, _∙_}
+use mathlib.Core.Path.{_≡_, refl, sym, ap₂, _∙_}
 use Prim.Native.Nat.{ℕ, zero, suc, _^_, _<_}
 use native.Mathlib.Nat.{suc-ne-zero}
 use lib.Bits.{xor-zero-r}
 use lib.Dec.{eqb}
 use lib.ListN.{length}
-use borrow.Author.Tests.{eq-eqb, ne-eqb}
+use borrow.Author.Tests.{eqb-true, eq-eqb, ne-eqb}
 use Rattle.standard.specs.Bytes.{part, xors, zeros}
 use Rattle.standard.specs.Cores.{bl1With, bl1}
 use Rattle.standard.specs.Derivation.{core, ta11, ta21, chosen, ta12Call, sidesTest, ring, long6, ringCall}
-use Rattle.standard.specs.Facts.{BothSides, IdleChallenge, OneSide}
+use Rattle.standard.specs.Facts.{BothSides, IdleChallenge, OneSide, OrIsFlag}
 use Rattle.standard.specs.Mixing.{tb4}
 use Rattle.standard.specs.Refusals.{wrongLength, long, maskTests, first, ringMade}
+use Rattle.standard.specs.Seals.{form, opened, clears}
 use Rattle.standard.proofs.BytesLaws.{spelled, long-spelled}
+use Rattle.standard.proofs.CheckLaws.{or-clear}
 use Rattle.standard.proofs.DerivationLaws.{masks-ones, length-chosen, long6-split}
 use Rattle.standard.proofs.FirstLaws.{all-pass, none-fails}
 
@@ -92,3 +94,12 @@ one-side = record {
       let o = core (ta21 root rs) rand2 in
       rw (z, b) (spelled 10 (chosen km o) (chosen10 km o h rm m), refl);
 }
+
+-- ---- the flag without branches (02, 3)
+
+pub or-is-flag : OrIsFlag
+unfolding clears
+or-is-flag k s v t =
+    let u = opened (form k .key s v) t in
+    let e = or-clear (k .algorithm) u in
+    (λ z. sym e ∙ eq-eqb _ 0 z, λ c. eqb-true _ 0 (e ∙ c))

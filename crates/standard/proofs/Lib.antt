@@ -9,6 +9,7 @@ pub mod HurdleLaws
 pub mod CoreLaws
 pub mod ExpansionLaws
 pub mod SealLaws
+pub mod CheckLaws
 pub mod IdentityLaws
 pub mod CallLaws
 pub mod RecordLaws

@@ -1,6 +1,8 @@
 -- Facts that the requests ask for (02), stated. Their proofs are in proofs/FactLaws.
 -- Assumes nothing.
+use mathlib.Core.Bool.{true}
 use mathlib.Core.List.{List, [], _∷_, _++_}
+use mathlib.Core.Logic.{_↔_}
 use mathlib.Core.Path.{_≡_}
 use Prim.Native.Nat.{ℕ, _^_, _<_}
 use lib.ListN.{length}
@@ -8,7 +10,9 @@ use Rattle.standard.specs.Bytes.{part, zeros}
 use Rattle.standard.specs.Derivation.{ta11, ta21, ta41, ta12Call, ta22Call, long6, ringCall}
 use Rattle.standard.specs.Mixing.{tb4}
 use Rattle.standard.specs.Refusals.{wrongLength, maskTests, first, ringMade}
+use Rattle.standard.specs.Seals.{form, orOf, opened, clears}
 use Rattle.standard.specs.declared.Authentication.{Authentication}
+use Rattle.standard.specs.declared.Kind.{Kind}
 
 -- ---- one-sided authentication (02, 1)
 
@@ -37,3 +41,9 @@ pub record OneSide : Type 0 where
   pub ta22-alone : (root rs rso rand1 rand2 c : List ℕ) (rm km : ℕ) → km < 2 ^ 16 → ringCall root rs rso rand1 rand2 c 2 rm km .refusal ≡ 0
       → (part 0 10 (ringCall root rs rso rand1 rand2 c 2 rm km .ring) ≡ ta22Call (ta21 root rs) rand2 rm km .key)
       × (ringCall root rs rso rand1 rand2 c 2 rm km .response1 ≡ zeros 4)
+
+-- ---- the flag without branches (02, 3)
+
+-- for every kind, sealing key, version and text the or of the differences is 0 exactly if the flag is clear
+abbrev pub OrIsFlag : Type 0
+OrIsFlag = (k : Kind) (s v t : List ℕ) → (orOf (form k) (opened (form k .key s v) t) ≡ 0) ↔ (clears (form k) s v t ≡ true)

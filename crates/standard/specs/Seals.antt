@@ -6,7 +6,7 @@ use mathlib.Core.Bool.{Bool, _&&_, not}
 use mathlib.Core.List.{List, [], _∷_, _++_}
 use Prim.Native.Nat.{ℕ, _+_, _*_, _/_, _%_}
 use lib.Dec.{eqb, leb}
-use Rattle.standard.specs.Bytes.{_!_, table, part, xors, zeros, bytesOf, same, choose}
+use Rattle.standard.specs.Bytes.{_!_, _⊕_, _∣_, table, part, xors, zeros, bytesOf, same, choose}
 use Rattle.standard.specs.Cores.{bl1, bl2}
 use Rattle.standard.specs.Expansions.{ungrouped, inserted, expected, exp1Groups, exp3Groups, x16Groups, exp1, exp3, exp4, x16, shr1, shr2}
 use Rattle.standard.specs.Refusals.{wrongLength, wrongNumber, notZero, long, first, answer15, unsealed, unsealedNumbered, unsealedGroup}
@@ -78,6 +78,19 @@ pub record Form : Type 0 where
 -- the check: nothing else is found than what is wanted
 abbrev pub clear : Form → List ℕ → Bool
 clear F u = same (F .found u) (F .wanted u)
+
+-- the check as arithmetic (02, 3): what is wanted ⊕ what is found, or-ed together. It is 0 exactly if the check is clear
+abbrev pub differences : List ℕ → List ℕ → List ℕ
+differences [] ys = []
+differences (x ∷ xs) [] = []
+differences (x ∷ xs) (y ∷ ys) = y ⊕ x ∷ differences xs ys
+
+abbrev pub orOn : ℕ → List ℕ → ℕ
+orOn x [] = x
+orOn x (y ∷ ys) = orOn (x ∣ y) ys
+
+abbrev pub orOf : Form → List ℕ → ℕ
+orOf F u = orOn 0 (differences (F .found u) (F .wanted u))
 
 -- EXP1 of the key, then a zero byte
 abbrev pub form31 : Form

@@ -1,7 +1,7 @@
 // The forms of the algorithms: BL1's data input from a body of 12 bytes, and the check and the body of BL2's 15 bytes.
 use standard::Algorithm;
 ghost use mathlib.Core.Path.{_≡_};
-ghost use Rattle.standard.specs.Seals.{clear, formOf, form31, form51, form81};
+ghost use Rattle.standard.specs.Seals.{orOf, formOf, form31, form51, form81};
 
 fn input31(b: [u8; 12]) -> [u8; 16]
     ensures { λ r. ⌜ r ≡ form31 .input b ⌝ }
@@ -151,41 +151,43 @@ pub(crate) fn body_of(algorithm: Algorithm, u: [u8; 15]) -> [u8; 12]
     }
 }
 
-fn clear31(u: [u8; 15]) -> bool
-    ensures { λ r. ⌜ r ≡ clear form31 u ⌝ }
+// The check as arithmetic: the differences of the inserted bytes, or-ed; 0 exactly if each is the ⊕ of its group.
+fn or31(u: [u8; 15]) -> u8
+    ensures { λ r. ⌜ r ≡ orOf form31 u ⌝ }
 {
-    (u[2] == u[0] ^ u[1])
-        & (u[5] == u[3] ^ u[4])
-        & (u[8] == u[6] ^ u[7])
-        & (u[11] == u[9] ^ u[10])
-        & (u[14] == u[12] ^ u[13])
+    (u[0] ^ u[1] ^ u[2])
+        | (u[3] ^ u[4] ^ u[5])
+        | (u[6] ^ u[7] ^ u[8])
+        | (u[9] ^ u[10] ^ u[11])
+        | (u[12] ^ u[13] ^ u[14])
 }
 
-fn clear51(u: [u8; 15]) -> bool
-    ensures { λ r. ⌜ r ≡ clear form51 u ⌝ }
+// With the top three bits of the number byte.
+fn or51(u: [u8; 15]) -> u8
+    ensures { λ r. ⌜ r ≡ orOf form51 u ⌝ }
 {
-    (u[2] == u[0] ^ u[1])
-        & (u[6] == u[3] ^ u[4] ^ u[5])
-        & (u[10] == u[7] ^ u[8] ^ u[9])
-        & (u[14] == u[11] ^ u[12] ^ u[13])
-        & (u[13] / 32 == 0)
+    (u[0] ^ u[1] ^ u[2])
+        | (u[3] ^ u[4] ^ u[5] ^ u[6])
+        | (u[7] ^ u[8] ^ u[9] ^ u[10])
+        | (u[11] ^ u[12] ^ u[13] ^ u[14])
+        | (u[13] / 32)
 }
 
-fn clear81(u: [u8; 15]) -> bool
-    ensures { λ r. ⌜ r ≡ clear form81 u ⌝ }
+fn or81(u: [u8; 15]) -> u8
+    ensures { λ r. ⌜ r ≡ orOf form81 u ⌝ }
 {
-    (u[4] == u[0] ^ u[1] ^ u[2] ^ u[3])
-        & (u[9] == u[5] ^ u[6] ^ u[7] ^ u[8])
-        & (u[14] == u[10] ^ u[11] ^ u[12] ^ u[13])
+    (u[0] ^ u[1] ^ u[2] ^ u[3] ^ u[4])
+        | (u[5] ^ u[6] ^ u[7] ^ u[8] ^ u[9])
+        | (u[10] ^ u[11] ^ u[12] ^ u[13] ^ u[14])
 }
 
-pub(crate) fn is_clear(algorithm: Algorithm, u: [u8; 15]) -> bool
-    ensures { λ r. ⌜ r ≡ clear (formOf algorithm) u ⌝ }
+pub(crate) fn or_of(algorithm: Algorithm, u: [u8; 15]) -> u8
+    ensures { λ r. ⌜ r ≡ orOf (formOf algorithm) u ⌝ }
 {
     match algorithm {
-        Algorithm::Ta31 => clear31(u),
-        Algorithm::Ta51 => clear51(u),
-        Algorithm::Ta81 => clear81(u),
-        Algorithm::Ta91 => clear81(u),
+        Algorithm::Ta31 => or31(u),
+        Algorithm::Ta51 => or51(u),
+        Algorithm::Ta81 => or81(u),
+        Algorithm::Ta91 => or81(u),
     }
 }

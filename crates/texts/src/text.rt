@@ -1,7 +1,7 @@
 // A sealed text of a body, and back, under the core's key.
 use crate::forms::body_of;
 use crate::forms::input_of;
-use crate::forms::is_clear;
+use crate::forms::or_of;
 use cores::bl1;
 use cores::bl2;
 use cores::exp4;
@@ -139,7 +139,7 @@ pub fn open_text(algorithm: Algorithm, key: [u8; 16], text: [u8; 15]) -> Opened
     let u = bl2(key, with8(text));
     Opened {
         body: body_of(algorithm, u),
-        flag: !is_clear(algorithm, u),
+        flag: or_of(algorithm, u) != 0,
     }
 }
 
@@ -147,5 +147,5 @@ pub fn open_text(algorithm: Algorithm, key: [u8; 16], text: [u8; 15]) -> Opened
 pub fn flag_of(algorithm: Algorithm, key: [u8; 16], text: [u8; 15]) -> bool
     ensures { λ r. ⌜ r ≡ not (clear (formOf algorithm) (openedOf key text)) ⌝ }
 {
-    !is_clear(algorithm, bl2(key, with8(text)))
+    or_of(algorithm, bl2(key, with8(text))) != 0
 }

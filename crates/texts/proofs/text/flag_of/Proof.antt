@@ -1,6 +1,9 @@
 -- `texts::text::flag_of` meets its contract.
 -- Assumes nothing.
+use mathlib.Core.Bool.{not}
+use mathlib.Core.Path.{ap}
 use borrow.Author.Needs.{needs}
+use Rattle.standard.proofs.CheckLaws.{or-clear}
 use Rattle.standard.specs.Seals.{opened}
 use Rattle.texts.proofs.text.flag_of.Statement.{statement}
 use Rattle.texts.proofs.text.flag_of.Tie as tie
@@ -11,12 +14,14 @@ with8-requires c κs = search needs
 bl2-requires : tie.Need-bl2-requires
 bl2-requires c κs = search needs
 
-is-clear-requires : tie.Need-is-clear-requires
-is-clear-requires c κs = search needs
+or-of-requires : tie.Need-or-of-requires
+or-of-requires c κs = search needs
 
 returns : tie.Need-returns
 unfolding opened
-returns c = rw (c .is-clear .ensures, c .before .bl2 .ensures, c .before .before .with8 .ensures)
+returns c =
+    rw (c .or-of .ensures, c .before .bl2 .ensures, c .before .before .with8 .ensures)
+    (ap not (or-clear (c .before .before .before .args .algorithm) _))
 
 pub flag-of-spec : {M : Type 1} → statement M
-flag-of-spec = tie.close (tie.spec with8-requires bl2-requires is-clear-requires returns)
+flag-of-spec = tie.close (tie.spec with8-requires bl2-requires or-of-requires returns)
