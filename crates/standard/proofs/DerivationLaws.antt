@@ -4,10 +4,9 @@ use mathlib.Core.Bool.{Bool, true, false, _&&_}
 use mathlib.Core.List.{List, [], _∷_}
 use mathlib.Core.Path.{_≡_, refl, sym, ap, _∙_}
 use Prim.Native.Nat.{ℕ, zero, suc, _+_, _/_, _%_, _^_, _<_}
-use native.Mathlib.Nat.{mod-lt, mod-eq-of-lt, zero-lt-suc, zero-add, mod-one, suc-ne-zero}
+use native.Mathlib.Nat.{mod-lt, mod-eq-of-lt, zero-lt-suc, zero-add, mod-one}
 use native.Mathlib.Numerals.{one-add}
 use native.Mathlib.Omega.{arith}
-use lib.Bits.{bitAnd}
 use lib.Count.{ones, onesIn, ones-cat}
 use lib.Dec.{eqb}
 use lib.ListN.{length}
@@ -15,17 +14,14 @@ use lib.Pow.{pow-pos, mod-pow-add}
 use borrow.Author.Tests.{eqb-true}
 use Rattle.standard.specs.Bytes.{byte, bit, part, choose}
 use Rattle.standard.specs.Derivation.{chosenOf, chosen, ringOf, long6, ringCall}
-use Rattle.standard.specs.Refusals.{wrongMask, sharedBit, long, maskTests, first}
+use Rattle.standard.specs.Refusals.{long, maskTests, first}
 use Rattle.standard.proofs.BytesLaws.{long-spelled, and-split}
-
-first-test : (t u : Bool) → first ((t, wrongMask) ∷ (u, sharedBit) ∷ []) ≡ 0 → t ≡ true
-first-test true u e = refl
-first-test false u e = absurd (suc-ne-zero 6 e)
+use Rattle.standard.proofs.FirstLaws.{all-pass}
 
 -- masks that no test refuses
 pub masks-ones : (rm km : ℕ) → first (maskTests rm km) ≡ 0 → (ones rm ≡ 4) × (ones km ≡ 10)
 masks-ones rm km e =
-    let s = and-split _ _ (first-test (eqb (ones rm) 4 && eqb (ones km) 10) (eqb (bitAnd rm km) 0) e) in
+    let s = and-split _ _ (all-pass (maskTests rm km) refl e 0) in
     (eqb-true _ _ (s .0), eqb-true _ _ (s .1))
 
 -- ---- a mask chooses as many bytes as it has ones
