@@ -69,7 +69,9 @@ fn texts(inputs: &Inputs) -> [Round<'_>; 9] {
 
 /// The same seals and unseals, one for each record, and identities as they are.
 fn books(inputs: &Inputs) -> [Round<'_>; 2] {
-    let o = start(&inputs.ring[10..]);
+    // O seals kinds 2 to 4, and G kinds 5 and 6.
+    let (o, g) = (start(&inputs.ring[10..]), start(&inputs.ring[36..]));
+    let long = move |record: &[u8]| if record[0] < 5 { o } else { g };
     // Again kind 1 has keys of its own, here for each record's version.
     let repaired = |record: &[u8]| {
         let version = u16::from_be_bytes(start(&record[4..]));
@@ -82,46 +84,46 @@ fn books(inputs: &Inputs) -> [Round<'_>; 2] {
             let records = inputs.plain.chunks(PLAIN).zip(&seal_keys);
             for ((record, d), out) in records.zip(out.chunks_mut(SEALED)) {
                 out[..6].copy_from_slice(&record[..6]);
-                out[6..].copy_from_slice(&sealed(record, d, &o));
+                out[6..].copy_from_slice(&sealed(record, d, &long(record)));
             }
         }),
         inputs.book(PLAIN, move |out| {
             let records = inputs.sealed.chunks(SEALED).zip(&open_keys);
             for ((record, d), out) in records.zip(out.chunks_mut(PLAIN)) {
                 out[..6].copy_from_slice(&record[..6]);
-                out[6..].copy_from_slice(&opened(record, d, &o));
+                out[6..].copy_from_slice(&opened(record, d, &long(record)));
             }
         }),
     ]
 }
 
-fn sealed(record: &[u8], d: &[u8; 10], o: &[u8; 16]) -> [u8; 15] {
+fn sealed(record: &[u8], d: &[u8; 10], long: &[u8; 16]) -> [u8; 15] {
     let (version, body) = (start(&record[4..]), &record[6..]);
     match record[0] {
         1 => osmo::ta31(&start(body), &version, d),
-        2 => osmo::ta51(&start(body), &version, o, &start(&body[11..])),
-        3 => osmo::ta81(&start(body), &version, &start(&body[10..]), o),
-        _ => osmo::ta91(&start(body), &version, o),
+        2 | 5 => osmo::ta51(&start(body), &version, long, &start(&body[11..])),
+        3 | 6 => osmo::ta81(&start(body), &version, &start(&body[10..]), long),
+        _ => osmo::ta91(&start(body), &version, long),
     }
 }
 
-fn opened(record: &[u8], d: &[u8; 10], o: &[u8; 16]) -> [u8; 12] {
+fn opened(record: &[u8], d: &[u8; 10], long: &[u8; 16]) -> [u8; 12] {
     let (version, text) = (start(&record[4..]), start(&record[6..]));
     let (key, number, flag) = match record[0] {
         1 => {
             let (key, [flag]) = osmo::ta32(&text, &version, d);
             (key, [0, 0], flag)
         }
-        2 => {
-            let (key, [flag], [number]) = osmo::ta52(&text, o, &version);
+        2 | 5 => {
+            let (key, [flag], [number]) = osmo::ta52(&text, long, &version);
             (key, [0, number], flag)
         }
-        3 => {
-            let (key, [flag], number) = osmo::ta82(&text, &version, o);
+        3 | 6 => {
+            let (key, [flag], number) = osmo::ta82(&text, &version, long);
             (key, number, flag)
         }
         _ => {
-            let (key, [flag]) = osmo::ta92(&text, &version, o);
+            let (key, [flag]) = osmo::ta92(&text, &version, long);
             (start(&key), start(&key[10..]), flag)
         }
     };

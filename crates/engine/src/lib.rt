@@ -250,11 +250,12 @@ pub extern "C" fn taa1_ring(
     rand1: &[u8],
     rand2: &[u8],
     c: &[u8],
+    group_key: &[u8],
     sides: u64,
     response_mask: u16,
     key_mask: u16,
 ) -> RingMade
-    ensures { λ r. ⌜ r ≡ ringCall (now (root .entry)) (now (rs .entry)) (now (rso .entry)) (now (rand1 .entry)) (now (rand2 .entry)) (now (c .entry)) sides «response_mask» «key_mask» ⌝ }
+    ensures { λ r. ⌜ r ≡ ringCall (now (root .entry)) (now (rs .entry)) (now (rso .entry)) (now (rand1 .entry)) (now (rand2 .entry)) (now (c .entry)) (now («group_key» .entry)) sides «response_mask» «key_mask» ⌝ }
 {
     keys::ring(
         root,
@@ -263,6 +264,7 @@ pub extern "C" fn taa1_ring(
         rand1,
         rand2,
         c,
+        group_key,
         sides,
         response_mask,
         key_mask,

@@ -11,6 +11,7 @@ use crate::masks::refused_split;
 use crate::masks::split;
 use crate::recipe::make;
 use arrays::array10;
+use arrays::array12;
 use arrays::array16;
 use arrays::both_long;
 pub use masks::authenticate;
@@ -150,18 +151,20 @@ pub fn ring(
     rand1: &[u8],
     rand2: &[u8],
     c: &[u8],
+    group_key: &[u8],
     sides: u64,
     response_mask: u16,
     key_mask: u16,
 ) -> RingMade
-    ensures { λ r. ⌜ r ≡ ringCall (now (root .entry)) (now (rs .entry)) (now (rso .entry)) (now (rand1 .entry)) (now (rand2 .entry)) (now (c .entry)) sides «response_mask» «key_mask» ⌝ }
+    ensures { λ r. ⌜ r ≡ ringCall (now (root .entry)) (now (rs .entry)) (now (rso .entry)) (now (rand1 .entry)) (now (rand2 .entry)) (now (c .entry)) (now («group_key» .entry)) sides «response_mask» «key_mask» ⌝ }
 {
     let long = (root.len() == 16)
         & (rs.len() == 10)
         & (rso.len() == 10)
         & (rand1.len() == 10)
         & (rand2.len() == 10)
-        & (c.len() == 10);
+        & (c.len() == 10)
+        & (group_key.len() == 12);
     if !long {
         return refused_ring(WRONG_LENGTH);
     }
@@ -172,6 +175,7 @@ pub fn ring(
         rand1: array10(rand1),
         rand2: array10(rand2),
         c: array10(c),
+        group_key: array12(group_key),
         sides,
         response_mask,
         key_mask,

@@ -4,6 +4,7 @@ use crate::derivation::reversed;
 use crate::masks::split;
 use arrays::copy;
 use mixing::mix4;
+use mixing::mix7;
 use standard::Authentication;
 use standard::RING;
 use standard::RingBytes;
@@ -14,6 +15,9 @@ ghost use mathlib.Core.Path.{_≡_};
 ghost use lib.Count.{ones};
 ghost use Rattle.standard.specs.Bytes.{part};
 ghost use Rattle.standard.specs.Derivation.{core as coreOf, half as halfOf, ringAnswer};
+
+// The bytes of D and O, and as many of C and G.
+const HALF: usize = 26;
 
 // One half of the recipe: a session key from root and seed, and what it answers to a challenge. A half that does not run answers zero bytes,
 // with no cipher run.
@@ -38,18 +42,27 @@ fn half(
     split(core(core(root, seed), challenge), response_mask, key_mask)
 }
 
-// The ring's three keys, one after the other.
-fn joined(d: [u8; 10], o: [u8; 16], c: [u8; 10]) -> RingBytes
-    ensures { λ r. ⌜ r ≡ part 0 10 d ++ part 0 16 o ++ part 0 10 c ⌝ }
+// A key of ten bytes and one of sixteen: half of a ring.
+fn joined(a: [u8; 10], b: [u8; 16]) -> [u8; HALF]
+    ensures { λ r. ⌜ r ≡ part 0 10 a ++ part 0 16 b ⌝ }
+{
+    let mut keys = [0u8; HALF];
+    copy(&a, &mut keys);
+    copy(&b, &mut keys[10..]);
+    keys
+}
+
+// Both halves of a ring: D and O, then C and G.
+fn halves(a: [u8; HALF], b: [u8; HALF]) -> RingBytes
+    ensures { λ r. ⌜ r ≡ part 0 26 a ++ part 0 26 b ⌝ }
 {
     let mut ring = [0u8; RING];
-    copy(&d, &mut ring);
-    copy(&o, &mut ring[10..]);
-    copy(&c, &mut ring[26..]);
+    copy(&a, &mut ring);
+    copy(&b, &mut ring[HALF..]);
     ring
 }
 
-// D, O and C, and both responses.
+// D, O, C and G, and both responses.
 pub(crate) fn make(x: RingInputs) -> RingMade
     requires { ⌜ (ones (x .«response_mask») ≡ 4) × (ones (x .«key_mask») ≡ 10) ⌝ }
     ensures { λ r. ⌜ r ≡ ringAnswer 0 x ⌝ }
@@ -60,6 +73,7 @@ pub(crate) fn make(x: RingInputs) -> RingMade
     let rand1 = x.rand1;
     let rand2 = x.rand2;
     let c = x.c;
+    let group_key = x.group_key;
     let first = half(x.sides != 2, root, rs, rand1, x.response_mask, x.key_mask);
     let seed = reversed(rs);
     let second = half(x.sides != 1, root, seed, rand2, x.response_mask, x.key_mask);
@@ -70,7 +84,7 @@ pub(crate) fn make(x: RingInputs) -> RingMade
     let response2 = second.response;
     RingMade {
         refusal: 0,
-        ring: joined(d, core(root, rso), c),
+        ring: halves(joined(d, core(root, rso)), joined(c, mix7(group_key))),
         response1,
         response2,
     }

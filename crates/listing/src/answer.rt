@@ -14,9 +14,9 @@ fn meaning(l: Line, refusal: u32) -> Line
     match refusal {
         1 => l.word(b"book longer than 1,024 records"),
         2 => l.word(b"book not a whole number of records"),
-        3 => l.word(b"kind not 1 to 4"),
+        3 => l.word(b"kind not 1 to 6"),
         4 => l.word(b"body byte not zero"),
-        5 => l.word(b"kind 2 number above 31"),
+        5 => l.word(b"kind 2 or 5 number above 31"),
         6 => l.word(b"flag set while opening a book"),
         7 => l.word(b"mask with a wrong number of ones"),
         8 => l.word(b"masks that share a bit"),

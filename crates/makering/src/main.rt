@@ -57,7 +57,7 @@ fn main() {
     if n != SITTING {
         io::write_all(
             STDERR_FILENO,
-            b"makering: the sitting does not have 71 bytes\n",
+            b"makering: the sitting does not have 83 bytes\n",
         );
         return;
     }

@@ -30,7 +30,7 @@ pub fn mix4(a: [u8; 10], b: [u8; 10]) -> [u8; 10]
 }
 
 // TB7 on a typed array: after each three bytes, their ⊕.
-fn grouped(b: [u8; 12]) -> [u8; 16]
+pub fn mix7(b: [u8; 12]) -> [u8; 16]
     ensures { λ r. ⌜ r ≡ tb7Of b ⌝ }
 {
     [
@@ -151,6 +151,6 @@ pub fn tb7(group_key: &[u8]) -> Bytes16
     }
     Bytes16 {
         refusal: 0,
-        bytes: grouped(array12(group_key)),
+        bytes: mix7(array12(group_key)),
     }
 }

@@ -45,7 +45,7 @@ pub(crate) fn ring_c(r: &RingBytes) -> [u8; 10]
     ]
 }
 
-// The sealing keys D, with zero bytes behind its ten, and O.
+// The sealing keys D, with zero bytes behind its ten, O and G.
 fn ring_d(r: &RingBytes) -> [u8; 16]
     ensures { λ k. ⌜ k ≡ part 0 16 (part 0 10 (now (r .entry))) ⌝ }
 {
@@ -92,12 +92,36 @@ fn ring_o(r: &RingBytes) -> [u8; 16]
     ]
 }
 
+fn ring_g(r: &RingBytes) -> [u8; 16]
+    ensures { λ k. ⌜ k ≡ part 0 16 (part 36 16 (now (r .entry))) ⌝ }
+{
+    [
+        r[36],
+        r[37],
+        r[38],
+        r[39],
+        r[40],
+        r[41],
+        r[42],
+        r[43],
+        r[44],
+        r[45],
+        r[46],
+        r[47],
+        r[48],
+        r[49],
+        r[50],
+        r[51],
+    ]
+}
+
 fn ring_key(under: RingKey, r: &RingBytes) -> [u8; 16]
     ensures { λ k. ⌜ k ≡ part 0 16 (ringKey under (now (r .entry))) ⌝ }
 {
     match under {
         RingKey::D => ring_d(r),
         RingKey::O => ring_o(r),
+        RingKey::G => ring_g(r),
     }
 }
 

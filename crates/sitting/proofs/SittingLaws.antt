@@ -21,18 +21,19 @@ module _ (s : List ℕ) where
     rand1 = part 36 10 s;
     rand2 = part 46 10 s;
     c = part 56 10 s;
-    sides = s ! 66;
-    «response_mask» = 256 * s ! 67 + s ! 68;
-    «key_mask» = 256 * s ! 69 + s ! 70;
+    «group_key» = part 66 12 s;
+    sides = s ! 78;
+    «response_mask» = 256 * s ! 79 + s ! 80;
+    «key_mask» = 256 * s ! 81 + s ! 82;
   }
 
   sitting-long : length s ≡ sittingSize
-      → ringCall (part 0 16 s) (part 16 10 s) (part 26 10 s) (part 36 10 s) (part 46 10 s) (part 56 10 s) (s ! 66) (256 * s ! 67 + s ! 68) (256 * s ! 69 + s ! 70)
+      → ringCall (part 0 16 s) (part 16 10 s) (part 26 10 s) (part 36 10 s) (part 46 10 s) (part 56 10 s) (part 66 12 s) (s ! 78) (256 * s ! 79 + s ! 80) (256 * s ! 81 + s ! 82)
       ≡ sittingRing s
   unfolding sittingRing
   sitting-long h = rw (eq-eqb _ _ h)
 
   pub sitting-recipe : length s ≡ sittingSize → ringOf inputs ≡ sittingRing s
   sitting-recipe h =
-      ring-long (part 0 16 s) (part 16 10 s) (part 26 10 s) (part 36 10 s) (part 46 10 s) (part 56 10 s) (s ! 66) (256 * s ! 67 + s ! 68) (256 * s ! 69 + s ! 70) refl
+      ring-long (part 0 16 s) (part 16 10 s) (part 26 10 s) (part 36 10 s) (part 46 10 s) (part 56 10 s) (part 66 12 s) (s ! 78) (256 * s ! 79 + s ! 80) (256 * s ! 81 + s ! 82) refl
       ∙ sitting-long h

@@ -1,6 +1,7 @@
-// The ring recipe on a sitting's file: root 16 bytes, RS, RSO, RAND1, RAND2 and C 10 each, sides 1, response mask 2, key mask
-// 2.
+// The ring recipe on a sitting's file: root 16 bytes, RS, RSO, RAND1, RAND2 and C 10 each, group key 12, sides 1, response mask 2,
+// key mask 2.
 use arrays::array10;
+use arrays::array12;
 use arrays::array16;
 use keys::ring_of;
 use standard::RingInputs;
@@ -35,7 +36,7 @@ pub fn sitting_ring(s: &[u8]) -> RingMade
     if s.len() != SITTING {
         return refused_ring(WRONG_LENGTH);
     }
-    let sides = wide(s[66]);
+    let sides = wide(s[78]);
     ring_of(RingInputs {
         root: array16(s),
         rs: ten(s, 16),
@@ -43,8 +44,9 @@ pub fn sitting_ring(s: &[u8]) -> RingMade
         rand1: ten(s, 36),
         rand2: ten(s, 46),
         c: ten(s, 56),
+        group_key: array12(&s[66..78]),
         sides,
-        response_mask: pair(s[67], s[68]),
-        key_mask: pair(s[69], s[70]),
+        response_mask: pair(s[79], s[80]),
+        key_mask: pair(s[81], s[82]),
     })
 }

@@ -11,14 +11,14 @@ use lib.ListN.{length}
 use borrow.Author.Tests.{eqb-true, eq-eqb, ne-eqb}
 use Rattle.standard.specs.Bytes.{part, xors, zeros}
 use Rattle.standard.specs.Cores.{bl1With, bl1}
-use Rattle.standard.specs.Derivation.{core, ta11, ta21, chosen, ta12Call, sidesTest, ring, long6, ringCall}
+use Rattle.standard.specs.Derivation.{core, ta11, ta21, chosen, ta12Call, sidesTest, ring, long7, ringCall}
 use Rattle.standard.specs.Facts.{BothSides, IdleChallenge, OneSide, OrIsFlag}
-use Rattle.standard.specs.Mixing.{tb4}
+use Rattle.standard.specs.Mixing.{tb4, tb7}
 use Rattle.standard.specs.Refusals.{wrongLength, long, maskTests, first, ringMade}
 use Rattle.standard.specs.Seals.{form, opened, clears}
 use Rattle.standard.proofs.BytesLaws.{spelled, long-spelled}
 use Rattle.standard.proofs.CheckLaws.{or-clear}
-use Rattle.standard.proofs.DerivationLaws.{masks-ones, length-chosen, long6-split}
+use Rattle.standard.proofs.DerivationLaws.{masks-ones, length-chosen, long7-split}
 use Rattle.standard.proofs.FirstLaws.{all-pass, none-fails}
 
 -- ---- one-sided authentication (02, 1)
@@ -42,12 +42,12 @@ core-long k seed = refl
 core-spelled : (k seed : List ℕ) → part 0 16 (core k seed) ≡ core k seed
 core-spelled k seed = long-spelled 16 (core k seed) (core-long k seed)
 
-module _ (root rs rso rand1 rand2 c : List ℕ) (sides rm km : ℕ) where
+module _ (root rs rso rand1 rand2 c gk : List ℕ) (sides rm km : ℕ) where
   abbrev tests : List (Bool × ℕ)
-  tests = (long6 root rs rso rand1 rand2 c, wrongLength) ∷ sidesTest sides ∷ maskTests rm km
+  tests = (long7 root rs rso rand1 rand2 c gk, wrongLength) ∷ sidesTest sides ∷ maskTests rm km
 
   -- what an accepted recipe's tests say
-  lengths : first tests ≡ 0 → long6 root rs rso rand1 rand2 c ≡ true
+  lengths : first tests ≡ 0 → long7 root rs rso rand1 rand2 c gk ≡ true
   lengths z = all-pass tests refl z 0
 
   masks : first tests ≡ 0 → first (maskTests rm km) ≡ 0
@@ -55,21 +55,21 @@ module _ (root rs rso rand1 rand2 c : List ℕ) (sides rm km : ℕ) where
 
 pub both-sides : BothSides
 unfolding ringCall ring
-both-sides root rs rso rand1 rand2 c rm km =
-    ring-same (first (tests root rs rso rand1 rand2 c 3 rm km)) _ _ _ _ _ _
+both-sides root rs rso rand1 rand2 c gk rm km =
+    ring-same (first (tests root rs rso rand1 rand2 c gk 3 rm km)) _ _ _ _ _ _
     (λ z.
-    let s = long6-split root rs rso rand1 rand2 c (lengths root rs rso rand1 rand2 c 3 rm km z) in
-    let m = masks root rs rso rand1 rand2 c 3 rm km z in
+    let s = long7-split root rs rso rand1 rand2 c gk (lengths root rs rso rand1 rand2 c gk 3 rm km z) in
+    let m = masks root rs rso rand1 rand2 c gk 3 rm km z in
     let a = ta12-passes (ta11 root rs) rand1 rm km (core-long root rs) (s .3) m in
     let b = ta12-passes (ta21 root rs) rand2 rm km (core-long root _) (s .4) m in
     let d = tb4 (chosen km (core (ta11 root rs) rand1)) (chosen km (core (ta21 root rs) rand2)) in
-    rw (a, b) (ap₂ (λ (o k : List ℕ). d ++ o ++ k) (core-spelled root rso) (long-spelled 10 c (s .5)), refl, refl))
+    rw (a, b) (ap₂ (λ (o k : List ℕ). d ++ o ++ k ++ tb7 gk) (core-spelled root rso) (long-spelled 10 c (s .5)), refl, refl))
 
 pub idle-challenge : IdleChallenge
 unfolding ringCall ring
 idle-challenge = record {
-  ta12-alone = λ root rs rso rand1 c rm km x y hx hy. rw (eq-eqb _ _ hx, eq-eqb _ _ hy);
-  ta22-alone = λ root rs rso rand2 c rm km x y hx hy. rw (eq-eqb _ _ hx, eq-eqb _ _ hy);
+  ta12-alone = λ root rs rso rand1 c gk rm km x y hx hy. rw (eq-eqb _ _ hx, eq-eqb _ _ hy);
+  ta22-alone = λ root rs rso rand2 c gk rm km x y hx hy. rw (eq-eqb _ _ hx, eq-eqb _ _ hy);
 }
 
 xors-zeros : (k : List ℕ) → length k ≡ 10 → xors 10 k (zeros 10) ≡ k
@@ -81,15 +81,15 @@ chosen10 km o h rm m = length-chosen km o h ∙ masks-ones rm km m .1
 pub one-side : OneSide
 unfolding ringCall ring
 one-side = record {
-  ta12-alone = λ root rs rso rand1 rand2 c rm km h z.
-      let s = long6-split root rs rso rand1 rand2 c (lengths root rs rso rand1 rand2 c 1 rm km z) in
-      let m = masks root rs rso rand1 rand2 c 1 rm km z in
+  ta12-alone = λ root rs rso rand1 rand2 c gk rm km h z.
+      let s = long7-split root rs rso rand1 rand2 c gk (lengths root rs rso rand1 rand2 c gk 1 rm km z) in
+      let m = masks root rs rso rand1 rand2 c gk 1 rm km z in
       let a = ta12-passes (ta11 root rs) rand1 rm km (core-long root rs) (s .3) m in
       let o = core (ta11 root rs) rand1 in
       rw (z, a) (xors-zeros (chosen km o) (chosen10 km o h rm m), refl);
-  ta22-alone = λ root rs rso rand1 rand2 c rm km h z.
-      let s = long6-split root rs rso rand1 rand2 c (lengths root rs rso rand1 rand2 c 2 rm km z) in
-      let m = masks root rs rso rand1 rand2 c 2 rm km z in
+  ta22-alone = λ root rs rso rand1 rand2 c gk rm km h z.
+      let s = long7-split root rs rso rand1 rand2 c gk (lengths root rs rso rand1 rand2 c gk 2 rm km z) in
+      let m = masks root rs rso rand1 rand2 c gk 2 rm km z in
       let b = ta12-passes (ta21 root rs) rand2 rm km (core-long root _) (s .4) m in
       let o = core (ta21 root rs) rand2 in
       rw (z, b) (spelled 10 (chosen km o) (chosen10 km o h rm m), refl);

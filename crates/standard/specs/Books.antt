@@ -18,14 +18,15 @@ use Rattle.standard.specs.declared.Kind.{Kind}
 use Rattle.standard.specs.declared.Named.{Named}
 use Rattle.standard.specs.declared.Named.the-variants.{Known, Unknown}
 use Rattle.standard.specs.declared.RingKey.{RingKey}
-use Rattle.standard.specs.declared.RingKey.the-variants.{D, O}
+use Rattle.standard.specs.declared.RingKey.the-variants.{D, O, G}
 
--- ---- a ring: the keys D, O and C, one after the other. D has 10 bytes and seals kind 1, O has 16 and seals the other kinds, C has 10
--- and encrypts identities
+-- ---- a ring: the keys D, O, C and G, one after the other. D has 10 bytes and seals kind 1, O has 16 and seals kinds 2 to 4, C has 10
+-- and encrypts identities, G has 16 and seals kinds 5 and 6 (02, 4)
 
 abbrev pub ringKey : RingKey → List ℕ → List ℕ
 ringKey D r = part 0 10 r
 ringKey O r = part 10 16 r
+ringKey G r = part 36 16 r
 
 abbrev pub sealingKey : Kind → List ℕ → List ℕ
 sealingKey k r = ringKey (k .under) r

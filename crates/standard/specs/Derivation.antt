@@ -7,7 +7,7 @@ use lib.Dec.{eqb, leb}
 use Rattle.standard.specs.Bytes.{_!_, byte, bit, _⊕_, table, part, xors, zeros, bytesOf, choose}
 use Rattle.standard.specs.Cores.{bl1}
 use Rattle.standard.specs.Expansions.{exp2, shr3}
-use Rattle.standard.specs.Mixing.{tb4}
+use Rattle.standard.specs.Mixing.{tb4, tb7}
 use Rattle.standard.specs.Refusals.{wrongLength, wrongSides, valueWide, long, fits, maskTests, first, answer10, answer16, authentication, ringMade}
 use Rattle.standard.specs.declared.Authentication.{Authentication}
 use Rattle.standard.specs.declared.Bytes10.{Bytes10}
@@ -62,7 +62,7 @@ int gck0 mni = xors 10 gck0 (bytesOf 3 mni ++ bytesOf 3 mni ++ bytesOf 3 mni ++ 
 abbrev pub ta101 : List ℕ → List ℕ → ℕ → List ℕ
 ta101 ks gck0 mni = core ks (int gck0 mni)
 
--- ---- the ring recipe: D, O, C, and both responses. The sides say who proves itself (02, 1): 1 runs TA12 alone, 2 TA22 alone, 3 both
+-- ---- the ring recipe: D, O, C, G, and both responses. G is the group key's TB7 form (02, 4). The sides say who proves itself (02, 1): 1 runs TA12 alone, 2 TA22 alone, 3 both
 
 abbrev pub sidesTest : ℕ → Bool × ℕ
 sidesTest sides = (leb 1 sides && leb sides 3, wrongSides)
@@ -85,7 +85,7 @@ abbrev pub half2 : RingInputs → Authentication
 half2 x = half (not (eqb (x .sides) 1)) (x .«response_mask») (x .«key_mask») (output2 x)
 
 unfoldable pub ring : RingInputs → List ℕ
-ring x = tb4 (half1 x .key) (half2 x .key) ++ part 0 16 (ta41 (x .root) (x .rso)) ++ part 0 10 (x .c)
+ring x = tb4 (half1 x .key) (half2 x .key) ++ part 0 16 (ta41 (x .root) (x .rso)) ++ part 0 10 (x .c) ++ tb7 (x .«group_key»)
 
 -- the tests of the inputs besides their lengths
 abbrev pub ringTests : RingInputs → List (Bool × ℕ)
@@ -125,11 +125,12 @@ unfoldable pub ta101Call : List ℕ → List ℕ → ℕ → Bytes16
 ta101Call ks gck0 mni =
     answer16 (first ((long 16 ks && long 10 gck0, wrongLength) ∷ (fits 24 mni, valueWide) ∷ [])) (ta101 ks gck0 mni)
 
--- the six strings have their lengths
-abbrev pub long6 : (root rs rso rand1 rand2 c : List ℕ) → Bool
-long6 root rs rso rand1 rand2 c = long 16 root && long 10 rs && long 10 rso && long 10 rand1 && long 10 rand2 && long 10 c
+-- the seven strings have their lengths
+abbrev pub long7 : (root rs rso rand1 rand2 c gk : List ℕ) → Bool
+long7 root rs rso rand1 rand2 c gk =
+    long 16 root && long 10 rs && long 10 rso && long 10 rand1 && long 10 rand2 && long 10 c && long 12 gk
 
-unfoldable pub ringCall : (root rs rso rand1 rand2 c : List ℕ) (sides rm km : ℕ) → RingMade
-ringCall root rs rso rand1 rand2 c sides rm km =
-    let x : RingInputs = record { root = root; rs = rs; rso = rso; rand1 = rand1; rand2 = rand2; c = c; sides = sides; «response_mask» = rm; «key_mask» = km } in
-    ringAnswer (first ((long6 root rs rso rand1 rand2 c, wrongLength) ∷ ringTests x)) x
+unfoldable pub ringCall : (root rs rso rand1 rand2 c gk : List ℕ) (sides rm km : ℕ) → RingMade
+ringCall root rs rso rand1 rand2 c gk sides rm km =
+    let x : RingInputs = record { root = root; rs = rs; rso = rso; rand1 = rand1; rand2 = rand2; c = c; «group_key» = gk; sides = sides; «response_mask» = rm; «key_mask» = km } in
+    ringAnswer (first ((long7 root rs rso rand1 rand2 c gk, wrongLength) ∷ ringTests x)) x

@@ -15,13 +15,13 @@ use Rattle.standard.specs.declared.TextAnswer.{TextAnswer}
 
 -- ---- makering
 
--- the ring recipe on a sitting's bytes: root 16, RS, RSO, RAND1, RAND2 and C 10 each, sides 1 (02, 1), response mask 2, key mask 2, the
--- high byte first
+-- the ring recipe on a sitting's bytes: root 16, RS, RSO, RAND1, RAND2 and C 10 each, group key 12 (02, 4), sides 1 (02, 1), response mask
+-- 2, key mask 2, the high byte first
 unfoldable pub sittingRing : List ℕ → RingMade
 sittingRing s =
     choose (long sittingSize s)
-    (ringCall (part 0 16 s) (part 16 10 s) (part 26 10 s) (part 36 10 s) (part 46 10 s) (part 56 10 s)
-    (s ! 66) (256 * s ! 67 + s ! 68) (256 * s ! 69 + s ! 70))
+    (ringCall (part 0 16 s) (part 16 10 s) (part 26 10 s) (part 36 10 s) (part 46 10 s) (part 56 10 s) (part 66 12 s)
+    (s ! 78) (256 * s ! 79 + s ! 80) (256 * s ! 81 + s ! 82))
     (ringMade wrongLength [] [] [])
 
 -- ---- a refusal's meaning (01, Who causes which number)
@@ -35,9 +35,9 @@ abbrev pub meanings : List (ℕ × List ℕ)
 meanings =
     (bookTooLong, ascii "book longer than 1,024 records")
     ∷ (bookNotWhole, ascii "book not a whole number of records")
-    ∷ (wrongKind, ascii "kind not 1 to 4")
+    ∷ (wrongKind, ascii "kind not 1 to 6")
     ∷ (notZero, ascii "body byte not zero")
-    ∷ (wrongNumber, ascii "kind 2 number above 31")
+    ∷ (wrongNumber, ascii "kind 2 or 5 number above 31")
     ∷ (flagSet, ascii "flag set while opening a book")
     ∷ (wrongMask, ascii "mask with a wrong number of ones")
     ∷ (sharedBit, ascii "masks that share a bit")

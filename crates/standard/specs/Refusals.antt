@@ -32,7 +32,7 @@ bookTooLong = 1
 abbrev pub bookNotWhole : ℕ
 bookNotWhole = 2
 
--- a kind byte is none of 1, 2, 3 and 4
+-- a kind byte is none of 1 to 6 (02, 4)
 abbrev pub wrongKind : ℕ
 wrongKind = 3
 
@@ -40,7 +40,7 @@ wrongKind = 3
 abbrev pub notZero : ℕ
 notZero = 4
 
--- a number of kind 2 has more than five bits, in a book or in TA51
+-- a number of kind 2 or 5 has more than five bits, in a book or in TA51
 abbrev pub wrongNumber : ℕ
 wrongNumber = 5
 

@@ -1,6 +1,6 @@
 -- Sealing and unsealing (01, Sealing and unsealing; 000, 5.8 to 5.11, 5.14 to 5.17).
 -- A body is what a plain record has behind its version, 12 bytes: a key and two zero bytes (kind 1), a key, a zero byte and a number
--- (kind 2), a key and a number of two bytes (kind 3), or a group key (kind 4).
+-- (kind 2), a key and a number of two bytes (kind 3), or a group key (kind 4). Kinds 5 and 6 are kinds 2 and 3 under another key (02, 4).
 -- Assumes nothing.
 use mathlib.Core.Bool.{Bool, _&&_, not}
 use mathlib.Core.List.{List, [], _∷_, _++_}
@@ -18,7 +18,7 @@ use Rattle.standard.specs.declared.Kind.{Kind}
 use Rattle.standard.specs.declared.Named.{Named}
 use Rattle.standard.specs.declared.Named.the-variants.{Known, Unknown}
 use Rattle.standard.specs.declared.RingKey.{RingKey}
-use Rattle.standard.specs.declared.RingKey.the-variants.{D, O}
+use Rattle.standard.specs.declared.RingKey.the-variants.{D, O, G}
 use Rattle.standard.specs.declared.Unsealed.{Unsealed}
 use Rattle.standard.specs.declared.UnsealedGroup.{UnsealedGroup}
 use Rattle.standard.specs.declared.UnsealedNumbered.{UnsealedNumbered}
@@ -33,7 +33,9 @@ kind a k = Known (record { algorithm = a; under = k })
 -- the kind that a byte names
 unfoldable pub kindOf : ℕ → Named
 kindOf b =
-    choose (eqb b 1) (kind Ta31 D) (choose (eqb b 2) (kind Ta51 O) (choose (eqb b 3) (kind Ta81 O) (choose (eqb b 4) (kind Ta91 O) Unknown)))
+    choose (eqb b 1) (kind Ta31 D)
+    (choose (eqb b 2) (kind Ta51 O)
+    (choose (eqb b 3) (kind Ta81 O) (choose (eqb b 4) (kind Ta91 O) (choose (eqb b 5) (kind Ta51 G) (choose (eqb b 6) (kind Ta81 G) Unknown)))))
 
 abbrev pub keyLength : Algorithm → ℕ
 keyLength Ta31 = 10
@@ -57,7 +59,7 @@ repeated n v = table n (λ i. v ! (i % 2))
 unfoldable pub key10 : List ℕ → List ℕ → List ℕ
 key10 s v = exp4 (xors 10 (repeated 10 v) s)
 
--- kinds 2 to 4 (5.10.2, 5.14.2, 5.16.2)
+-- the other kinds (5.10.2, 5.14.2, 5.16.2)
 unfoldable pub key16 : List ℕ → List ℕ → List ℕ
 key16 s v = xors 16 (repeated 16 v) s
 

@@ -2,8 +2,9 @@
 -- Assumes nothing.
 use Prim.Native.Nat.{ℕ}
 
+-- D, O, C and G (02, 4)
 abbrev pub ringSize : ℕ
-ringSize = 36
+ringSize = 52
 
 abbrev pub plainSize : ℕ
 plainSize = 18
@@ -13,7 +14,7 @@ sealedSize = 21
 
 -- a sitting's file, which makering reads
 abbrev pub sittingSize : ℕ
-sittingSize = 71
+sittingSize = 83
 
 -- a challenge, and the response and the key that TA12 answers to it (02, 2)
 abbrev pub challengeSize : ℕ

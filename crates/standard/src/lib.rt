@@ -8,13 +8,13 @@ ghost use Rattle.standard.specs.Sizes.{ringSize};
 ghost use Rattle.standard.specs.Seals.{kind, kindOf, keyLength, highestNumber};
 
 // Sizes in bytes: a ring, a plain and a sealed record, a sitting's file, a challenge and what TA12 answers to it; and the most records of a list.
-pub const RING: usize = 36;
+pub const RING: usize = 52;
 
 pub const PLAIN_RECORD: usize = 18;
 
 pub const SEALED_RECORD: usize = 21;
 
-pub const SITTING: usize = 71;
+pub const SITTING: usize = 83;
 
 pub const CHALLENGE: usize = 10;
 
@@ -133,6 +133,7 @@ pub struct RingInputs {
     pub rand1: [u8; 10],
     pub rand2: [u8; 10],
     pub c: [u8; 10],
+    pub group_key: [u8; 12],
     pub sides: u64,
     pub response_mask: u16,
     pub key_mask: u16,
@@ -174,6 +175,7 @@ pub enum Algorithm {
 pub enum RingKey {
     D,
     O,
+    G,
 }
 
 // The kind of a record: the algorithm that seals its key, and the key of the ring that it is sealed under.
@@ -194,7 +196,7 @@ impl Kind {
 
     pub const GROUP_KEY: usize = 12;
 
-    // The bytes of the key that seals kind 1, and of the one that seals kinds 2 to 4.
+    // The bytes of the key that seals kind 1, and of those that seal the other kinds.
     pub const TA31_SEALING_KEY: usize = 10;
 
     pub const SEALING_KEY: usize = 16;
@@ -212,6 +214,8 @@ impl Kind {
             2 => known(Algorithm::Ta51, RingKey::O),
             3 => known(Algorithm::Ta81, RingKey::O),
             4 => known(Algorithm::Ta91, RingKey::O),
+            5 => known(Algorithm::Ta51, RingKey::G),
+            6 => known(Algorithm::Ta81, RingKey::G),
             _ => Named::Unknown,
         }
     }

@@ -3,23 +3,28 @@
 use crate::edges::{self, rooms};
 use host::both::{check_plain, sealed, Call, MOST, OPEN, PLAIN, RING, SEAL, SEALED};
 use host::damaged::{self, flipped, under_version};
-use host::engine::null;
+use host::engine::{self, null};
 use host::random::Random;
 use host::taa1::{exp1, exp3, exp4, x16};
 use host::tally::{Group, Tally};
 use std::array::from_fn;
 
-const KINDS: [u8; 4] = [1, 2, 3, 4];
+const KINDS: [u8; 6] = [1, 2, 3, 4, 5, 6];
 
-/// Kinds with the last two bytes of their bodies: four right ones, wrong kinds,
-/// bytes that must be zero and are not, and numbers above 31.
-const ENDS: [(u8, [u8; 2]); 14] = [
+/// The length of a ring without a group key.
+const SHORT_RING: usize = 36;
+
+/// Kinds with the last two bytes of their bodies: a right one of each kind, wrong
+/// kinds, bytes that must be zero and are not, and numbers above 31.
+const ENDS: [(u8, [u8; 2]); 20] = [
     (1, [0, 0]),
     (2, [0, 31]),
     (3, [255, 255]),
     (4, [1, 32]),
+    (5, [0, 31]),
+    (6, [255, 255]),
     (0, [0, 0]),
-    (5, [0, 32]),
+    (7, [0, 32]),
     (255, [1, 32]),
     (1, [0, 1]),
     (1, [1, 0]),
@@ -28,6 +33,10 @@ const ENDS: [(u8, [u8; 2]); 14] = [
     (2, [0, 255]),
     (2, [1, 0]),
     (2, [1, 32]),
+    (5, [0, 32]),
+    (5, [0, 255]),
+    (5, [1, 0]),
+    (5, [1, 32]),
 ];
 
 /// A ring, a plain book and its sealed form.
@@ -101,6 +110,16 @@ pub fn run(tally: &mut Tally, random: &mut Random) {
     tally.group("books (rings, lengths and outputs at once)", |group| {
         orders(group, random);
     });
+    tally.group("books (rings of every other length)", |group| {
+        let bytes = random.bytes::<{ 2 * RING }>();
+        let book = Book::of_each_kind(random);
+        for length in (0..RING).chain(RING + 1..=2 * RING) {
+            for (call, records) in book.forms() {
+                call.want_refused(group, &bytes[..length], records, 11);
+                call.want_refused(group, &bytes[..length], &[], 11);
+            }
+        }
+    });
     tally.group("books (three records, faults in any)", |group| {
         faults(group, random);
     });
@@ -138,7 +157,7 @@ pub fn run(tally: &mut Tally, random: &mut Random) {
             if i % 2 == 0 {
                 // The kinds at least are right, wherever a record may start.
                 for byte in bytes.iter_mut().step_by(3) {
-                    *byte = 1 + *byte % 4;
+                    *byte = 1 + *byte % 6;
                 }
             }
             for call in [&SEAL, &OPEN] {
@@ -194,8 +213,17 @@ fn lengths(group: &mut Group, random: &mut Random) {
 fn orders(group: &mut Group, random: &mut Random) {
     let mut book = Book::random(random, MOST + 1);
     let bytes = random.bytes::<{ 256 + RING }>();
-    let rings =
-        [0, 1, RING - 1, RING, RING + 1, 2 * RING, 256 + RING].map(|length| &bytes[..length]);
+    let lengths = [
+        0,
+        1,
+        SHORT_RING,
+        RING - 1,
+        RING,
+        RING + 1,
+        2 * RING,
+        256 + RING,
+    ];
+    let rings = lengths.map(|length| &bytes[..length]);
     for round in 0..2 {
         for ring in rings.into_iter().chain([null(), &book.ring]) {
             for (call, bytes) in book.forms() {
@@ -252,8 +280,9 @@ fn faults(group: &mut Group, random: &mut Random) {
     }
 }
 
-/// A right sealed record of each kind; the same with a wrong text, a wrong
-/// version and the next kind; wrong kinds with right and with wrong texts.
+/// A right sealed record of each kind; the same with a wrong text; some with a
+/// wrong version, with another kind and with the kind that has the same body; wrong
+/// kinds with right and with wrong texts.
 fn sealed_records(random: &mut Random, ring: &[u8; RING]) -> Vec<[u8; SEALED]> {
     let right = KINDS.map(|kind| {
         let sealed = sealed(ring, &random.record(kind));
@@ -263,8 +292,16 @@ fn sealed_records(random: &mut Random, ring: &[u8; RING]) -> Vec<[u8; SEALED]> {
     for record in right {
         records.push(flipped(record, 8 * SEALED - 1));
     }
-    for (at, byte) in [(5, 1), (0, 2), (0, 0), (0, 5)] {
-        let mut record = right[0];
+    for (kind, at, byte) in [
+        (1, 5, 1),
+        (5, 5, 1),
+        (1, 0, 2),
+        (2, 0, 5),
+        (6, 0, 3),
+        (1, 0, 0),
+        (1, 0, 7),
+    ] {
+        let mut record = right[kind - 1];
         record[at] = byte;
         records.push(record);
     }
@@ -278,7 +315,7 @@ fn long_faults(group: &mut Group, random: &mut Random) {
     let book = Book::random(random, MOST);
     let places = [0, 1, MOST / 2, MOST - 2, MOST - 1];
     for first in places {
-        for end in &ENDS[4..] {
+        for end in &ENDS[KINDS.len()..] {
             let mut bytes = book.plain.clone();
             bytes[PLAIN * first..][..PLAIN].copy_from_slice(&with_end(random, *end));
             // A second fault, of a lower number, here or elsewhere.
@@ -326,8 +363,8 @@ fn record_groups(tally: &mut Tally, random: &mut Random) {
         }
     });
     tally.group("books (every sealed number byte)", |group| {
-        for _ in 0..20 {
-            let (ring, record) = (random.bytes(), random.record(2));
+        for i in 0..20 {
+            let (ring, record) = (random.bytes(), random.record([2, 5][i % 2]));
             for byte in 0..=255 {
                 let (key, mut bytes) = expanded(&ring, &record);
                 bytes[14] ^= bytes[13] ^ byte; // its check byte stays right
@@ -336,6 +373,42 @@ fn record_groups(tally: &mut Tally, random: &mut Random) {
             }
         }
     });
+    tally.group("books (beside the single calls)", |group| {
+        for _ in 0..2_000 {
+            let ring = random.bytes();
+            for kind in KINDS {
+                let record = random.record(kind);
+                if group.turn() {
+                    let sealed = composed(&ring, &record);
+                    SEAL.want(group, &ring, &record, &sealed);
+                    OPEN.want(group, &ring, &sealed, &record);
+                }
+            }
+        }
+    });
+}
+
+/// The sealed record that the engine's single calls make of a well-formed one.
+fn composed(ring: &[u8; RING], record: &[u8; PLAIN]) -> [u8; SEALED] {
+    let (d, o, c, g) = (&ring[..10], &ring[10..26], &ring[26..36], &ring[36..]);
+    let (head, body) = record.split_at(6);
+    let two = |at: usize| u16::from_be_bytes([record[at], record[at + 1]]);
+    let (key, version, number) = (&body[..10], two(4).into(), two(16).into());
+    let text = match record[0] {
+        1 => engine::ta31(key, version, d),
+        2 => engine::ta51(key, version, o, number),
+        3 => engine::ta81(key, version, o, number),
+        4 => engine::ta91(body, version, o),
+        5 => engine::ta51(key, version, g, number),
+        _ => engine::ta81(key, version, g, number),
+    };
+    let identity = u32::from_be_bytes([0, head[1], head[2], head[3]]);
+    let identity = engine::ta61(c, identity.into()).identity.to_be_bytes();
+    from_fn(|i| match i {
+        1..=3 => identity[i],
+        0 | 4 | 5 => head[i],
+        _ => text.bytes[i - 6],
+    })
 }
 
 fn damage_groups(tally: &mut Tally, random: &mut Random) {
@@ -357,7 +430,7 @@ fn damage_groups(tally: &mut Tally, random: &mut Random) {
     tally.group("books (each bit of a sealed record flipped)", |group| {
         for _ in 0..20 {
             let ring = random.bytes();
-            for record in &sealed_records(random, &ring)[..4] {
+            for record in &sealed_records(random, &ring)[..KINDS.len()] {
                 for bit in 0..8 * SEALED {
                     OPEN.there_and_back(group, &ring, &flipped(*record, bit));
                 }
@@ -396,11 +469,12 @@ fn expanded(ring: &[u8; RING], record: &[u8; PLAIN]) -> ([u8; 16], [u8; 15]) {
     let version = u16::from_be_bytes([record[4], record[5]]);
     let body: [u8; 12] = from_fn(|i| record[6 + i]);
     let d = under_version(from_fn(|i| ring[i]), version);
-    let o = under_version(from_fn(|i| ring[10 + i]), version);
+    let at = if record[0] < 5 { 10 } else { 36 };
+    let long = under_version(from_fn(|i| ring[at + i]), version);
     match record[0] {
         1 => (exp4(&d), exp1(&from_fn(|i| body[i]))),
-        2 => (o, exp3(&from_fn(|i| body[if i < 10 { i } else { 11 }]))),
-        _ => (o, from_fn(|i| x16(&body)[i])),
+        2 | 5 => (long, exp3(&from_fn(|i| body[if i < 10 { i } else { 11 }]))),
+        _ => (long, from_fn(|i| x16(&body)[i])),
     }
 }
 

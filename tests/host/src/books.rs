@@ -1,4 +1,5 @@
-//! Books of sealed keys and their listing, from document 01.
+//! Books of sealed keys and their listing, from document 01 and, for the group key
+//! and its kinds, 02, 4.
 
 use crate::taa1::{self, RING};
 use std::fmt::Write;
@@ -22,11 +23,12 @@ pub struct BookAnswer {
 /// A refusal number and a record's index.
 pub(crate) type Refusal = (u32, usize);
 
-/// The three keys of a ring.
+/// The four keys of a ring.
 struct Ring<'a> {
     d: &'a [u8],
     o: &'a [u8],
     c: &'a [u8],
+    g: &'a [u8],
 }
 
 impl<'a> Ring<'a> {
@@ -35,8 +37,18 @@ impl<'a> Ring<'a> {
             return Err((11, 0));
         }
         let (d, rest) = ring.split_at(10);
-        let (o, c) = rest.split_at(16);
-        Ok(Ring { d, o, c })
+        let (o, rest) = rest.split_at(16);
+        let (c, g) = rest.split_at(10);
+        Ok(Ring { d, o, c, g })
+    }
+
+    /// The key that seals a kind.
+    fn sealing_key(&self, kind: u8) -> &'a [u8] {
+        match kind {
+            1 => self.d,
+            2..=4 => self.o,
+            _ => self.g,
+        }
     }
 }
 
@@ -80,20 +92,21 @@ impl Record {
         let [high, low] = self.number().to_be_bytes();
         match self.kind {
             1 if (high, low) != (0, 0) => Err(4),
-            2 if high != 0 => Err(4),
-            2 if low > 31 => Err(5),
-            1..=4 => Ok(()),
+            2 | 5 if high != 0 => Err(4),
+            2 | 5 if low > 31 => Err(5),
+            1..=6 => Ok(()),
             _ => Err(3),
         }
     }
 
     /// The sealed record of a record without fault.
     fn seal(&self, ring: &Ring) -> Vec<u8> {
+        let (key, sealing_key) = (self.key(), ring.sealing_key(self.kind));
         let text = match self.kind {
-            1 => taa1::ta31(self.key(), self.version, ring.d),
-            2 => taa1::ta51(self.key(), self.version, ring.o, self.number()),
-            3 => taa1::ta81(self.key(), self.version, ring.o, self.number()),
-            _ => taa1::ta91(self.key(), self.version, ring.o),
+            1 => taa1::ta31(key, self.version, sealing_key),
+            2 | 5 => taa1::ta51(key, self.version, sealing_key, self.number()),
+            3 | 6 => taa1::ta81(key, self.version, sealing_key, self.number()),
+            _ => taa1::ta91(key, self.version, sealing_key),
         };
         let identity = taa1::ta61(ring.c, self.identity).identity;
         joined(self.kind, identity.into(), self.version, &text.bytes)
@@ -103,19 +116,22 @@ impl Record {
     fn open(sealed: &[u8], ring: &Ring) -> Result<Record, u32> {
         let kind = sealed[0];
         let (hidden, version) = head(sealed);
-        let text = &sealed[6..];
+        let (text, sealing_key) = (&sealed[6..], ring.sealing_key(kind));
         let (key, number, flag) = match kind {
             1 => {
-                let opened = taa1::ta32(text, ring.d, version);
+                let opened = taa1::ta32(text, sealing_key, version);
                 (
                     opened.key.to_vec(),
                     0u16.to_be_bytes().to_vec(),
                     opened.flag,
                 )
             }
-            2 | 3 => {
-                let unseal = if kind == 2 { taa1::ta52 } else { taa1::ta82 };
-                let opened = unseal(text, ring.o, version);
+            2 | 3 | 5 | 6 => {
+                let unseal = match kind {
+                    2 | 5 => taa1::ta52,
+                    _ => taa1::ta82,
+                };
+                let opened = unseal(text, sealing_key, version);
                 (
                     opened.key.to_vec(),
                     opened.number.to_be_bytes().to_vec(),
@@ -123,7 +139,7 @@ impl Record {
                 )
             }
             4 => {
-                let opened = taa1::ta92(text, ring.o, version);
+                let opened = taa1::ta92(text, sealing_key, version);
                 (opened.key.to_vec(), Vec::new(), opened.flag)
             }
             _ => return Err(3),
@@ -267,7 +283,7 @@ pub fn listing(plain: &[u8]) -> Vec<u8> {
                 } = record;
                 let key: String = record.key().iter().map(|b| format!("{b:02x}")).collect();
                 let number = match kind {
-                    2 | 3 => record.number().to_string(),
+                    2 | 3 | 5 | 6 => record.number().to_string(),
                     _ => "-".to_string(),
                 };
                 writeln!(
@@ -334,19 +350,22 @@ mod tests {
 
     /// A sealed record holds the single calls' results.
     #[test]
-    fn record_by_hand() {
+    fn records_by_hand() {
         let ring: Vec<u8> = (0..RING as u8).collect();
-        let plain = [
-            3, 0x12, 0x34, 0x56, 1, 2, 9, 8, 7, 6, 5, 4, 3, 2, 1, 0, 0xab, 0xcd,
-        ];
-        let mut sealed = [0; SEALED];
-        assert_eq!(seal_book(&ring, &plain, &mut sealed).refusal, 0);
-        let identity = taa1::ta61(&ring[26..], 0x123456).identity.to_be_bytes();
-        let text = taa1::ta81(&plain[6..16], 0x0102, &ring[10..26], 0xabcd).bytes;
-        assert_eq!(sealed[0], 3);
-        assert_eq!(sealed[1..4], identity[1..]);
-        assert_eq!(sealed[4..6], [1, 2]);
-        assert_eq!(sealed[6..], text);
+        let identity = taa1::ta61(&ring[26..36], 0x123456).identity.to_be_bytes();
+        for kind in [2, 3, 5, 6] {
+            let plain = [
+                kind, 0x12, 0x34, 0x56, 1, 2, 9, 8, 7, 6, 5, 4, 3, 2, 1, 0, 0, 0x1d,
+            ];
+            let mut sealed = [0; SEALED];
+            assert_eq!(seal_book(&ring, &plain, &mut sealed).refusal, 0);
+            let seal = [taa1::ta81, taa1::ta51][usize::from(kind % 3 == 2)];
+            let key = [&ring[10..26], &ring[36..]][usize::from(kind > 4)];
+            assert_eq!(sealed[0], kind);
+            assert_eq!(sealed[1..4], identity[1..]);
+            assert_eq!(sealed[4..6], [1, 2]);
+            assert_eq!(sealed[6..], seal(&plain[6..16], 0x0102, key, 0x1d).bytes);
+        }
     }
 
     #[test]
@@ -368,9 +387,9 @@ mod tests {
         assert_eq!(seal(&ring, &[9; 17], 0), refused(2, 0));
         assert_eq!(seal(&ring, &[9; 2 * PLAIN], 2 * SEALED - 1), refused(12, 0));
         let mut faulty = plain.clone();
-        faulty[5 * PLAIN] = 5;
+        faulty[5 * PLAIN] = 7;
         assert_eq!(seal(&ring, &faulty, 126), refused(3, 5));
-        faulty[4 * PLAIN] = 2;
+        faulty[4 * PLAIN] = 5;
         faulty[4 * PLAIN + 16] = 0;
         faulty[4 * PLAIN + 17] = 32;
         assert_eq!(seal(&ring, &faulty, 126), refused(5, 4));
@@ -392,7 +411,7 @@ mod tests {
             answer
         };
         let long = vec![9; SEALED * MOST + 1];
-        assert_eq!(open(&[0; 37], &long, 0), refused(11, 0));
+        assert_eq!(open(&[0; 36], &long, 0), refused(11, 0));
         assert_eq!(open(&ring, &long, 0), refused(1, 0));
         assert_eq!(open(&ring, &good[1..], 0), refused(2, 0));
         assert_eq!(open(&ring, &good, 107), refused(12, 0));
@@ -445,10 +464,15 @@ mod tests {
         let one = [1, 0, 0, 1, 0xff, 0xff, 1, 2, 3, 4, 5, 6, 7, 8, 9, 10, 0, 0];
         let four = [4, 0xab, 0, 0, 1, 0, 1, 2, 3, 4, 5, 6, 7, 8, 9, 10, 11, 0xff];
         let three = [3, 0, 0, 0, 0, 0, 0, 0, 0, 0, 0, 0, 0, 0, 0, 0, 0x12, 0x34];
+        let five = [5, 0, 0, 0, 0, 0, 0, 0, 0, 0, 0, 0, 0, 0, 0, 0, 0, 31];
+        let six = [6, 0, 0, 0, 0, 0, 0, 0, 0, 0, 0, 0, 0, 0, 0, 0, 0xff, 0xff];
         let text = "entry 0 kind 1 identity 000001 version 65535 key 0102030405060708090a number -\n\
                     entry 1 kind 4 identity ab0000 version 256 key 0102030405060708090a0bff number -\n\
                     entry 2 kind 3 identity 000000 version 0 key 00000000000000000000 number 4660\n\
-                    entries 3\n";
-        assert_eq!(listing(&[one, four, three].concat()), text.as_bytes());
+                    entry 3 kind 5 identity 000000 version 0 key 00000000000000000000 number 31\n\
+                    entry 4 kind 6 identity 000000 version 0 key 00000000000000000000 number 65535\n\
+                    entries 5\n";
+        let book = [one, four, three, five, six].concat();
+        assert_eq!(listing(&book), text.as_bytes());
     }
 }

@@ -74,6 +74,19 @@ impl Call {
         });
     }
 
+    /// Wants the book refused whatever the output, the index 0 and the output as it was.
+    pub fn want_refused(&self, group: &mut Group, ring: &[u8], book: &[u8], refusal: u32) {
+        for room in [0, self.room(book)] {
+            if group.turn() {
+                self.same(group, ring, book, room, |_| BookAnswer {
+                    refusal,
+                    index: 0,
+                    written: 0,
+                });
+            }
+        }
+    }
+
     /// Compares, and wants what is accepted to come back by the other call.
     pub fn there_and_back(&self, group: &mut Group, ring: &[u8], book: &[u8]) {
         if group.turn() {

@@ -56,7 +56,7 @@ impl Random {
         record[0] = kind;
         match kind {
             1 => record[16..].fill(0),
-            2 => (record[16], record[17]) = (0, record[17] % 32),
+            2 | 5 => (record[16], record[17]) = (0, record[17] % 32),
             _ => {}
         }
         record
@@ -65,7 +65,7 @@ impl Random {
     /// A well-formed plain book of random kinds.
     pub fn plain_book(&mut self, records: usize) -> Vec<u8> {
         let record = |_| {
-            let kind = 1 + self.below(4) as u8;
+            let kind = 1 + self.below(6) as u8;
             self.record(kind)
         };
         (0..records).flat_map(record).collect()

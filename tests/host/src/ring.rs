@@ -9,7 +9,9 @@ use host::tally::{Group, Tally};
 use std::array::from_fn;
 
 const TIMES: usize = 50_000;
-const LENGTHS: [usize; 6] = [16, 10, 10, 10, 10, 10];
+const LENGTHS: [usize; 7] = [16, 10, 10, 10, 10, 10, 12];
+/// Root, RS, RSO, RAND1, RAND2, C and the group key.
+type Strings<'a> = [&'a [u8]; 7];
 /// TA12 alone, TA22 alone, both.
 const SIDES: [u64; 3] = [1, 2, 3];
 /// Also such as have right numbers in their low bits.
@@ -92,32 +94,32 @@ fn mask_groups(tally: &mut Tally, random: &mut Random) {
 }
 
 /// The strings of a ring, one after the other.
-fn parts(bytes: &[u8; 66]) -> [&[u8]; 6] {
+fn parts(bytes: &[u8; 78]) -> Strings<'_> {
     let start = |i| LENGTHS[..i].iter().sum::<usize>();
     from_fn(|i| &bytes[start(i)..start(i + 1)])
 }
 
 /// Compares with the independent implementation, on each side and both.
-fn ring_each(group: &mut Group, strings: [&[u8]; 6], pair: (u16, u16)) {
+fn ring_each(group: &mut Group, strings: Strings, pair: (u16, u16)) {
     for sides in SIDES {
         ring(group, strings, sides, pair);
     }
 }
 
 /// Compares with the independent implementation.
-fn ring(group: &mut Group, strings: [&[u8]; 6], sides: u64, pair: (u16, u16)) {
+fn ring(group: &mut Group, strings: Strings, sides: u64, pair: (u16, u16)) {
     let wanted = || other(strings, sides, pair);
     want(group, strings, sides, pair, wanted);
 }
 
 fn want(
     group: &mut Group,
-    strings: [&[u8]; 6],
+    strings: Strings,
     sides: u64,
     pair: (u16, u16),
     wanted: impl FnOnce() -> RingMade,
 ) {
-    let [root, rs, rso, rand1, rand2, c] = strings;
+    let [root, rs, rso, rand1, rand2, c, group_key] = strings;
     let (response_mask, key_mask) = pair;
     compare!(
         group,
@@ -128,6 +130,7 @@ fn want(
             [rand1],
             [rand2],
             [c],
+            [group_key],
             sides,
             response_mask,
             key_mask
@@ -137,14 +140,17 @@ fn want(
 }
 
 /// What the independent implementation answers.
-fn other(strings: [&[u8]; 6], sides: u64, pair: (u16, u16)) -> RingMade {
-    let [root, rs, rso, rand1, rand2, c] = strings;
-    taa1::ring(root, rs, rso, rand1, rand2, c, sides, pair.0, pair.1).into()
+fn other(strings: Strings, sides: u64, pair: (u16, u16)) -> RingMade {
+    let [root, rs, rso, rand1, rand2, c, group_key] = strings;
+    taa1::ring(
+        root, rs, rso, rand1, rand2, c, group_key, sides, pair.0, pair.1,
+    )
+    .into()
 }
 
 /// What the recipe makes of the engine's single calls.
-fn composed(strings: [&[u8]; 6], sides: u64, pair: (u16, u16)) -> RingMade {
-    let [root, rs, rso, rand1, rand2, c] = strings;
+fn composed(strings: Strings, sides: u64, pair: (u16, u16)) -> RingMade {
+    let [root, rs, rso, rand1, rand2, c, group_key] = strings;
     let idle = Authentication {
         refusal: 0,
         response: [0; 4],
@@ -159,22 +165,25 @@ fn composed(strings: [&[u8]; 6], sides: u64, pair: (u16, u16)) -> RingMade {
     }
     let d = engine::tb4(&first.key, &second.key).bytes;
     let o = engine::ta41(root, rso).bytes;
+    let g = engine::tb7(group_key).bytes;
     RingMade {
         refusal: 0,
-        ring: [&d[..], &o, c].concat().try_into().unwrap(),
+        ring: [&d[..], &o, c, &g].concat().try_into().unwrap(),
         response1: first.response,
         response2: second.response,
     }
 }
 
 /// Another challenge of the side that does not run leaves the engine's answer as it is.
-fn idle(group: &mut Group, strings: [&[u8]; 6], challenge: &[u8; 10], pair: (u16, u16)) {
+fn idle(group: &mut Group, strings: Strings, challenge: &[u8; 10], pair: (u16, u16)) {
     for (sides, at) in IDLE {
         let mut others = strings;
         others[at] = challenge;
         want(group, others, sides, pair, || {
-            let [root, rs, rso, rand1, rand2, c] = strings;
-            engine::ring(root, rs, rso, rand1, rand2, c, sides, pair.0, pair.1)
+            let [root, rs, rso, rand1, rand2, c, group_key] = strings;
+            engine::ring(
+                root, rs, rso, rand1, rand2, c, group_key, sides, pair.0, pair.1,
+            )
         });
     }
 }

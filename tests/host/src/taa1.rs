@@ -8,7 +8,7 @@ use crate::hurdle;
 use std::array::from_fn;
 
 /// Bytes of a ring.
-pub const RING: usize = 36;
+pub const RING: usize = 52;
 
 /// Answer of one byte string.
 #[derive(Debug, Clone, Copy, PartialEq, Eq)]
@@ -706,8 +706,8 @@ const IDLE: Authentication = Authentication {
     key: [0; 10],
 };
 
-/// The ring recipe of documents 01 and 02, 1: D, O and C in a row. TA12 runs
-/// unless `sides` is 2, and TA22 unless it is 1.
+/// The ring recipe of documents 01 and 02, 1 and 4: D, O, C and G in a row. TA12
+/// runs unless `sides` is 2, and TA22 unless it is 1.
 #[allow(clippy::too_many_arguments)]
 pub fn ring(
     root: &[u8],
@@ -716,6 +716,7 @@ pub fn ring(
     rand1: &[u8],
     rand2: &[u8],
     c: &[u8],
+    group_key: &[u8],
     sides: u64,
     response_mask: u16,
     key_mask: u16,
@@ -725,6 +726,7 @@ pub fn ring(
         for input in [rs, rso, rand1, rand2, c] {
             exact::<10>(input)?;
         }
+        exact::<12>(group_key)?;
         check_sides(sides)?;
         check_masks(response_mask, key_mask)?;
         let first = match sides {
@@ -737,9 +739,10 @@ pub fn ring(
         };
         let d = tb4(&first.key, &second.key).bytes;
         let o = ta41(root, rso).bytes;
+        let g = tb7(group_key).bytes;
         Ok(RingMade {
             refusal: 0,
-            ring: exact(&[&d[..], &o[..], c].concat())?,
+            ring: exact(&[&d[..], &o, c, &g].concat())?,
             response1: first.response,
             response2: second.response,
         })
@@ -1032,36 +1035,42 @@ mod tests {
         let mut random = Random::new(6);
         let root = random.bytes::<16>();
         let [rs, rso, rand1, rand2, c]: [[u8; 10]; 5] = from_fn(|_| random.bytes());
-        let made = ring(&root, &rs, &rso, &rand1, &rand2, &c, 3, 0x000f, 0xffc0);
-        assert_eq!(made.refusal, 0);
+        let group_key = upward::<12>();
+        let made = |rand1, rand2, sides| {
+            ring(
+                &root, &rs, &rso, rand1, rand2, &c, &group_key, sides, 0x000f, 0xffc0,
+            )
+        };
+        let both = made(&rand1, &rand2, 3);
+        assert_eq!(both.refusal, 0);
         let mut reversed = rs;
         reversed.reverse();
         let one = ta11(&ta11(&root, &rs).bytes, &rand1).bytes;
         let two = ta11(&ta11(&root, &reversed).bytes, &rand2).bytes;
         let d: [u8; 10] = from_fn(|i| one[i] ^ two[i]);
-        assert_eq!(made.ring[..10], d);
-        assert_eq!(made.ring[10..26], ta41(&root, &rso).bytes);
-        assert_eq!(made.ring[26..], c);
-        assert_eq!(made.response1, one[12..]);
-        assert_eq!(made.response2, two[12..]);
+        assert_eq!(both.ring[..10], d);
+        assert_eq!(both.ring[10..26], ta41(&root, &rso).bytes);
+        assert_eq!(both.ring[26..36], c);
+        let g = hex("01 02 03 00 04 05 06 07 07 08 09 06 0a 0b 0c 0d");
+        assert_eq!(both.ring[36..], g);
+        assert_eq!(both.response1, one[12..]);
+        assert_eq!(both.response2, two[12..]);
 
-        let mut wanted = made;
+        let mut wanted = both;
         wanted.ring[..10].copy_from_slice(&one[..10]);
         wanted.response2 = [0; 4];
-        let made = ring(&root, &rs, &rso, &rand1, &[0; 10], &c, 1, 0x000f, 0xffc0);
-        assert_eq!(made, wanted);
+        assert_eq!(made(&rand1, &[0; 10], 1), wanted);
         wanted.ring[..10].copy_from_slice(&two[..10]);
         wanted.response1 = [0; 4];
         wanted.response2.copy_from_slice(&two[12..]);
-        let made = ring(&root, &rs, &rso, &[0; 10], &rand2, &c, 2, 0x000f, 0xffc0);
-        assert_eq!(made, wanted);
+        assert_eq!(made(&[0; 10], &rand2, 2), wanted);
     }
 
     #[test]
     fn ring_is_refused() {
-        let (root, a) = ([1; 16], [2; 10]);
+        let (root, a, group_key) = ([1; 16], [2; 10], [3; 13]);
         let (right, short) = (&a[..], &a[..9]);
-        let refusal = |rand1: &[u8], rand2: &[u8], sides, response_mask, key_mask| {
+        let made = |rand1, rand2, group_key, sides, response_mask, key_mask| {
             let made = ring(
                 &root,
                 &a,
@@ -1069,12 +1078,17 @@ mod tests {
                 rand1,
                 rand2,
                 &a,
+                group_key,
                 sides,
                 response_mask,
                 key_mask,
             );
             assert_eq!(made, RingMade::refused(made.refusal));
             made.refusal
+        };
+        let refusal = |rand1, rand2, sides, response_mask, key_mask| {
+            let group_key = &group_key[..12];
+            made(rand1, rand2, group_key, sides, response_mask, key_mask)
         };
         for sides in 1..=3 {
             assert_eq!(refusal(right, right, sides, 0x000f, 0xff80), 7);
@@ -1086,6 +1100,11 @@ mod tests {
             assert_eq!(refusal(right, right, sides, 0x000f, 0xffc0), 13);
             assert_eq!(refusal(right, right, sides, 0, 0), 13);
             assert_eq!(refusal(right, short, sides, 0, 0), 11);
+        }
+        for length in [0, 10, 11, 13] {
+            let group_key = &group_key[..length];
+            assert_eq!(made(right, right, group_key, 3, 0x000f, 0xffc0), 11);
+            assert_eq!(made(right, right, group_key, 0, 0, 0), 11);
         }
     }
 

@@ -11,6 +11,8 @@ macro_rules! compare_three {
 }
 
 #[cfg(peer)]
+mod books;
+#[cfg(peer)]
 mod cipher;
 #[cfg(peer)]
 mod derivation;
@@ -29,6 +31,7 @@ fn run(tally: &mut Tally) {
     derivation::run(tally, &mut random);
     seals::run(tally, &mut random);
     mixing::run(tally, &mut random);
+    books::run(tally, &mut random);
 }
 
 #[cfg(not(peer))]

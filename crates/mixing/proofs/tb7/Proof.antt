@@ -16,13 +16,13 @@ returns c = rw (c .refused16 .ensures, ne-eqb _ _ (c .before .if1 .taken))
 array12-requires : tie.Need-array12-requires
 array12-requires c κs = search needs
 
-grouped-requires : tie.Need-grouped-requires
-grouped-requires c κs = search needs
+mix7-requires : tie.Need-mix7-requires
+mix7-requires c κs = search needs
 
 returns-2 : tie.Need-returns-2
 unfolding tb7Call
-returns-2 c = rw (c .grouped .ensures, c .before .array12 .ensures, eq-eqb _ _ (c .before .before .if1 .left))
+returns-2 c = rw (c .mix7 .ensures, c .before .array12 .ensures, eq-eqb _ _ (c .before .before .if1 .left))
 
 pub tb7-spec : {M : Type 1} → statement M
 tb7-spec =
-    tie.close (tie.spec refused16-requires returns array12-requires grouped-requires returns-2)
+    tie.close (tie.spec refused16-requires returns array12-requires mix7-requires returns-2)

@@ -1,9 +1,15 @@
 -- `sitting::sitting_ring` meets its contract.
 -- Assumes nothing.
+use mathlib.Core.Path.{_≡_, ap, _∙_}
+use native.Mathlib.Omega.{arith}
+use lib.ListN.{length}
 use borrow.Author.Needs.{needs}
 use denote.Ref.{now}
 use borrow.Author.Tests.{ne-eqb}
+use Rattle.standard.proofs.BytesLaws.{lent-part}
+use Rattle.standard.specs.Bytes.{part}
 use Rattle.standard.specs.Programs.{sittingRing}
+use Rattle.standard.specs.Sizes.{sittingSize}
 use Rattle.sitting.proofs.SittingLaws.{sitting-recipe}
 use Rattle.sitting.proofs.sitting_ring.Statement.{statement}
 use Rattle.sitting.proofs.sitting_ring.Tie as tie
@@ -39,6 +45,18 @@ ten-requires-4 c κs = search needs
 ten-requires-5 : tie.Need-ten-requires-5
 ten-requires-5 c κs = search needs
 
+sub-array12 : tie.Need-sub-array12
+sub-array12 c = search needs
+
+part-array12-start : tie.Need-part-array12-start
+part-array12-start c = search needs
+
+part-array12-end : tie.Need-part-array12-end
+part-array12-end c = search needs
+
+array12-requires : tie.Need-array12-requires
+array12-requires c κs = search needs
+
 shared-slice-read-pair : tie.Need-shared-slice-read-pair
 shared-slice-read-pair c = search needs
 
@@ -63,11 +81,15 @@ ring-of-requires c κs = search needs
 returns-2 : tie.Need-returns-2
 returns-2 c =
     let mask = c .before .before .before .before in
-    let c5 = mask .before .before .before in
+    let group = mask .before .before .before in
+    let c5 = group .before .before in
     let c2 = c5 .before .before .before in
     let root = c2 .before .before in
-    rw (c .ring-of .ensures, c .before .pair2 .ensures .0, mask .pair .ensures .0, c5 .ten5 .ensures, c5 .before .ten4 .ensures, c5 .before .before .ten3 .ensures, c2 .ten2 .ensures, c2 .before .ten .ensures, root .array16 .ensures, root .before .wide .ensures)
-    (sitting-recipe (now (root .before .before .before .before .before .args .s)) (root .before .before .before .if1 .left))
+    let s = now (root .before .before .before .before .before .args .s) in
+    let h : length s ≡ sittingSize = root .before .before .before .if1 .left in
+    let g : group .array12 .result ≡ part 66 12 s = group .array12 .ensures ∙ ap (part 0 12) (lent-part 66 12 s (omega (arith, h))) in
+    rw (c .ring-of .ensures, c .before .pair2 .ensures .0, mask .pair .ensures .0, g, c5 .ten5 .ensures, c5 .before .ten4 .ensures, c5 .before .before .ten3 .ensures, c2 .ten2 .ensures, c2 .before .ten .ensures, root .array16 .ensures, root .before .wide .ensures)
+    (sitting-recipe s h)
 
 pub sitting-ring-spec : {M : Type 1} → statement M
 sitting-ring-spec =
@@ -83,6 +105,10 @@ sitting-ring-spec =
     ten-requires-3
     ten-requires-4
     ten-requires-5
+    sub-array12
+    part-array12-start
+    part-array12-end
+    array12-requires
     shared-slice-read-pair
     shared-slice-read-pair-2
     pair-requires

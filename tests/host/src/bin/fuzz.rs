@@ -9,7 +9,7 @@ use std::process::ExitCode;
 use std::time::{Duration, Instant};
 
 /// Kinds and numbers at their edges.
-const EDGES: [u8; 9] = [0, 1, 2, 3, 4, 5, 31, 32, 255];
+const EDGES: [u8; 11] = [0, 1, 2, 3, 4, 5, 6, 7, 31, 32, 255];
 
 fn main() -> ExitCode {
     let limit = Duration::from_secs(settings::argument("usage: fuzz [SECONDS]", 60));
@@ -78,8 +78,8 @@ impl Case {
             5 => book[..start + size].rotate_right(size),
             6 => drop(book.drain(start..start + size)),
             7 => book.extend_from_within(start..start + size),
-            8 => book[start] = EDGES[random.below(9)],
-            _ => book[start + size - 1 - random.below(2)] = EDGES[random.below(9)],
+            8 => book[start] = edge(random),
+            _ => book[start + size - 1 - random.below(2)] = edge(random),
         }
     }
 
@@ -97,6 +97,10 @@ impl Case {
     fn refusal(&self) -> u32 {
         self.call.refusal(&self.ring, &self.book, self.room)
     }
+}
+
+fn edge(random: &mut Random) -> u8 {
+    EDGES[random.below(EDGES.len())]
 }
 
 fn change_byte(bytes: &mut [u8], random: &mut Random) {

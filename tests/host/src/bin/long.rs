@@ -69,9 +69,22 @@ fn cipher(group: &mut Group, random: &mut Random) {
     compare!(group, ta12([key], [seed], response_mask, key_mask));
     compare!(group, ta22([key], [seed], response_mask, key_mask));
     let [rs, rso, rand1, rand2, c] = [(); 5].map(|_| string(random, 10));
-    let sides = sides(random);
-    #[rustfmt::skip]
-    compare!(group, ring([key], [rs], [rso], [rand1], [rand2], [c], sides, response_mask, key_mask));
+    let (group_key, sides) = (string(random, 12), sides(random));
+    compare!(
+        group,
+        ring(
+            [key],
+            [rs],
+            [rso],
+            [rand1],
+            [rand2],
+            [c],
+            [group_key],
+            sides,
+            response_mask,
+            key_mask
+        )
+    );
 }
 
 /// Unseals of right texts, and of texts with a bit flipped.

@@ -2,7 +2,9 @@
 -- Assumes nothing.
 use mathlib.Core.Path.{_≡_}
 use borrow.Author.Needs.{needs}
-use Rattle.standard.specs.Derivation.{half1, half2, ring}
+use Rattle.standard.specs.Derivation.{half1, half2}
+use Rattle.standard.specs.Mixing.{tb4}
+use Rattle.keys.proofs.RecipeLaws.{ring-made}
 use Rattle.keys.proofs.recipe.make.Statement.{statement}
 use Rattle.keys.proofs.recipe.make.Tie as tie
 
@@ -24,15 +26,28 @@ core-requires c κs = search needs
 joined-requires : tie.Need-joined-requires
 joined-requires c κs = search needs
 
+mix7-requires : tie.Need-mix7-requires
+mix7-requires c κs = search needs
+
+joined-requires-2 : tie.Need-joined-requires-2
+joined-requires-2 c κs = search needs
+
+halves-requires : tie.Need-halves-requires
+halves-requires c κs = search needs
+
 returns : tie.Need-returns
-unfolding ring
 returns c =
-    let mixed = c .before .before .before .before in
+    let front = c .before .before .before in
+    let mixed = front .before .before .before .before in
     let second = mixed .before .before .before in
-    let x = second .before .before .before .before .before .before .before .before .before .before .before .args .x in
+    let x = second .before .before .before .before .before .before .before .before .before .before .before .before .args .x in
     let o₁ : second .before .before .before .half .result ≡ half1 x = second .before .before .before .half .ensures in
     let o₂ : second .half2 .result ≡ half2 x = rw (second .half2 .ensures, second .before .before .reversed .ensures) in
-    rw (c .joined .ensures, c .before .core .ensures, mixed .mix4 .ensures, o₂, o₁)
+    let d : mixed .mix4 .result ≡ tb4 (half1 x .key) (half2 x .key) = rw (o₁, o₂) at (mixed .mix4 .ensures) in
+    let made =
+    ring-made x (mixed .mix4 .result) (front .before .core .result) (c .before .before .mix7 .result) d (front .before .core .ensures) (c .before .before .mix7 .ensures)
+    _ _ _ (front .joined .ensures) (c .before .joined2 .ensures) (c .halves .ensures) in
+    rw (made, o₁, o₂)
 
 pub make-spec : {M : Type 1} → statement M
 make-spec =
@@ -44,4 +59,7 @@ make-spec =
     mix4-requires
     core-requires
     joined-requires
+    mix7-requires
+    joined-requires-2
+    halves-requires
     returns)

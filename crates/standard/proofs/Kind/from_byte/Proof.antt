@@ -34,11 +34,25 @@ returns-4 : tie.Need-returns-4
 unfolding kindOf
 returns-4 c = rw (c .before .match .keys4, c .known4 .ensures)
 
+known-requires-5 : tie.Need-known-requires-5
+known-requires-5 c κs = search needs
+
 returns-5 : tie.Need-returns-5
 unfolding kindOf
-returns-5 c =
+returns-5 c = rw (c .before .match .keys5, c .known5 .ensures)
+
+known-requires-6 : tie.Need-known-requires-6
+known-requires-6 c κs = search needs
+
+returns-6 : tie.Need-returns-6
+unfolding kindOf
+returns-6 c = rw (c .before .match .keys6, c .known6 .ensures)
+
+returns-7 : tie.Need-returns-7
+unfolding kindOf
+returns-7 c =
     let r = c .match .rest in
-    rw (ne-eqb _ _ (r .0 .0 .0 .1), ne-eqb _ _ (r .0 .0 .1), ne-eqb _ _ (r .0 .1), ne-eqb _ _ (r .1))
+    rw (ne-eqb _ _ (r .0 .0 .0 .0 .0 .1), ne-eqb _ _ (r .0 .0 .0 .0 .1), ne-eqb _ _ (r .0 .0 .0 .1), ne-eqb _ _ (r .0 .0 .1), ne-eqb _ _ (r .0 .1), ne-eqb _ _ (r .1))
 
 pub from-byte-spec : {M : Type 1} → statement M
-from-byte-spec = tie.close (tie.spec known-requires known-requires-2 known-requires-3 known-requires-4 returns returns-2 returns-3 returns-4 returns-5)
+from-byte-spec = tie.close (tie.spec known-requires known-requires-2 known-requires-3 known-requires-4 known-requires-5 known-requires-6 returns returns-2 returns-3 returns-4 returns-5 returns-6 returns-7)

@@ -1,0 +1,35 @@
+-- `keys::recipe::halves` meets its contract.
+-- Assumes nothing.
+use mathlib.Core.List.{List, _++_}
+use mathlib.Core.Path.{_≡_, refl, sym, ap₂, _∙_}
+use lib.ListN.{length}
+use borrow.Author.Needs.{needs}
+use Rattle.standard.proofs.BytesLaws.{spelled}
+use Rattle.standard.specs.Bytes.{zeros}
+use Rattle.keys.proofs.RecipeLaws.{two-copied}
+use Rattle.keys.proofs.recipe.halves.Statement.{statement}
+use Rattle.keys.proofs.recipe.halves.Tie as tie
+
+returns : tie.Need-returns
+returns c =
+    let second = c .before in
+    let first = second .before .before .before .before in
+    let x = first .before .before .before .args in
+    let a : length (x .t1) ≡ 26 = search needs in
+    let b : length (x .t2) ≡ 26 = search needs in
+    two-copied 26 26 (x .t1) (x .t2) (zeros 52) a b refl _ _ (first .copy .ensures) (second .copy2 .ensures)
+    ∙ ap₂ _++_ (sym (spelled 26 (x .t1) a)) (sym (spelled 26 (x .t2) b))
+
+pub halves-spec : {M : Type 1} → statement M
+halves-spec =
+    tie.close
+    (tie.spec
+    (λ c. search needs)
+    (λ c. search needs)
+    (λ c κs. search needs)
+    (λ c. search needs)
+    (λ c. search needs)
+    (λ c. search needs)
+    (λ c. search needs)
+    (λ c κs. search needs)
+    returns)
