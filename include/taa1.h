@@ -35,21 +35,23 @@ extern "C" {
 /* ---- Constants ---- */
 
 enum {
-    TAA1_RING_BYTES = 36,
+    TAA1_RING_BYTES = 52,
     TAA1_PLAIN_RECORD_BYTES = 18,
     TAA1_SEALED_RECORD_BYTES = 21,
     TAA1_CHALLENGE_BYTES = 10,
     TAA1_AUTHENTICATION_BYTES = 14, /* a response, then a key */
     TAA1_MOST_RECORDS = 1024,       /* of a book; of challenges in a class */
-    TAA1_SITTING_BYTES = 71         /* of a file with what taa1_ring takes */
+    TAA1_SITTING_BYTES = 83         /* of a file with what taa1_ring takes */
 };
 
-/* The kinds of a record, by the call that seals the key. */
+/* The kinds of a record, by the call that seals the key; the last two seal it under G. */
 enum taa1_kind {
     TAA1_KIND_TA31 = 1,
     TAA1_KIND_TA51 = 2,
     TAA1_KIND_TA81 = 3,
-    TAA1_KIND_TA91 = 4
+    TAA1_KIND_TA91 = 4,
+    TAA1_KIND_TA51_G = 5,
+    TAA1_KIND_TA81_G = 6
 };
 
 /* The values of `refusal`. */
@@ -59,9 +61,9 @@ enum taa1_refusal {
     /* caused by the candidate */
     TAA1_BOOK_TOO_LONG = 1,  /* a book or class is longer than TAA1_MOST_RECORDS records */
     TAA1_BOOK_NOT_WHOLE = 2, /* its length is not a whole number of records */
-    TAA1_WRONG_KIND = 3,     /* a kind is not 1 to 4 */
+    TAA1_WRONG_KIND = 3,     /* a kind is not 1 to 6 */
     TAA1_NOT_ZERO = 4,       /* a byte that fills up a body is not zero */
-    TAA1_WRONG_NUMBER = 5,   /* a kind 2 number is above 31 */
+    TAA1_WRONG_NUMBER = 5,   /* a kind 2 or 5 number is above 31 */
     TAA1_FLAG_SET = 6,       /* the flag is set while a book is opened */
 
     /* caused by the setter */
@@ -82,9 +84,9 @@ static inline const char *taa1_refusal_text(uint32_t refusal)
     switch (refusal) {
     case TAA1_BOOK_TOO_LONG: return "book longer than 1,024 records";
     case TAA1_BOOK_NOT_WHOLE: return "book not a whole number of records";
-    case TAA1_WRONG_KIND: return "kind not 1 to 4";
+    case TAA1_WRONG_KIND: return "kind not 1 to 6";
     case TAA1_NOT_ZERO: return "body byte not zero";
-    case TAA1_WRONG_NUMBER: return "kind 2 number above 31";
+    case TAA1_WRONG_NUMBER: return "kind 2 or 5 number above 31";
     case TAA1_FLAG_SET: return "flag set while opening a book";
     case TAA1_WRONG_MASK: return "mask with a wrong number of ones";
     case TAA1_SHARED_BIT: return "masks that share a bit";
@@ -241,7 +243,7 @@ taa1_unsealed taa1_ta32(const uint8_t *text, size_t text_length,
                         const uint8_t *sealing_key, size_t sealing_key_length,
                         taa1_version version);
 
-/* ---- TA51, TA52: a cipher key [10] and a number under a sealing key [16], kind 2 ---- */
+/* ---- TA51, TA52: a cipher key [10] and a number under a sealing key [16], kinds 2 and 5 ---- */
 
 /* The sealed text. The number is 0 to 31. */
 taa1_bytes15 taa1_ta51(const uint8_t *cipher_key, size_t cipher_key_length,
@@ -269,7 +271,7 @@ taa1_identity taa1_ta61_inverse(const uint8_t *common_key, size_t common_key_len
 taa1_bytes10 taa1_ta71(const uint8_t *key1, size_t key1_length,
                        const uint8_t *key2, size_t key2_length);
 
-/* ---- TA81, TA82: a cipher key [10] and a number under a sealing key [16], kind 3 ---- */
+/* ---- TA81, TA82: a cipher key [10] and a number under a sealing key [16], kinds 3 and 6 ---- */
 
 /* The sealed text. The number may be any of sixteen bits. */
 taa1_bytes15 taa1_ta81(const uint8_t *cipher_key, size_t cipher_key_length,
@@ -331,12 +333,12 @@ taa1_bytes10 taa1_tb6(const uint8_t *cipher_key, size_t cipher_key_length,
 taa1_bytes16 taa1_tb7(const uint8_t *group_key, size_t group_key_length);
 
 /*
- * ---- A ring from a root [16], two seeds, two challenges and c [10 each] ----
+ * ---- A ring from a root [16], two seeds, two challenges, c [10 each] and a group key [12] ----
  *
- * The ring is D [10], which seals kind 1, O [16], which seals kinds 2 to 4, and
- * c, for identities. D is TB4 of the keys from TA12 (rs, rand1) and TA22 (rs,
- * rand2), and O is TA41 (rso). The masks are those of TA12 and TA22, whose
- * responses come along.
+ * The ring is D [10], which seals kind 1, O [16], which seals kinds 2 to 4, c, for
+ * identities, and G [16], which seals kinds 5 and 6. D is TB4 of the keys from TA12
+ * (rs, rand1) and TA22 (rs, rand2), O is TA41 (rso), and G is TB7 of the group key.
+ * The masks are those of TA12 and TA22, whose responses come along.
  *
  * The number of sides says which of the two run: 1 TA12 alone, 2 TA22 alone, 3
  * both. One that does not run gives zeros to TB4 and as its response; of its
@@ -348,15 +350,17 @@ taa1_ring_made taa1_ring(const uint8_t *root, size_t root_length,
                          const uint8_t *rand1, size_t rand1_length,
                          const uint8_t *rand2, size_t rand2_length,
                          const uint8_t *c, size_t c_length,
+                         const uint8_t *group_key, size_t group_key_length,
                          uint64_t sides, uint16_t response_mask, uint16_t key_mask);
 
 /*
  * ---- Books: up to TAA1_MOST_RECORDS under a ring [TAA1_RING_BYTES] of taa1_ring ----
  *
- * A plain record has 18 bytes: kind (1 to 4), identity (3), version (2), body
+ * A plain record has 18 bytes: kind (1 to 6), identity (3), version (2), body
  * (12). The body is a key [10] and two zero bytes (kind 1), a key [10], a zero
- * byte and a number of 0 to 31 (kind 2), a key [10] and a number of two bytes
- * (kind 3), or a group key [12] (kind 4). Numbers have the high byte first.
+ * byte and a number of 0 to 31 (kinds 2 and 5), a key [10] and a number of two
+ * bytes (kinds 3 and 6), or a group key [12] (kind 4). Numbers have the high byte
+ * first.
  *
  * A sealed record has 21 bytes: kind, encrypted identity (TA61 under c), version,
  * and the sealed text [15] of the kind's call.

@@ -120,10 +120,10 @@ static void single_calls(bool at_end, int longer)
     CHECK(taa1_tb6(S(key), 1, 2).refusal == wanted);
     CHECK(taa1_tb7(S(group_key)).refusal == wanted);
     for (uint64_t sides = 1; sides <= 3; sides++)
-        CHECK(taa1_ring(S(root), S(key), S(key2), S(key), S(key2), S(key),
+        CHECK(taa1_ring(S(root), S(key), S(key2), S(key), S(key2), S(key), S(group_key),
                         sides, response_mask, key_mask).refusal == wanted);
     uint32_t no_sides = longer == 0 ? TAA1_WRONG_SIDES : TAA1_WRONG_LENGTH;
-    CHECK(taa1_ring(S(root), S(key), S(key2), S(key), S(key2), S(key),
+    CHECK(taa1_ring(S(root), S(key), S(key2), S(key), S(key2), S(key), S(group_key),
                     0, response_mask, key_mask).refusal == no_sides);
 
     /* A random text has its flag set, or the answer is zero. */
@@ -156,10 +156,10 @@ static string plain_book(size_t records, bool at_end)
     string plain = writable(TAA1_PLAIN_RECORD_BYTES * records, at_end);
     for (size_t i = 0; i < records; i++) {
         uint8_t *record = plain.bytes + TAA1_PLAIN_RECORD_BYTES * i;
-        record[0] = (uint8_t)(1 + i % 4);
+        record[0] = (uint8_t)(1 + i % 6);
         if (record[0] == TAA1_KIND_TA31)
             record[16] = record[17] = 0;
-        if (record[0] == TAA1_KIND_TA51) {
+        if (record[0] == TAA1_KIND_TA51 || record[0] == TAA1_KIND_TA51_G) {
             record[16] = 0;
             record[17] %= 32;
         }

@@ -70,11 +70,11 @@ static taa1_ring_made make_ring(const char *name, const contents *sitting) {
         exit(EXIT_FAILURE);
     }
     const uint8_t *at = sitting->bytes;
-    uint64_t sides = at[66];
-    uint16_t response_mask = (uint16_t)(at[67] << 8 | at[68]);
-    uint16_t key_mask = (uint16_t)(at[69] << 8 | at[70]);
+    uint64_t sides = at[78];
+    uint16_t response_mask = (uint16_t)(at[79] << 8 | at[80]);
+    uint16_t key_mask = (uint16_t)(at[81] << 8 | at[82]);
     taa1_ring_made made = taa1_ring(at, 16, at + 16, 10, at + 26, 10, at + 36, 10, at + 46, 10,
-                                    at + 56, 10, sides, response_mask, key_mask);
+                                    at + 56, 10, at + 66, 12, sides, response_mask, key_mask);
     if (made.refusal != TAA1_ACCEPTED) {
         fprintf(stderr, "sitting: %s: refused %u (%s)\n", name, (unsigned)made.refusal,
                 taa1_refusal_text(made.refusal));

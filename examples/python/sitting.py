@@ -37,9 +37,10 @@ def parse(name: str, data: bytes) -> taa1.Sitting:
         rand1=data[36:46],
         rand2=data[46:56],
         c=data[56:66],
-        sides=data[66],
-        response_mask=int.from_bytes(data[67:69], "big"),
-        key_mask=int.from_bytes(data[69:71], "big"),
+        group_key=data[66:78],
+        sides=data[78],
+        response_mask=int.from_bytes(data[79:81], "big"),
+        key_mask=int.from_bytes(data[81:83], "big"),
     )
 
 

@@ -10,22 +10,24 @@ from typing import Any, Callable, NamedTuple, Union
 
 Bytes = Union[bytes, bytearray, memoryview]
 
-RING_BYTES = 36
+RING_BYTES = 52
 PLAIN_RECORD_BYTES = 18
 SEALED_RECORD_BYTES = 21
 CHALLENGE_BYTES = 10
 AUTHENTICATION_BYTES = 14  # a response, then a key
 MOST_RECORDS = 1024  # of a book; of challenges in a class
-SITTING_BYTES = 71  # of a file with what a ring is made from
+SITTING_BYTES = 83  # of a file with what a ring is made from
 
 
 class Kind(IntEnum):
-    """The kinds of a record, by the call that seals the key."""
+    """The kinds of a record, by the call that seals the key; the last two under G."""
 
     TA31 = 1
     TA51 = 2
     TA81 = 3
     TA91 = 4
+    TA51_G = 5
+    TA81_G = 6
 
 
 class Refusal(IntEnum):
@@ -49,9 +51,9 @@ class Refusal(IntEnum):
 NAMES: dict[int, str] = {
     Refusal.BOOK_TOO_LONG: "book longer than 1,024 records",
     Refusal.BOOK_NOT_WHOLE: "book not a whole number of records",
-    Refusal.WRONG_KIND: "kind not 1 to 4",
+    Refusal.WRONG_KIND: "kind not 1 to 6",
     Refusal.NOT_ZERO: "body byte not zero",
-    Refusal.WRONG_NUMBER: "kind 2 number above 31",
+    Refusal.WRONG_NUMBER: "kind 2 or 5 number above 31",
     Refusal.FLAG_SET: "flag set while opening a book",
     Refusal.WRONG_MASK: "mask with a wrong number of ones",
     Refusal.SHARED_BIT: "masks that share a bit",
@@ -117,8 +119,8 @@ class KeyNumber(_Sixteen):
 class Sitting(NamedTuple):
     """What a ring is made from.
 
-    A root of 16 bytes, five strings of 10, the number of sides (1 for TA12 alone,
-    2 for TA22 alone, 3 for both) and two masks.
+    A root of 16 bytes, five strings of 10, a group key of 12, the number of sides (1
+    for TA12 alone, 2 for TA22 alone, 3 for both) and two masks.
     """
 
     root: Bytes
@@ -127,6 +129,7 @@ class Sitting(NamedTuple):
     rand1: Bytes
     rand2: Bytes
     c: Bytes
+    group_key: Bytes
     sides: int
     response_mask: int
     key_mask: int
@@ -249,7 +252,7 @@ _CALLS: dict[str, tuple[type[ctypes.Structure], tuple[Any, ...]]] = {
     "tb5": (_BYTES10, (bytes, c_uint64, c_uint64, c_uint64)),
     "tb6": (_BYTES10, (bytes, c_uint64, c_uint64)),
     "tb7": (_BYTES16, (bytes,)),
-    "ring": (_RING_MADE, (bytes,) * 6 + (c_uint64, *_MASKS)),
+    "ring": (_RING_MADE, (bytes,) * 7 + (c_uint64, *_MASKS)),
     "seal_book": (_BOOK, (bytes, bytes, bytearray)),
     "open_book": (_BOOK, (bytes, bytes, bytearray)),
     "check_plain": (_BOOK, (bytes,)),

@@ -57,6 +57,7 @@ SITTING = Sitting(
     b"challenge1",
     b"challenge2",
     b"common key",
+    upward(12),
     BOTH_SIDES,
     RESPONSE_MASK,
     KEY_MASK,
@@ -74,6 +75,8 @@ BOOK = [
     record(Kind.TA51, upward(10) + b"\x00\x1f"),
     record(Kind.TA81, upward(10) + b"\x0b\x0c"),
     record(Kind.TA91, KEY + b"ok"),
+    record(Kind.TA51_G, upward(10) + b"\x00\x1f"),
+    record(Kind.TA81_G, upward(10) + b"\x0b\x0c"),
 ]
 
 # For each call, values that it accepts.
@@ -230,13 +233,14 @@ class Results(unittest.TestCase):
         self.assertEqual(ENGINE.tb6(KEY, 0xABC, 0x123456), xor(KEY, carried))
 
     def test_ring(self) -> None:
-        root, rs, rso, rand1, rand2, c, _, *masks = SITTING
+        root, rs, rso, rand1, rand2, c, group_key, _, *masks = SITTING
         first = ENGINE.ta12(ENGINE.ta11(root, rs), rand1, *masks)
         second = ENGINE.ta22(ENGINE.ta21(root, rs), rand2, *masks)
         idle = taa1.Authentication(bytes(4), bytes(10))
         for sides, (left, right) in enumerate([(first, idle), (idle, second), (first, second)], 1):
             with self.subTest(sides=sides):
                 ring = ENGINE.tb4(left.key, right.key) + ENGINE.ta41(root, rso) + c
+                ring += ENGINE.tb7(group_key)
                 made = ENGINE.ring(SITTING._replace(sides=sides))
                 self.assertEqual(made, (ring, left.response, right.response))
 
@@ -248,21 +252,23 @@ class Results(unittest.TestCase):
                 self.assertEqual(ENGINE.ring(other), ENGINE.ring(sitting))
 
     def test_books(self) -> None:
-        kind1, others, c = RING[:10], RING[10:26], RING[26:]
+        d, o, c, g = RING[:10], RING[10:26], RING[26:36], RING[36:]
         texts = [
-            ENGINE.ta31(upward(10), VERSION, kind1),
-            ENGINE.ta51(upward(10), VERSION, others, KeyNumber(31)),
-            ENGINE.ta81(upward(10), VERSION, others, KeyNumber(0x0B0C)),
-            ENGINE.ta91(KEY + b"ok", VERSION, others),
+            ENGINE.ta31(upward(10), VERSION, d),
+            ENGINE.ta51(upward(10), VERSION, o, KeyNumber(31)),
+            ENGINE.ta81(upward(10), VERSION, o, KeyNumber(0x0B0C)),
+            ENGINE.ta91(KEY + b"ok", VERSION, o),
+            ENGINE.ta51(upward(10), VERSION, g, KeyNumber(31)),
+            ENGINE.ta81(upward(10), VERSION, g, KeyNumber(0x0B0C)),
         ]
         identity = ENGINE.ta61(c, 0x123456).to_bytes(3, "big")
         wanted = b"".join(
             bytes([kind]) + identity + b"\x07\x08" + text for kind, text in zip(Kind, texts)
         )
         plain = b"".join(BOOK)
-        self.assertEqual(ENGINE.seal_book(RING, plain), (4, wanted))
-        self.assertEqual(ENGINE.open_book(RING, wanted), (4, plain))
-        self.assertEqual(ENGINE.check_plain(plain), 4)
+        self.assertEqual(ENGINE.seal_book(RING, plain), (6, wanted))
+        self.assertEqual(ENGINE.open_book(RING, wanted), (6, plain))
+        self.assertEqual(ENGINE.check_plain(plain), 6)
 
     def test_longest_and_empty_books(self) -> None:
         for plain in (b"", BOOK[3] * MOST_RECORDS):
@@ -289,13 +295,14 @@ class Refusals(unittest.TestCase):
         good = BOOK[3]
         plain_long = bytes(PLAIN_RECORD_BYTES * MOST_RECORDS + 1)
         sealed_long = bytes(SEALED_RECORD_BYTES * MOST_RECORDS + 1)
-        number_32 = record(Kind.TA51, bytes(11) + b"\x20")
         self.refuses(Refusal.BOOK_TOO_LONG, 0, "check_plain", plain_long)
         self.refuses(Refusal.BOOK_TOO_LONG, 0, "open_book", RING, sealed_long)
         self.refuses(Refusal.BOOK_NOT_WHOLE, 0, "seal_book", RING, good[1:])
         self.refuses(Refusal.WRONG_KIND, 1, "seal_book", RING, good + bytes(PLAIN_RECORD_BYTES))
         self.refuses(Refusal.NOT_ZERO, 2, "check_plain", good * 2 + record(Kind.TA31, upward(12)))
-        self.refuses(Refusal.WRONG_NUMBER, 1, "seal_book", RING, good + number_32)
+        for kind in (Kind.TA51, Kind.TA51_G):
+            number_32 = record(kind, bytes(11) + b"\x20")
+            self.refuses(Refusal.WRONG_NUMBER, 1, "seal_book", RING, good + number_32)
         self.refuses(Refusal.FLAG_SET, 0, "open_book", RING, b"\x01" * SEALED_RECORD_BYTES)
         self.refuses(Refusal.WRONG_LENGTH, 0, "seal_book", RING[1:], good)
 
@@ -314,10 +321,10 @@ class Refusals(unittest.TestCase):
         self.refuses(Refusal.WRONG_MASK, None, "ta12", ROOT, KEY, 0x7000, KEY_MASK)
         self.refuses(Refusal.SHARED_BIT, None, "ta22", ROOT, KEY, 0x3C00, KEY_MASK)
         for sides in (1, 2, 3):
-            exchanged = (*SITTING[:6], sides, KEY_MASK, RESPONSE_MASK)
+            exchanged = (*SITTING[:7], sides, KEY_MASK, RESPONSE_MASK)
             self.refuses(Refusal.WRONG_MASK, None, "ring", *exchanged)
         for sides in (0, 4, 259, (1 << 32) + 1):
-            self.refuses(Refusal.WRONG_SIDES, None, "ring", *SITTING[:6], sides, 0, 0)
+            self.refuses(Refusal.WRONG_SIDES, None, "ring", *SITTING[:7], sides, 0, 0)
         self.refuses(Refusal.WRONG_WIDTH, None, "tb1", 1, 15)
         self.refuses(Refusal.WRONG_WIDTH, None, "tb3", ROOT, 1, 33)
         self.refuses(Refusal.VALUE_WIDE, None, "ta61", KEY, 1 << 24)
@@ -344,7 +351,7 @@ class Refusals(unittest.TestCase):
 
     def test_text(self) -> None:
         self.assertEqual(str(Refused(Refusal.WRONG_WIDTH)), "refused 9 (width not 16 to 32)")
-        self.assertEqual(str(Refused(Refusal.WRONG_KIND, 0)), "refused 3 at 0 (kind not 1 to 4)")
+        self.assertEqual(str(Refused(Refusal.WRONG_KIND, 0)), "refused 3 at 0 (kind not 1 to 6)")
 
     def test_copies(self) -> None:
         again: list[Callable[[Any], Any]] = [

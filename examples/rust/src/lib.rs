@@ -10,7 +10,7 @@ use std::array::from_fn;
 
 pub use refusal::{BookRefusal, Refusal};
 
-pub const RING_BYTES: usize = 36;
+pub const RING_BYTES: usize = 52;
 pub const PLAIN_RECORD_BYTES: usize = 18;
 pub const SEALED_RECORD_BYTES: usize = 21;
 pub const CHALLENGE_BYTES: usize = 10;
@@ -19,9 +19,10 @@ pub const AUTHENTICATION_BYTES: usize = 14;
 /// The most records of a book, and the most challenges of a class.
 pub const MOST_RECORDS: usize = 1024;
 /// Bytes of a file with what a ring is made from.
-pub const SITTING_BYTES: usize = 71;
+pub const SITTING_BYTES: usize = 83;
 
-/// The kinds of a record, by the call that seals the key.
+/// The kinds of a record, by the call that seals the key; the last two seal it
+/// under G.
 #[repr(u8)]
 #[derive(Clone, Copy, Debug, PartialEq, Eq)]
 pub enum Kind {
@@ -29,6 +30,8 @@ pub enum Kind {
     Ta51 = 2,
     Ta81 = 3,
     Ta91 = 4,
+    Ta51G = 5,
+    Ta81G = 6,
 }
 
 /// A version. Not interchangeable with a key number.
@@ -53,8 +56,8 @@ impl From<u16> for KeyNumber {
     }
 }
 
-/// What a ring is made from: a root of 16 bytes, five strings of 10, the number
-/// of sides, two masks.
+/// What a ring is made from: a root of 16 bytes, five strings of 10, a group key
+/// of 12, the number of sides, two masks.
 #[derive(Clone, Copy, Debug)]
 pub struct Sitting<'a> {
     pub root: &'a [u8],
@@ -63,6 +66,7 @@ pub struct Sitting<'a> {
     pub rand1: &'a [u8],
     pub rand2: &'a [u8],
     pub c: &'a [u8],
+    pub group_key: &'a [u8],
     /// 1 for TA12 alone, 2 for TA22 alone, 3 for both.
     pub sides: u64,
     pub response_mask: u16,
@@ -338,6 +342,7 @@ pub fn ring(sitting: &Sitting) -> Result<RingMade, Refusal> {
         rand1,
         rand2,
         c,
+        group_key,
         sides,
         response_mask,
         key_mask,
@@ -349,6 +354,7 @@ pub fn ring(sitting: &Sitting) -> Result<RingMade, Refusal> {
         [rand1],
         [rand2],
         [c],
+        [group_key],
         sides,
         response_mask,
         key_mask

@@ -99,7 +99,7 @@ macro_rules! calls {
             tb6([cipher_key], carrier: u64, identity: u64) -> Bytes<10>;
             tb7([group_key]) -> Bytes<16>;
             ring(
-                [root], [rs], [rso], [rand1], [rand2], [c],
+                [root], [rs], [rso], [rand1], [rand2], [c], [group_key],
                 sides: u64, response_mask: u16, key_mask: u16
             ) -> RingMade;
             seal_book([ring], [plain], {out}) -> BookAnswer;

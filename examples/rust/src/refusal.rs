@@ -46,9 +46,9 @@ impl Refusal {
         match self {
             Refusal::BookTooLong => "book longer than 1,024 records",
             Refusal::BookNotWhole => "book not a whole number of records",
-            Refusal::WrongKind => "kind not 1 to 4",
+            Refusal::WrongKind => "kind not 1 to 6",
             Refusal::NotZero => "body byte not zero",
-            Refusal::WrongNumber => "kind 2 number above 31",
+            Refusal::WrongNumber => "kind 2 or 5 number above 31",
             Refusal::FlagSet => "flag set while opening a book",
             Refusal::WrongMask => "mask with a wrong number of ones",
             Refusal::SharedBit => "masks that share a bit",

@@ -235,6 +235,7 @@ fn sitting(sides: u64) -> Sitting<'static> {
         rand1: b"challenge1",
         rand2: b"challenge2",
         c: b"common key",
+        group_key: b"a group key.",
         sides,
         response_mask: RESPONSE_MASK,
         key_mask: KEY_MASK,
@@ -249,6 +250,7 @@ fn rings_are_made() {
         rand1,
         rand2,
         c,
+        group_key,
         ..
     } = sitting(3);
     let key1 = taa1::ta11(&ROOT, rs).unwrap();
@@ -256,6 +258,7 @@ fn rings_are_made() {
     let first = taa1::ta12(&key1, rand1, RESPONSE_MASK, KEY_MASK).unwrap();
     let second = taa1::ta22(&key2, rand2, RESPONSE_MASK, KEY_MASK).unwrap();
     let o = taa1::ta41(&ROOT, rso).unwrap();
+    let g = taa1::tb7(group_key).unwrap();
     let idle = Authentication {
         response: [0; 4],
         key: [0; 10],
@@ -263,7 +266,7 @@ fn rings_are_made() {
     for (sides, first, second) in [(1, first, idle), (2, idle, second), (3, first, second)] {
         let d = taa1::tb4(&first.key, &second.key).unwrap();
         let wanted = RingMade {
-            ring: [&d[..], &o, c].concat().try_into().unwrap(),
+            ring: [&d[..], &o, c, &g].concat().try_into().unwrap(),
             response1: first.response,
             response2: second.response,
         };
@@ -289,12 +292,14 @@ fn idle_challenges_change_nothing() {
 #[test]
 fn books_are_sealed_and_opened() {
     let (ring, key, group_key) = (upward::<RING_BYTES>(), upward(), upward());
-    let (d, o, c) = (&ring[..10], &ring[10..26], &ring[26..]);
+    let (d, o, c, g) = (&ring[..10], &ring[10..26], &ring[26..36], &ring[36..]);
     let plain = [
         record(Kind::Ta31, body(key, [0, 0])),
         record(Kind::Ta51, body(key, [0, 31])),
         record(Kind::Ta81, body(key, [11, 12])),
         record(Kind::Ta91, group_key),
+        record(Kind::Ta51G, body(key, [0, 31])),
+        record(Kind::Ta81G, body(key, [11, 12])),
     ]
     .concat();
     let texts = [
@@ -302,6 +307,8 @@ fn books_are_sealed_and_opened() {
         taa1::ta51(&key, VERSION, o, KeyNumber(31)),
         taa1::ta81(&key, VERSION, o, KeyNumber(0x0b0c)),
         taa1::ta91(&group_key, VERSION, o),
+        taa1::ta51(&key, VERSION, g, KeyNumber(31)),
+        taa1::ta81(&key, VERSION, g, KeyNumber(0x0b0c)),
     ];
     let identity = taa1::ta61(c, 0x123456).unwrap().to_be_bytes();
     let mut wanted = Vec::new();
@@ -314,13 +321,13 @@ fn books_are_sealed_and_opened() {
 
     let book = |bytes: &[u8]| {
         Ok(Book {
-            records: 4,
+            records: 6,
             bytes: bytes.into(),
         })
     };
     assert_eq!(taa1::seal_book(&ring, &plain), book(&wanted));
     assert_eq!(taa1::open_book(&ring, &wanted), book(&plain));
-    assert_eq!(taa1::check_plain(&plain), Ok(4));
+    assert_eq!(taa1::check_plain(&plain), Ok(6));
 }
 
 #[test]
@@ -371,8 +378,10 @@ fn books_are_refused() {
     assert_eq!(seal(&kind), refused(Refusal::WrongKind, 1));
     let end = [good, good, record(Kind::Ta31, upward())].concat();
     assert_eq!(check(&end), refused(Refusal::NotZero, 2));
-    let number = [good, record(Kind::Ta51, body(KEY, [0, 32]))].concat();
-    assert_eq!(seal(&number), refused(Refusal::WrongNumber, 1));
+    for kind in [Kind::Ta51, Kind::Ta51G] {
+        let number = [good, record(kind, body(KEY, [0, 32]))].concat();
+        assert_eq!(seal(&number), refused(Refusal::WrongNumber, 1));
+    }
     assert_eq!(
         open(&[1; SEALED_RECORD_BYTES]),
         refused(Refusal::FlagSet, 0)
@@ -410,7 +419,7 @@ fn refusals_have_their_numbers() {
 #[test]
 fn refusals_have_their_texts() {
     let refusal = Refusal::WrongKind;
-    assert_eq!(refusal.to_string(), "refused 3 (kind not 1 to 4)");
+    assert_eq!(refusal.to_string(), "refused 3 (kind not 1 to 6)");
     let refused = BookRefusal { refusal, index: 7 };
-    assert_eq!(refused.to_string(), "refused 3 at 7 (kind not 1 to 4)");
+    assert_eq!(refused.to_string(), "refused 3 at 7 (kind not 1 to 6)");
 }

@@ -30,9 +30,10 @@ fn parse(bytes: &[u8]) -> Option<Sitting<'_>> {
         rand1: &bytes[36..46],
         rand2: &bytes[46..56],
         c: &bytes[56..66],
-        sides: bytes[66].into(),
-        response_mask: u16::from_be_bytes([bytes[67], bytes[68]]),
-        key_mask: u16::from_be_bytes([bytes[69], bytes[70]]),
+        group_key: &bytes[66..78],
+        sides: bytes[78].into(),
+        response_mask: u16::from_be_bytes([bytes[79], bytes[80]]),
+        key_mask: u16::from_be_bytes([bytes[81], bytes[82]]),
     })
 }
 
