@@ -19,6 +19,7 @@ ghost use Rattle.standard.specs.Classes.{ta12ClassCall};
 ghost use Rattle.standard.specs.Derivation.{ta11Call, ta21Call, ta41Call, ta12Call, ta22Call, ta71Call, ta101Call, ringCall};
 ghost use Rattle.standard.specs.Hurdle.{encryptCall, decryptCall};
 ghost use Rattle.standard.specs.Identity.{ta61Call, ta61⁻¹Call};
+ghost use Rattle.standard.specs.Lineage.{lineageCall};
 ghost use Rattle.standard.specs.Mixing.{tb1Call, tb2Call, tb3Call, tb4Call, tb5Call, tb6Call, tb7Call};
 ghost use Rattle.standard.specs.Seals.{ta31Call, ta32Call, ta51Call, ta52Call, ta81Call, ta82Call, ta91Call, ta92Call};
 
@@ -290,4 +291,11 @@ pub extern "C" fn taa1_check_plain(plain: &[u8]) -> BookAnswer
     ensures { λ r. ⌜ r ≡ checkPlain (now (plain .entry)) ⌝ }
 {
     books::check_plain(plain)
+}
+
+#[no_mangle]
+pub extern "C" fn taa1_lineage(sheet: &[u8], out: &mut [u8]) -> BookAnswer
+    ensures { λ r. ⌜ (r, now (out .exit)) ≡ lineageCall (now (sheet .entry)) (now (out .entry)) ⌝ }
+{
+    lineage::lineage(sheet, out)
 }

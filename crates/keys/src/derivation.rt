@@ -9,14 +9,14 @@ ghost use Rattle.standard.specs.Bytes.{_!_, _⊕_, table, part, bytesOf};
 ghost use Rattle.standard.specs.Derivation.{core as coreOf, ta71 as ta71Of, int as intOf};
 
 // BL1 of the expanded seed.
-pub(crate) fn core(key: [u8; 16], seed: [u8; 10]) -> [u8; 16]
+pub fn core(key: [u8; 16], seed: [u8; 10]) -> [u8; 16]
     ensures { λ r. ⌜ r ≡ coreOf key seed ⌝ }
 {
     bl1(key, exp2(seed))
 }
 
 // TA21's seed, its ten bytes from right to left.
-pub(crate) fn reversed(seed: [u8; 10]) -> [u8; 10]
+pub fn reversed(seed: [u8; 10]) -> [u8; 10]
     ensures { λ r. ⌜ r ≡ table 10 (λ i. seed ! (9 - i)) ⌝ }
 {
     [
@@ -76,7 +76,7 @@ fn shr3(o: [u8; 16]) -> [u8; 10]
 }
 
 // TA71 on typed arrays.
-pub(crate) fn combined(a: [u8; 10], b: [u8; 10]) -> [u8; 10]
+pub fn combined(a: [u8; 10], b: [u8; 10]) -> [u8; 10]
     ensures { λ r. ⌜ r ≡ ta71Of a b ⌝ }
 {
     shr3(core(key_input(a, b), xor10(a, b)))

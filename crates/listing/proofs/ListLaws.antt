@@ -123,6 +123,21 @@ pub said : (l : Line) (n k : ℕ) {t : List ℕ} {r : Line} → n ≡ k → r �
 unfolding meaning
 said l n k e f g = f ∙ ap (λ (t : List ℕ). l ▸ t) (g ∙ ap (λ (j : ℕ). beside j meanings) (sym e))
 
+-- a number that is not in the list
+abbrev pub Unlisted : ℕ → List (ℕ × List ℕ) → Type 0
+Unlisted n [] = Unit {0}
+Unlisted n (t ∷ ts) = (n ≡ t .0 → ⊥) × Unlisted n ts
+
+beside-none : (n : ℕ) (ts : List (ℕ × List ℕ)) → Unlisted n ts → beside n ts ≡ beside n []
+beside-none n [] u = refl
+beside-none n (t ∷ ts) u =
+    ap (λ (b : Bool). choose b (t .1) (beside n ts)) (ne-eqb n (t .0) (u .0)) ∙ beside-none n ts (u .1)
+
+-- and what is said of it
+pub unsaid : (l : Line) (n : ℕ) {r : Line} → Unlisted n meanings → r ≡ l ▸ beside n [] → r ≡ l ▸ meaning n
+unfolding meaning
+unsaid l n u f = f ∙ ap (λ (t : List ℕ). l ▸ t) (sym (beside-none n meanings u))
+
 module _ (p : List ℕ) {a : BookAnswer} (e : a ≡ checkPlain p) where
   pub listing-refused : (a .refusal ≡ 0 → ⊥) → listing p ≡ refusedLine (a .refusal) (a .index)
   unfolding listing

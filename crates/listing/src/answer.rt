@@ -25,6 +25,9 @@ fn meaning(l: Line, refusal: u32) -> Line
         11 => l.word(b"input of a wrong length"),
         12 => l.word(b"output shorter than the result"),
         13 => l.word(b"number of sides not 1 to 3"),
+        14 => l.word(b"operation above 5 or wrong filling"),
+        15 => l.word(b"parent not before its record"),
+        16 => l.word(b"parent of a wrong length"),
         _ => l.word(b"not in the list"),
     }
 }

@@ -2,16 +2,17 @@
 -- Assumes nothing.
 use mathlib.Core.List.{List, [], _∷_, _++_, append-assoc, append-nil}
 use mathlib.Core.Logic.{_⊎_, inl, inr}
-use mathlib.Core.Path.{_≡_, refl, sym, ap, ap₂, _∙_, subst}
-use Prim.Native.Nat.{ℕ, zero, suc, _+_, _*_, _-_, _<_, _≤_}
+use mathlib.Core.Path.{_≡_, refl, sym, ap, _∙_, subst}
+use Prim.Native.Nat.{ℕ, _+_, _*_, _-_, _<_, _≤_}
 use native.Mathlib.Nat.{eq-or-lt-of-le, le-of-suc-le-suc, mul-suc, mul-zero, mul-le-mul-left, add-sub-cancel-left}
 use native.Mathlib.Numerals.{add-one}
 use native.Mathlib.Omega.{arith}
 use lib.ListN.{length, take, drop, length-append, length-take, length-drop, drop-of-length-le}
 use lib.Seq.{take-at, take-all, drop-at, drop-drop}
 use Rattle.standard.proofs.AnswerLaws.{IsFirst, first-fault, first-one}
-use Rattle.standard.proofs.BytesLaws.{part-lent}
-use Rattle.standard.specs.Lists.{recordAt, each, firstFault}
+use Rattle.standard.proofs.BookLaws.{joined-length, joined-at}
+use Rattle.standard.proofs.BytesLaws.{part-lent, part-left}
+use Rattle.standard.specs.Lists.{recordAt, joined, firstFault}
 use Rattle.lists.specs.Walks.{Clean, Stopped}
 
 -- the end of record i of n
@@ -52,24 +53,30 @@ stopped-not n g none = record {
   some = λ z. absurd (z refl);
 }
 
--- ---- the pass that writes: f makes records of v bytes from records of w
+-- ---- the pass that writes: g 0, g 1, .. , v bytes each
 
--- the first i records are written, and behind them the output is as it was
-pub record Wrote (w v : ℕ) (f : List ℕ → List ℕ) (xs out₀ : List ℕ) (i : ℕ) (out : List ℕ) : Type 0 where
-  pub bytes : out ≡ each i w f xs ++ drop (v * i) out₀
+-- the first i are written, and behind them the output is as it was
+pub record Laid (v : ℕ) (g : ℕ → List ℕ) (out₀ : List ℕ) (i : ℕ) (out : List ℕ) : Type 0 where
+  pub bytes : out ≡ joined i g ++ drop (v * i) out₀
   pub kept : length out ≡ length out₀
 
-module _ (w v : ℕ) (f : List ℕ → List ℕ) (long : (x : List ℕ) → length (f x) ≡ v) (xs out₀ : List ℕ) where
-  length-each : (n : ℕ) → length (each n w f xs) ≡ v * n
-  length-each zero = sym (mul-zero v)
-  length-each (suc n) =
-      length-append (each n w f xs) (f (recordAt w xs n)) ∙ ap₂ _+_ (length-each n) (long (recordAt w xs n)) ∙ sym (mul-suc v n)
+module _ (v : ℕ) (g : ℕ → List ℕ) (long : (i : ℕ) → length (g i) ≡ v) (out₀ : List ℕ) where
+  length-joined : (n : ℕ) → length (joined n g) ≡ v * n
+  length-joined n = joined-length v g n (λ i h. long i)
 
-  pub wrote-none : Wrote w v f xs out₀ 0 out₀
-  wrote-none = record { bytes = rw mul-zero; kept = refl }
+  pub laid-none : Laid v g out₀ 0 out₀
+  laid-none = record { bytes = rw mul-zero; kept = refl }
 
-  module _ (i : ℕ) (out : List ℕ) (h : Wrote w v f xs out₀ i out) (room : v * i + v ≤ length out₀) where
-    -- the output's own part for record i
+  module _ (i : ℕ) (out : List ℕ) (h : Laid v g out₀ i out) where
+    -- part j of what is written
+    pub laid-at : (j : ℕ) → j < i → recordAt v out j ≡ g j
+    laid-at j k =
+        rw (h .bytes)
+        (part-left (v * j) v (joined i g) (drop (v * i) out₀) (omega (arith, length-joined i, ends v j i k))
+        ∙ joined-at v g i (λ l m. long l) j k)
+
+  module _ (i : ℕ) (out : List ℕ) (h : Laid v g out₀ i out) (room : v * i + v ≤ length out₀) where
+    -- the output's own part for string i
     abbrev own : List ℕ
     own = take (v * i + v - v * i) (drop (v * i) out)
 
@@ -77,25 +84,41 @@ module _ (w v : ℕ) (f : List ℕ → List ℕ) (long : (x : List ℕ) → leng
     own-length = simp (length-take, length-drop) (omega (arith, room, h .kept))
 
     -- a part of v bytes is overwritten whole
-    overwritten : (x exit : List ℕ) → exit ≡ take (length own) (f x) ++ drop v own → exit ≡ f x
-    overwritten x exit e =
-        e ∙ rw (drop-of-length-le own {i = v} (omega (arith, own-length)), append-nil) (take-all (length own) (f x) (omega (arith, own-length, long x)))
+    overwritten : (y exit : List ℕ) → length y ≡ v → exit ≡ take (length own) y ++ drop v own → exit ≡ y
+    overwritten y exit l e =
+        e ∙ rw (drop-of-length-le own {i = v} (omega (arith, own-length)), append-nil) (take-all (length own) y (omega (arith, own-length)))
 
-    -- record i put into its own part
-    pub wrote-more : (x exit : List ℕ) → x ≡ recordAt w xs i → exit ≡ take (length own) (f x) ++ drop v own
-        → Wrote w v f xs out₀ (i + 1) (take (v * i) out ++ (exit ++ drop (v * i + v - v * i) (drop (v * i) out)))
-    wrote-more x exit ex e = record { bytes = bytes; kept = ap length bytes ∙ lengths }
+    -- string i put into its own part
+    pub laid-more : (y exit : List ℕ) → y ≡ g i → exit ≡ take (length own) y ++ drop v own
+        → Laid v g out₀ (i + 1) (take (v * i) out ++ (exit ++ drop (v * i + v - v * i) (drop (v * i) out)))
+    laid-more y exit q e = record { bytes = bytes; kept = ap length bytes ∙ lengths }
       where
         next : v * i + v ≡ v * (i + 1)
         next = rw add-one (sym (mul-suc v i))
 
-        made : exit ≡ f (recordAt w xs i)
-        made = overwritten x exit e ∙ ap f ex
+        made : exit ≡ g i
+        made = overwritten y exit (ap length q ∙ long i) e ∙ q
 
-        bytes : take (v * i) out ++ (exit ++ drop (v * i + v - v * i) (drop (v * i) out)) ≡ each (i + 1) w f xs ++ drop (v * (i + 1)) out₀
+        bytes : take (v * i) out ++ (exit ++ drop (v * i + v - v * i) (drop (v * i) out)) ≡ joined (i + 1) g ++ drop (v * (i + 1)) out₀
         bytes =
-            rw (h .bytes, take-at (each i w f xs) (drop (v * i) out₀) (v * i) (length-each i), drop-at (each i w f xs) (drop (v * i) out₀) (v * i) (length-each i), add-sub-cancel-left (v * i) v, drop-drop v (v * i) out₀, next, made, ← append-assoc)
-            (ap (λ (n : ℕ). each n w f xs ++ drop (v * (i + 1)) out₀) (sym (add-one i)))
+            rw (h .bytes, take-at (joined i g) (drop (v * i) out₀) (v * i) (length-joined i), drop-at (joined i g) (drop (v * i) out₀) (v * i) (length-joined i), add-sub-cancel-left (v * i) v, drop-drop v (v * i) out₀, next, made, ← append-assoc)
+            (ap (λ (n : ℕ). joined n g ++ drop (v * (i + 1)) out₀) (sym (add-one i)))
 
-        lengths : length (each (i + 1) w f xs ++ drop (v * (i + 1)) out₀) ≡ length out₀
-        lengths = rw (length-append, length-each (i + 1), length-drop) (omega (arith, room, next))
+        lengths : length (joined (i + 1) g ++ drop (v * (i + 1)) out₀) ≡ length out₀
+        lengths = rw (length-append, length-joined (i + 1), length-drop) (omega (arith, room, next))
+
+-- ---- where f makes the records of v bytes from records of w
+
+abbrev pub Wrote : (w v : ℕ) → (List ℕ → List ℕ) → (xs out₀ : List ℕ) → ℕ → List ℕ → Type 0
+Wrote w v f xs out₀ i out = Laid v (λ j. f (recordAt w xs j)) out₀ i out
+
+module _ (w v : ℕ) (f : List ℕ → List ℕ) (long : (x : List ℕ) → length (f x) ≡ v) (xs out₀ : List ℕ) where
+  pub wrote-none : Wrote w v f xs out₀ 0 out₀
+  wrote-none = laid-none v (λ j. f (recordAt w xs j)) (λ j. long (recordAt w xs j)) out₀
+
+  -- record i put into its own part
+  pub wrote-more : (i : ℕ) (out : List ℕ) → Wrote w v f xs out₀ i out → v * i + v ≤ length out₀
+      → (x exit : List ℕ) → x ≡ recordAt w xs i → exit ≡ take (length (take (v * i + v - v * i) (drop (v * i) out))) (f x) ++ drop v (take (v * i + v - v * i) (drop (v * i) out))
+      → Wrote w v f xs out₀ (i + 1) (take (v * i) out ++ (exit ++ drop (v * i + v - v * i) (drop (v * i) out)))
+  wrote-more i out h room x exit ex e =
+      laid-more v (λ j. f (recordAt w xs j)) (λ j. long (recordAt w xs j)) out₀ i out h room (f x) exit (ap f ex) e

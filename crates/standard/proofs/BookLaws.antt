@@ -7,9 +7,9 @@ use mathlib.Core.Bool.{Bool, true}
 use Prim.Native.Nat.{ℕ, zero, suc, _+_, _*_, _/_, _<_, _≤_}
 use native.Mathlib.Nat.{mul-suc, mul-zero, mul-div-cancel-left, mul-le-mul-left, eq-or-lt-of-le, le-of-suc-le-suc}
 use native.Mathlib.Omega.{arith}
-use lib.ListN.{length}
+use lib.ListN.{length, length-append}
 use Rattle.standard.specs.Bytes.{_!_, part, table, Bytes, Passed}
-use Rattle.standard.specs.Lists.{recordAt, each}
+use Rattle.standard.specs.Lists.{recordAt, joined, each}
 use Rattle.standard.specs.Sizes.{mostRecords}
 use Rattle.standard.proofs.InverseLaws.{Inverse, reversed}
 use Rattle.standard.proofs.BytesLaws.{spelled, bytes-nil, bytes-append, bytes-part, table-add, part-left, part-seam}
@@ -19,6 +19,27 @@ pub record Book (w : ℕ) (ok : List ℕ → Bool) (xs : List ℕ) : Type 0 wher
   pub bytes : Bytes (w * (length xs / w)) xs
   pub few : length xs / w ≤ mostRecords
   pub pass : (i : ℕ) → i < length xs / w → ok (recordAt w xs i) ≡ true
+
+-- ---- strings of v bytes, one after the other
+
+module _ (v : ℕ) (g : ℕ → List ℕ) where
+  pub joined-length : (n : ℕ) → ((i : ℕ) → i < n → length (g i) ≡ v) → length (joined n g) ≡ v * n
+  joined-length zero h = sym (mul-zero v)
+  joined-length (suc n) h =
+      length-append (joined n g) (g n) ∙ ap₂ _+_ (joined-length n (λ i k. h i (omega arith))) (h n (omega arith)) ∙ sym (mul-suc v n)
+
+  -- string i of them
+  pub joined-at : (n : ℕ) → ((i : ℕ) → i < n → length (g i) ≡ v) → (i : ℕ) → i < n → part (v * i) v (joined n g) ≡ g i
+  joined-at zero h i k = absurd (omega arith)
+  joined-at (suc n) h i k = go (eq-or-lt-of-le (le-of-suc-le-suc k)) (joined-at n h′ i)
+    where
+      h′ : (j : ℕ) → j < n → length (g j) ≡ v
+      h′ j l = h j (omega arith)
+
+      go : (i ≡ n) ⊎ (i < n) → (i < n → part (v * i) v (joined n g) ≡ g i) → part (v * i) v (joined n g ++ g n) ≡ g i
+      go (inl e) ih = rw e (part-seam (v * n) v (joined n g) (g n) (joined-length n h′) (h n (omega arith)))
+      go (inr l) ih =
+          part-left (v * i) v (joined n g) (g n) (omega (arith, joined-length n h′, mul-le-mul-left v l, mul-suc v i)) ∙ ih l
 
 -- ---- a book, record by record
 
@@ -45,19 +66,7 @@ module _ (w v : ℕ) (f : List ℕ → List ℕ) (xs : List ℕ) where
   -- record i of what was made is made of record i
   each-at : (n : ℕ) → ((i : ℕ) → i < n → Bytes v (f (part (w * i) w xs)))
       → (i : ℕ) → i < n → part (v * i) v (each n w f xs) ≡ f (part (w * i) w xs)
-  each-at zero h i k = absurd (omega arith)
-  each-at (suc n) h i k = go (eq-or-lt-of-le (le-of-suc-le-suc k)) (each-at n h′ i)
-    where
-      h′ : (j : ℕ) → j < n → Bytes v (f (part (w * j) w xs))
-      h′ j l = h j (omega arith)
-
-      go : (i ≡ n) ⊎ (i < n) → (i < n → part (v * i) v (each n w f xs) ≡ f (part (w * i) w xs))
-          → part (v * i) v (each n w f xs ++ f (part (w * n) w xs)) ≡ f (part (w * i) w xs)
-      go (inl e) ih = rw e (part-seam (each-bytes n h′) (h n (omega arith)))
-      go (inr l) ih =
-          part-left (v * i) v (each n w f xs) (f (part (w * n) w xs))
-          (omega (arith, each-bytes n h′ .len, mul-le-mul-left v l, mul-suc v i))
-          ∙ ih l
+  each-at n h i k = joined-at v (λ j. f (recordAt w xs j)) n (λ j l. h j l .len) i k
 
 -- ---- what is inverse on records of w and v bytes is inverse on books of them
 

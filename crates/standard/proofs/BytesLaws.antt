@@ -114,11 +114,11 @@ pub part-left : (a n : ℕ) (xs ys : List ℕ) → a + n ≤ length xs → part 
 part-left a n xs ys h =
     table-same n (λ i. (xs ++ ys) ! (a + i)) (λ i. xs ! (a + i)) (λ i k. List·getD-append xs ys 0 (a + i) (omega arith))
 
-pub part-seam : {m n : ℕ} {xs ys : List ℕ} → Bytes m xs → Bytes n ys → part m n (xs ++ ys) ≡ ys
-part-seam {m} {n} {xs} {ys} h k =
+pub part-seam : (m n : ℕ) (xs ys : List ℕ) → length xs ≡ m → length ys ≡ n → part m n (xs ++ ys) ≡ ys
+part-seam m n xs ys h k =
     table-same n (λ i. (xs ++ ys) ! (m + i)) (λ i. ys ! i)
-    (λ i l. ap (λ (z : ℕ). (xs ++ ys) ! (z + i)) (sym (h .len)) ∙ getD-append-add xs ys i 0)
-    ∙ spell k
+    (λ i l. ap (λ (z : ℕ). (xs ++ ys) ! (z + i)) (sym h) ∙ getD-append-add xs ys i 0)
+    ∙ spelled n ys k
 
 -- what is lent is the part of the definitions: n bytes from a on, and `&xs[a..a + n]`
 pub part-lent : (a n : ℕ) (xs : List ℕ) → a + n ≤ length xs → take n (drop a xs) ≡ part a n xs

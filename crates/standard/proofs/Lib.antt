@@ -18,4 +18,5 @@ pub mod AnswerLaws
 pub mod Demand3Laws
 pub mod ListingLaws
 pub mod FactLaws
+pub mod LineageLaws
 pub mod Cases

@@ -13,6 +13,7 @@ pub mod Demand3
 pub mod Derivation
 pub mod Mixing
 pub mod Classes
+pub mod Lineage
 pub mod Refusals
 pub mod Facts
 pub mod Programs

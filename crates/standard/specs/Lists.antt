@@ -14,10 +14,14 @@ use Rattle.standard.specs.declared.BookAnswer.{BookAnswer}
 abbrev pub recordAt : ℕ → List ℕ → ℕ → List ℕ
 recordAt w xs i = part (w * i) w xs
 
+-- g 0, g 1, .. g (n - 1), one after the other
+abbrev pub joined : ℕ → (ℕ → List ℕ) → List ℕ
+joined zero g = []
+joined (suc n) g = joined n g ++ g n
+
 -- f of each of the first n records, one after the other
 abbrev pub each : ℕ → ℕ → (List ℕ → List ℕ) → List ℕ → List ℕ
-each zero w f xs = []
-each (suc n) w f xs = each n w f xs ++ f (recordAt w xs n)
+each n w f xs = joined n (λ i. f (recordAt w xs i))
 
 -- ---- the tests of the lengths
 

@@ -1,6 +1,6 @@
 -- Refusals (01, Who causes which number): the numbers by name, their tests, and the answers of single calls.
 -- A book is tested for 11, 1, 2 and 12, and then each of its records for 3, and for 4 and 5 when it is sealed or for 6 when it is opened.
--- A single call tests 11, 13, 7, 8, 9, 10, 5.
+-- A single call tests 11, 13, 7, 8, 9, 10, 5. A lineage sheet is tested for 1, 2 and 12, and then each of its records for 14, 15 and 16.
 -- Assumes nothing.
 use mathlib.Core.Bool.{Bool, true, false, _&&_}
 use mathlib.Core.List.{List, [], _∷_}
@@ -81,6 +81,18 @@ outputShort = 12
 -- (02, 1) the number of sides is none of 1, 2 and 3
 abbrev pub wrongSides : ℕ
 wrongSides = 13
+
+-- (02, 5) a sheet's record has an operation above 5, or breaks its filling rule
+abbrev pub wrongFilling : ℕ
+wrongFilling = 14
+
+-- (02, 5) a parent's index is not below that of its own record
+abbrev pub wrongParent : ℕ
+wrongParent = 15
+
+-- (02, 5) a parent has another length than the operation takes
+abbrev pub parentLength : ℕ
+parentLength = 16
 
 -- ---- tests
 

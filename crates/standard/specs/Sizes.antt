@@ -23,5 +23,12 @@ challengeSize = 10
 abbrev pub authenticationSize : ℕ
 authenticationSize = 14
 
+-- a record of a lineage sheet, and the value that is written for it (02, 5)
+abbrev pub sheetSize : ℕ
+sheetSize = 22
+
+abbrev pub valueSize : ℕ
+valueSize = 16
+
 abbrev pub mostRecords : ℕ
 mostRecords = 1024

@@ -7,7 +7,8 @@ ghost use Rattle.standard.specs.Bytes.{zeros, bytesOf};
 ghost use Rattle.standard.specs.Sizes.{ringSize};
 ghost use Rattle.standard.specs.Seals.{kind, kindOf, keyLength, highestNumber};
 
-// Sizes in bytes: a ring, a plain and a sealed record, a sitting's file, a challenge and what TA12 answers to it; and the most records of a list.
+// Sizes in bytes: a ring, a plain and a sealed record, a sitting's file, a challenge and what TA12 answers to it, a record and
+// a value of a lineage sheet; and the most records of a list.
 pub const RING: usize = 52;
 
 pub const PLAIN_RECORD: usize = 18;
@@ -19,6 +20,10 @@ pub const SITTING: usize = 83;
 pub const CHALLENGE: usize = 10;
 
 pub const AUTHENTICATION: usize = 14;
+
+pub const SHEET_RECORD: usize = 22;
+
+pub const SHEET_VALUE: usize = 16;
 
 pub const MOST_RECORDS: usize = 1024;
 
@@ -49,6 +54,12 @@ pub const OUTPUT_SHORT: u32 = 12;
 
 // The refusals of the requests.
 pub const WRONG_SIDES: u32 = 13;
+
+pub const WRONG_FILLING: u32 = 14;
+
+pub const WRONG_PARENT: u32 = 15;
+
+pub const PARENT_LENGTH: u32 = 16;
 
 // A ring's bytes, after their length was tested.
 pub type RingBytes = [u8; RING];

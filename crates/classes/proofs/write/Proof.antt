@@ -21,7 +21,8 @@ abbrev μ-loop : tie.MeasureT-loop
 loop-holds : tie.Need-loop-holds Inv-loop μ-loop
 loop-holds c =
     let x = c .before .before .args in
-    (zero-le, wrote-none _ _ _ (record-length (now (x .keys)) (x .response-mask) (x .key-mask)) _ _)
+    let made = recordWith (now (x .keys)) (x .response-mask) (x .key-mask) in
+    (zero-le, wrote-none challengeSize authenticationSize made (record-length (now (x .keys)) (x .response-mask) (x .key-mask)) (now (x .challenges)) (now (x .out)))
 
 mul-a : tie.Need-mul-a Inv-loop μ-loop
 mul-a c = search needs

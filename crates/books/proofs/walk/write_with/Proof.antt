@@ -49,7 +49,9 @@ room-out c =
 loop-holds : tie.Need-loop-holds Inv-loop μ-loop
 loop-holds c =
     let x = c .before .before .before .before .args in
-    (zero-le, wrote-none _ _ _ (λ y. converted-length (now (x .ring)) (x .strings) (x .way) y ∙ sym (c .to .ensures)) _ _)
+    let made = convertOf (now (x .ring)) (x .strings) (x .way) in
+    let long : (y : List ℕ) → length (made y) ≡ c .to .result = λ y. converted-length (now (x .ring)) (x .strings) (x .way) y ∙ sym (c .to .ensures) in
+    (zero-le, wrote-none (c .before .size .result) (c .to .result) made long (now (x .book)) (now (x .out)))
 
 mul-a : tie.Need-mul-a Inv-loop μ-loop
 mul-a c = omega (arith, room-in c)

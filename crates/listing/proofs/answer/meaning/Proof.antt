@@ -2,23 +2,26 @@
 -- Assumes nothing.
 use mathlib.Core.Path.{refl}
 use borrow.Author.Needs.{needs}
-use borrow.Author.Tests.{ne-eqb}
-use Rattle.listing.proofs.ListLaws.{said}
-use Rattle.standard.specs.Programs.{meaning}
+use Rattle.listing.proofs.ListLaws.{said, unsaid}
 use Rattle.listing.proofs.answer.meaning.Statement.{statement}
 use Rattle.listing.proofs.answer.meaning.Tie as tie
 
-returns-14 : tie.Need-returns-14
-unfolding meaning
-returns-14 c =
+-- a number that no case has
+returns-17 : tie.Need-returns-17
+returns-17 c =
     let r = c .before .before .match .rest in
-    rw (ne-eqb _ _ (r .0 .0 .0 .0 .0 .0 .0 .0 .0 .0 .0 .0 .1), ne-eqb _ _ (r .0 .0 .0 .0 .0 .0 .0 .0 .0 .0 .0 .1), ne-eqb _ _ (r .0 .0 .0 .0 .0 .0 .0 .0 .0 .0 .1), ne-eqb _ _ (r .0 .0 .0 .0 .0 .0 .0 .0 .0 .1), ne-eqb _ _ (r .0 .0 .0 .0 .0 .0 .0 .0 .1), ne-eqb _ _ (r .0 .0 .0 .0 .0 .0 .0 .1), ne-eqb _ _ (r .0 .0 .0 .0 .0 .0 .1), ne-eqb _ _ (r .0 .0 .0 .0 .0 .1), ne-eqb _ _ (r .0 .0 .0 .0 .1), ne-eqb _ _ (r .0 .0 .0 .1), ne-eqb _ _ (r .0 .0 .1), ne-eqb _ _ (r .0 .1), ne-eqb _ _ (r .1))
-    (c .word14 .ensures)
+    unsaid _ _ (r .0 .0 .0 .0 .0 .0 .0 .0 .0 .0 .0 .0 .0 .0 .0 .1, (r .0 .0 .0 .0 .0 .0 .0 .0 .0 .0 .0 .0 .0 .0 .1, (r .0 .0 .0 .0 .0 .0 .0 .0 .0 .0 .0 .0 .0 .1, (r .0 .0 .0 .0 .0 .0 .0 .0 .0 .0 .0 .0 .1, (r .0 .0 .0 .0 .0 .0 .0 .0 .0 .0 .0 .1, (r .0 .0 .0 .0 .0 .0 .0 .0 .0 .0 .1, (r .0 .0 .0 .0 .0 .0 .0 .0 .0 .1, (r .0 .0 .0 .0 .0 .0 .0 .0 .1, (r .0 .0 .0 .0 .0 .0 .0 .1, (r .0 .0 .0 .0 .0 .0 .1, (r .0 .0 .0 .0 .0 .1, (r .0 .0 .0 .0 .1, (r .0 .0 .0 .1, (r .0 .0 .1, (r .0 .1, (r .1, tt)))))))))))))))) (c .word17 .ensures)
 
 pub meaning-spec : {M : Type 1} → statement M
 meaning-spec =
     tie.close
     (tie.spec
+    (λ c. search needs)
+    (λ c κs. search needs)
+    (λ c. search needs)
+    (λ c κs. search needs)
+    (λ c. search needs)
+    (λ c κs. search needs)
     (λ c. search needs)
     (λ c κs. search needs)
     (λ c. search needs)
@@ -60,4 +63,7 @@ meaning-spec =
     (λ c. said _ _ 11 (c .before .before .match .keys11) (c .word11 .ensures) refl)
     (λ c. said _ _ 12 (c .before .before .match .keys12) (c .word12 .ensures) refl)
     (λ c. said _ _ 13 (c .before .before .match .keys13) (c .word13 .ensures) refl)
-    returns-14)
+    (λ c. said _ _ 14 (c .before .before .match .keys14) (c .word14 .ensures) refl)
+    (λ c. said _ _ 15 (c .before .before .match .keys15) (c .word15 .ensures) refl)
+    (λ c. said _ _ 16 (c .before .before .match .keys16) (c .word16 .ensures) refl)
+    returns-17)

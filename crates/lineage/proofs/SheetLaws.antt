@@ -1,0 +1,141 @@
+-- A sheet's records and values as code comes to them, and the ways in which the call returns.
+-- Assumes nothing.
+use mathlib.Core.Bool.{Bool, true, false, _&&_}
+use mathlib.Core.List.{List, _++_}
+use mathlib.Core.Path.{_≡_, refl, sym, ap, ap₂, _∙_}
+use Prim.Native.Nat.{ℕ, _*_, _/_, _<_, _≤_}
+use lib.Dec.{eqb, ltb}
+use lib.ListN.{length, drop}
+use borrow.Author.Tests.{ltb-true, leb-true, eq-eqb, ne-eqb}
+use Rattle.lists.proofs.CallLaws.{call-refused, call-stopped, call-done}
+use Rattle.lists.proofs.WalkLaws.{Laid, laid-at}
+use Rattle.lists.specs.Walks.{Clean, Stopped}
+use Rattle.standard.proofs.BytesLaws.{spelled, and-split}
+use Rattle.standard.proofs.FirstLaws.{all-pass}
+use Rattle.standard.proofs.LineageLaws.{from-same, value-long, parents-before, value-step}
+use Rattle.standard.specs.Bytes.{part}
+use Rattle.standard.specs.Derivation.{ta11, ta21, ta41, ta71}
+use Rattle.standard.specs.Lineage.{operation, parent1, parent2, derivedLength, keyLength, filled, parentTests, lineageFault, derived, valueFrom, valueOf, lineageCall}
+use Rattle.standard.specs.Lists.{recordAt, joined, listTests, refused}
+use Rattle.standard.specs.Mixing.{tb4}
+use Rattle.standard.specs.Refusals.{wrongFilling, wrongParent, parentLength, first}
+use Rattle.standard.specs.Sizes.{sheetSize, valueSize}
+use Rattle.lineage.specs.Steps.{fromValues}
+
+-- ---- the refusal of a record
+
+module _ (s : List ℕ) (i : ℕ) where
+  abbrev p : List ℕ
+  p = recordAt sheetSize s i
+
+  pub fault-filling : filled p ≡ false → wrongFilling ≡ lineageFault s i
+  unfolding lineageFault
+  fault-filling e = rw e
+
+  pub fault-given : filled p ≡ true → operation p ≡ 0 → 0 ≡ lineageFault s i
+  unfolding lineageFault
+  fault-given e z = rw (e, eq-eqb (operation p) 0 z)
+
+  pub fault-parents : filled p ≡ true → (operation p ≡ 0 → ⊥) → first (parentTests s p i) ≡ lineageFault s i
+  unfolding lineageFault
+  fault-parents e z = rw (e, ne-eqb (operation p) 0 z)
+
+pub both-below : (a b i : ℕ) → ltb a i && ltb b i ≡ true → (a < i) × (b < i)
+both-below a b i t = let q = and-split _ _ t in (ltb-true _ _ (q .0), ltb-true _ _ (q .1))
+
+-- 15, by the parents' indexes a and b, then 16, by their lengths k and l and what the operation takes, d
+module _ (s p : List ℕ) (i a b : ℕ) (ea : a ≡ parent1 p) (eb : b ≡ parent2 p) where
+  before-test : ltb a i && ltb b i ≡ (ltb (parent1 p) i && ltb (parent2 p) i)
+  before-test = ap₂ (λ (x y : ℕ). ltb x i && ltb y i) ea eb
+
+  pub not-before : ltb a i && ltb b i ≡ false → wrongParent ≡ first (parentTests s p i)
+  not-before t = rw (sym before-test ∙ t)
+
+  module _ (t : ltb a i && ltb b i ≡ true) (k l d : ℕ) {q r : List ℕ} (ek : k ≡ keyLength q) (eq : q ≡ recordAt sheetSize s a)
+      (el : l ≡ keyLength r) (er : r ≡ recordAt sheetSize s b) (ed : d ≡ derivedLength (operation p)) where
+    fit-test : eqb k d && eqb l 10
+        ≡ (eqb (keyLength (recordAt sheetSize s (parent1 p))) (derivedLength (operation p)) && eqb (keyLength (recordAt sheetSize s (parent2 p))) 10)
+    fit-test =
+        ap₂ (λ (x y : Bool). x && y) (ap₂ eqb (ek ∙ ap keyLength (eq ∙ ap (recordAt sheetSize s) ea)) ed)
+        (ap (λ (x : ℕ). eqb x 10) (el ∙ ap keyLength (er ∙ ap (recordAt sheetSize s) eb)))
+
+    pub other-length : eqb k d && eqb l 10 ≡ false → parentLength ≡ first (parentTests s p i)
+    other-length u = rw (sym before-test ∙ t, sym fit-test ∙ u)
+
+    pub parents-fit : eqb k d && eqb l 10 ≡ true → 0 ≡ first (parentTests s p i)
+    parents-fit u = rw (sym before-test ∙ t, sym fit-test ∙ u)
+
+-- ---- the key of an operation, as code makes it of two values
+
+pub as-value : (o x : List ℕ) → length o ≡ valueSize → o ≡ x → o ≡ part 0 valueSize x
+as-value o x l e = sym (spelled valueSize o l) ∙ ap (part 0 valueSize) e
+
+module _ (k : ℕ) (a b : List ℕ) where
+  pub by-ta11 : k ≡ 1 → length a ≡ 16 → ta11 a (part 0 10 b) ≡ derived k a b
+  unfolding derived
+  by-ta11 e l = rw (e, spelled 16 a l)
+
+  pub by-ta21 : k ≡ 2 → length a ≡ 16 → ta21 a (part 0 10 b) ≡ derived k a b
+  unfolding derived
+  by-ta21 e l = rw (e, spelled 16 a l)
+
+  pub by-ta41 : k ≡ 3 → length a ≡ 16 → ta41 a (part 0 10 b) ≡ derived k a b
+  unfolding derived
+  by-ta41 e l = rw (e, spelled 16 a l)
+
+  pub by-tb4 : k ≡ 4 → tb4 (part 0 10 a) (part 0 10 b) ≡ derived k a b
+  unfolding derived
+  by-tb4 e = rw e
+
+  pub by-ta71 : (k ≡ 1 → ⊥) → (k ≡ 2 → ⊥) → (k ≡ 3 → ⊥) → (k ≡ 4 → ⊥) → ta71 (part 0 10 a) (part 0 10 b) ≡ derived k a b
+  unfolding derived
+  by-ta71 e₁ e₂ e₃ e₄ = rw (ne-eqb k 1 e₁, ne-eqb k 2 e₂, ne-eqb k 3 e₃, ne-eqb k 4 e₄)
+
+-- ---- the value of a record
+
+module _ (s values : List ℕ) (i : ℕ) where
+  pub value-given : operation (recordAt sheetSize s i) ≡ 0 → part 6 16 (recordAt sheetSize s i) ≡ fromValues s values i
+  unfolding fromValues valueFrom
+  value-given z = rw (eq-eqb (operation (recordAt sheetSize s i)) 0 z)
+
+  pub value-derived : (a b : List ℕ) → (operation (recordAt sheetSize s i) ≡ 0 → ⊥)
+      → a ≡ recordAt valueSize values (parent1 (recordAt sheetSize s i)) → b ≡ recordAt valueSize values (parent2 (recordAt sheetSize s i))
+      → part 0 valueSize (derived (operation (recordAt sheetSize s i)) a b) ≡ fromValues s values i
+  unfolding fromValues valueFrom
+  value-derived a b z ea eb = rw (ea, eb, ne-eqb (operation (recordAt sheetSize s i)) 0 z)
+
+  -- where the values before it are written, it is the record's
+  pub value-next : (n : ℕ) → Clean (lineageFault s) n → i < n → (out₀ : List ℕ) → Laid valueSize (valueOf s) out₀ i values → fromValues s values i ≡ valueOf s i
+  unfolding fromValues
+  value-next n clean h out₀ laid =
+      from-same (recordAt sheetSize s i) _ _ _ _
+      (λ z.
+      let q = parents-before s i (clean i h) z in
+      (laid-at valueSize (valueOf s) (value-long s) out₀ i values laid _ (q .0), laid-at valueSize (valueOf s) (value-long s) out₀ i values laid _ (q .1)))
+      ∙ sym (value-step s n clean i h)
+
+-- ---- the ways in which the call returns
+
+module _ (s out : List ℕ) (number : ℕ) (e : number ≡ first (listTests sheetSize valueSize (length s) (length out))) where
+  abbrev n : ℕ
+  n = length s / sheetSize
+
+  abbrev made : List ℕ
+  made = joined n (valueOf s)
+
+  pub lengths-refused : (number ≡ 0 → ⊥) → (refused number 0, out) ≡ lineageCall s out
+  unfolding lineageCall
+  lengths-refused z = rw (← e) (call-refused number n (lineageFault s) (valueSize * n) made out z)
+
+  module _ (z : number ≡ 0) where
+    pub record-refused : (k i : ℕ) → Stopped n (lineageFault s) k i → (k ≡ 0 → ⊥) → (refused k i, out) ≡ lineageCall s out
+    unfolding lineageCall
+    record-refused k i t f = rw (← e) (call-stopped number n (lineageFault s) (valueSize * n) made out z k i t f)
+
+    pub all-written : Clean (lineageFault s) n → (exit : List ℕ) → exit ≡ made ++ drop (valueSize * n) out
+        → (record { refusal = 0; index = n; written = valueSize * n }, exit) ≡ lineageCall s out
+    unfolding lineageCall
+    all-written none exit w = rw (← e) (call-done number n (lineageFault s) (valueSize * n) made out z none exit w)
+
+    pub room : valueSize * n ≤ length out
+    room = leb-true _ _ (all-pass (listTests sheetSize valueSize (length s) (length out)) refl (sym e ∙ z) 2)

@@ -1,0 +1,115 @@
+-- `lineage::value::derive` meets its contract.
+-- Assumes nothing.
+use mathlib.Core.Path.{_≡_, ap, _∙_}
+use mathlib.Core.List.{List}
+use Prim.Native.Nat.{ℕ, _-_}
+use Rattle.lineage.proofs.SheetLaws.{as-value, by-ta11, by-ta21, by-ta41, by-tb4, by-ta71}
+use Rattle.standard.specs.Bytes.{_!_, table, part}
+use Rattle.standard.specs.Derivation.{core}
+use Rattle.standard.specs.Lineage.{derived}
+use borrow.Author.Needs.{needs}
+use Rattle.lineage.proofs.value.derive.Statement.{statement}
+use Rattle.lineage.proofs.value.derive.Tie as tie
+
+slice-aggregate-array10 : tie.Need-slice-aggregate-array10
+slice-aggregate-array10 c = search needs
+
+array10-requires : tie.Need-array10-requires
+array10-requires c κs = search needs
+
+slice-aggregate-array10-2 : tie.Need-slice-aggregate-array10-2
+slice-aggregate-array10-2 c = search needs
+
+array10-requires-2 : tie.Need-array10-requires-2
+array10-requires-2 c κs = search needs
+
+core-requires : tie.Need-core-requires
+core-requires c κs = search needs
+
+reversed-requires : tie.Need-reversed-requires
+reversed-requires c κs = search needs
+
+core-requires-2 : tie.Need-core-requires-2
+core-requires-2 c κs = search needs
+
+core-requires-3 : tie.Need-core-requires-3
+core-requires-3 c κs = search needs
+
+mix4-requires : tie.Need-mix4-requires
+mix4-requires c κs = search needs
+
+slice-aggregate-array16 : tie.Need-slice-aggregate-array16
+slice-aggregate-array16 c = search needs
+
+array16-requires : tie.Need-array16-requires
+array16-requires c κs = search needs
+
+combined-requires : tie.Need-combined-requires
+combined-requires c κs = search needs
+
+slice-aggregate-array16-2 : tie.Need-slice-aggregate-array16-2
+slice-aggregate-array16-2 c = search needs
+
+array16-requires-2 : tie.Need-array16-requires-2
+array16-requires-2 c κs = search needs
+
+returns : tie.Need-returns
+returns c =
+    let x = c .before .before .before .before .before .before .args in
+    as-value _ _ (search needs) (c .core .ensures ∙ ap (core (x .t2)) (c .before .before .array102 .ensures) ∙ by-ta11 (x .operation) (x .t2) (x .t3) (c .before .match .keys1) (search needs))
+
+returns-2 : tie.Need-returns-2
+returns-2 c =
+    let x = c .before .before .before .before .before .before .before .args in
+    as-value _ _ (search needs)
+    (c .core2 .ensures ∙ ap (core (x .t2)) (c .before .reversed .ensures ∙ ap (λ (s : List ℕ). table 10 (λ i. s ! (9 - i))) (c .before .before .before .array102 .ensures))
+    ∙ by-ta21 (x .operation) (x .t2) (x .t3) (c .before .before .match .keys2) (search needs))
+
+returns-3 : tie.Need-returns-3
+returns-3 c =
+    let x = c .before .before .before .before .before .before .args in
+    as-value _ _ (search needs) (c .core3 .ensures ∙ ap (core (x .t2)) (c .before .before .array102 .ensures) ∙ by-ta41 (x .operation) (x .t2) (x .t3) (c .before .match .keys3) (search needs))
+
+returns-4 : tie.Need-returns-4
+returns-4 c =
+    let made = c .before .before in
+    let keys = made .before .before in
+    let x = keys .before .before .before .before .args in
+    let e : made .mix4 .result ≡ derived (x .operation) (x .t2) (x .t3) =
+    made .mix4 .ensures ∙ rw (keys .array102 .ensures, keys .before .before .array10 .ensures) (by-tb4 (x .operation) (x .t2) (x .t3) (made .before .match .keys4)) in
+    c .array16 .ensures ∙ ap (part 0 16) e
+
+returns-5 : tie.Need-returns-5
+returns-5 c =
+    let made = c .before .before in
+    let keys = made .before .before in
+    let x = keys .before .before .before .before .args in
+    let r = made .before .match .rest in
+    let e : made .combined .result ≡ derived (x .operation) (x .t2) (x .t3) =
+    made .combined .ensures ∙ rw (keys .array102 .ensures, keys .before .before .array10 .ensures)
+    (by-ta71 (x .operation) (x .t2) (x .t3) (r .0 .0 .0 .1) (r .0 .0 .1) (r .0 .1) (r .1)) in
+    c .array162 .ensures ∙ ap (part 0 16) e
+
+pub derive-spec : {M : Type 1} → statement M
+derive-spec =
+    tie.close
+    (tie.spec
+    slice-aggregate-array10
+    array10-requires
+    slice-aggregate-array10-2
+    array10-requires-2
+    core-requires
+    reversed-requires
+    core-requires-2
+    core-requires-3
+    mix4-requires
+    slice-aggregate-array16
+    array16-requires
+    combined-requires
+    slice-aggregate-array16-2
+    array16-requires-2
+    returns
+    returns-2
+    returns-3
+    returns-4
+    returns-5)

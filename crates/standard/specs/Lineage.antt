@@ -1,0 +1,117 @@
+-- The lineage sheet (02, 5): a tree of keys, each given or derived from two others.
+-- Assumes nothing.
+use mathlib.Core.Bool.{Bool, _&&_, _||_}
+use mathlib.Core.List.{List, [], _∷_}
+use mathlib.Core.Path.{_≡_}
+use Prim.Native.Nat.{ℕ, zero, suc, _+_, _*_, _/_, _<_}
+use lib.Dec.{eqb, leb, ltb}
+use lib.ListN.{length}
+use Rattle.standard.specs.Bytes.{_!_, part, zeros, same, choose}
+use Rattle.standard.specs.Derivation.{ta11, ta21, ta41, ta71}
+use Rattle.standard.specs.Lists.{recordAt, joined, listTests, answer, written}
+use Rattle.standard.specs.Mixing.{tb4}
+use Rattle.standard.specs.Refusals.{wrongFilling, wrongParent, parentLength, first}
+use Rattle.standard.specs.Sizes.{sheetSize, valueSize}
+use Rattle.standard.specs.declared.BookAnswer.{BookAnswer}
+
+-- ---- a record: operation 1, first parent 2, second parent 2, length 1, value 16. Operation 0 is a given key, and 1 to 5 are TA11, TA21,
+-- TA41, TB4 and TA71 of the parents, which are record indexes, big-endian
+
+abbrev pub operation : List ℕ → ℕ
+operation p = p ! 0
+
+abbrev pub parent1 : List ℕ → ℕ
+parent1 p = 256 * p ! 1 + p ! 2
+
+abbrev pub parent2 : List ℕ → ℕ
+parent2 p = 256 * p ! 3 + p ! 4
+
+-- the bytes that operations 1 to 5 take of the first parent, and give; of the second they take 10
+abbrev pub derivedLength : ℕ → ℕ
+derivedLength k = choose (leb k 3) 16 10
+
+-- the bytes of a record's key
+abbrev pub keyLength : List ℕ → ℕ
+keyLength p = choose (eqb (operation p) 0) (p ! 5) (derivedLength (operation p))
+
+-- ---- the refusal of a record
+
+-- a given key: both parents zero, a length of 10 or 16, and zero bytes behind it
+abbrev pub givenFilled : List ℕ → Bool
+givenFilled p = same (part 1 4 p) (zeros 4) && (eqb (p ! 5) 16 || (eqb (p ! 5) 10 && same (part 16 6 p) (zeros 6)))
+
+-- a derived key: length and value zero
+abbrev pub derivedFilled : List ℕ → Bool
+derivedFilled p = leb (operation p) 5 && same (part 5 17 p) (zeros 17)
+
+abbrev pub filled : List ℕ → Bool
+filled p = choose (eqb (operation p) 0) (givenFilled p) (derivedFilled p)
+
+-- both parents of record i stand before it, and then have the lengths that its operation takes
+abbrev pub parentTests : (s p : List ℕ) (i : ℕ) → List (Bool × ℕ)
+parentTests s p i =
+    (ltb (parent1 p) i && ltb (parent2 p) i, wrongParent)
+    ∷ (eqb (keyLength (recordAt sheetSize s (parent1 p))) (derivedLength (operation p)) && eqb (keyLength (recordAt sheetSize s (parent2 p))) 10, parentLength)
+    ∷ []
+
+-- 14, then 15 and 16 where there are parents; or 0
+unfoldable pub lineageFault : List ℕ → ℕ → ℕ
+lineageFault s i =
+    let p = recordAt sheetSize s i in
+    first ((filled p, wrongFilling) ∷ choose (eqb (operation p) 0) [] (parentTests s p i))
+
+-- ---- the value of a record: its key, 16 bytes, left-aligned and zero-filled
+
+-- the key that an operation 1 to 5 makes of the keys in two values
+unfoldable pub derived : ℕ → List ℕ → List ℕ → List ℕ
+derived k a b =
+    let a16 = part 0 16 a in
+    let a10 = part 0 10 a in
+    let b10 = part 0 10 b in
+    choose (eqb k 1) (ta11 a16 b10) (choose (eqb k 2) (ta21 a16 b10) (choose (eqb k 3) (ta41 a16 b10) (choose (eqb k 4) (tb4 a10 b10) (ta71 a10 b10))))
+
+-- the value of the record p whose parents have the values a and b
+unfoldable pub valueFrom : List ℕ → List ℕ → List ℕ → List ℕ
+valueFrom p a b = part 0 valueSize (choose (eqb (operation p) 0) (part 6 16 p) (derived (operation p) a b))
+
+-- the value of record i, from n generations: its own, its parents' and so on
+unfoldable pub valueWithin : ℕ → List ℕ → ℕ → List ℕ
+valueWithin zero s i = zeros valueSize
+valueWithin (suc n) s i =
+    let p = recordAt sheetSize s i in
+    valueFrom p (valueWithin n s (parent1 p)) (valueWithin n s (parent2 p))
+
+-- a parent stands before its record, so record i has at most i generations of ancestors
+unfoldable pub valueOf : List ℕ → ℕ → List ℕ
+valueOf s i = valueWithin (suc i) s i
+
+-- ---- the call: the lengths in the order 1, 2, 12, and then the records; every record's value is written
+
+unfoldable pub lineageCall : (s out : List ℕ) → BookAnswer × List ℕ
+lineageCall s out =
+    let n = length s / sheetSize in
+    written
+    (answer (first (listTests sheetSize valueSize (length s) (length out))) n (lineageFault s) (valueSize * n))
+    (joined n (valueOf s)) out
+
+-- ---- facts
+
+-- the set A of indexes has with each record of s its parents, where the record has any
+abbrev pub WithParents : List ℕ → (ℕ → Type 0) → Type 0
+WithParents s A =
+    (i : ℕ) → A i → let p = recordAt sheetSize s i in (operation p ≡ 0 → ⊥) → A (parent1 p) × A (parent2 p)
+
+-- a value is defined by the record's ancestry alone: where two accepted sheets agree on a set of records with their parents, each of
+-- these has the same value in both, and both calls write the same bytes for it
+abbrev pub LineageLaw : Type 1
+LineageLaw = (s t out₁ out₂ : List ℕ) → lineageCall s out₁ .0 .refusal ≡ 0 → lineageCall t out₂ .0 .refusal ≡ 0
+    → (A : ℕ → Type 0) → WithParents s A → ((i : ℕ) → A i → recordAt sheetSize s i ≡ recordAt sheetSize t i)
+    → (i : ℕ) → A i → i < length s / sheetSize → i < length t / sheetSize
+    → (valueOf s i ≡ valueOf t i) × (recordAt valueSize (lineageCall s out₁ .1) i ≡ recordAt valueSize (lineageCall t out₂ .1) i)
+
+-- in an accepted sheet, what is written for a record is its operation's value of what is written for its parents
+abbrev pub LineageSound : Type 0
+LineageSound = (s out : List ℕ) → lineageCall s out .0 .refusal ≡ 0 → (i : ℕ) → i < length s / sheetSize
+    → let p = recordAt sheetSize s i in
+    let value = recordAt valueSize (lineageCall s out .1) in
+    value i ≡ valueFrom p (value (parent1 p)) (value (parent2 p))
