@@ -40,7 +40,9 @@ enum {
     TAA1_SEALED_RECORD_BYTES = 21,
     TAA1_CHALLENGE_BYTES = 10,
     TAA1_AUTHENTICATION_BYTES = 14, /* a response, then a key */
-    TAA1_MOST_RECORDS = 1024,       /* of a book; of challenges in a class */
+    TAA1_SHEET_RECORD_BYTES = 22,
+    TAA1_SHEET_VALUE_BYTES = 16,
+    TAA1_MOST_RECORDS = 1024,       /* of a book or a sheet; of challenges in a class */
     TAA1_SITTING_BYTES = 83         /* of a file with what taa1_ring takes */
 };
 
@@ -59,7 +61,7 @@ enum taa1_refusal {
     TAA1_ACCEPTED = 0,
 
     /* caused by the candidate */
-    TAA1_BOOK_TOO_LONG = 1,  /* a book or class is longer than TAA1_MOST_RECORDS records */
+    TAA1_BOOK_TOO_LONG = 1,  /* a book, class or sheet is longer than TAA1_MOST_RECORDS records */
     TAA1_BOOK_NOT_WHOLE = 2, /* its length is not a whole number of records */
     TAA1_WRONG_KIND = 3,     /* a kind is not 1 to 6 */
     TAA1_NOT_ZERO = 4,       /* a byte that fills up a body is not zero */
@@ -67,11 +69,14 @@ enum taa1_refusal {
     TAA1_FLAG_SET = 6,       /* the flag is set while a book is opened */
 
     /* caused by the setter */
-    TAA1_WRONG_MASK = 7,   /* a mask has too few or too many ones */
-    TAA1_SHARED_BIT = 8,   /* the masks share a bit */
-    TAA1_WRONG_WIDTH = 9,  /* a width is not 16 to 32 */
-    TAA1_VALUE_WIDE = 10,  /* a value is too wide for its field */
-    TAA1_WRONG_SIDES = 13, /* the number of sides is not 1 to 3 */
+    TAA1_WRONG_MASK = 7,     /* a mask has too few or too many ones */
+    TAA1_SHARED_BIT = 8,     /* the masks share a bit */
+    TAA1_WRONG_WIDTH = 9,    /* a width is not 16 to 32 */
+    TAA1_VALUE_WIDE = 10,    /* a value is too wide for its field */
+    TAA1_WRONG_SIDES = 13,   /* the number of sides is not 1 to 3 */
+    TAA1_WRONG_FILLING = 14, /* a sheet's operation is above 5, or its record wrongly filled */
+    TAA1_WRONG_PARENT = 15,  /* a parent's index is not below that of its own record */
+    TAA1_PARENT_LENGTH = 16, /* a parent has another length than the operation takes */
 
     /* caused by the host */
     TAA1_WRONG_LENGTH = 11, /* an input has another length than its call takes */
@@ -95,6 +100,9 @@ static inline const char *taa1_refusal_text(uint32_t refusal)
     case TAA1_WRONG_LENGTH: return "input of a wrong length";
     case TAA1_OUTPUT_SHORT: return "output shorter than the result";
     case TAA1_WRONG_SIDES: return "number of sides not 1 to 3";
+    case TAA1_WRONG_FILLING: return "operation above 5 or wrong filling";
+    case TAA1_WRONG_PARENT: return "parent not before its record";
+    case TAA1_PARENT_LENGTH: return "parent of a wrong length";
     default: return "not in the list";
     }
 }
@@ -170,8 +178,8 @@ typedef struct {
 } taa1_ring_made;
 
 /*
- * The index: in a refused book, that of the first offending record (0 for 1, 2, 11
- * and 12); in an accepted one, how many records it has. For a class it is 0 on
+ * The index: in a refused book or sheet, that of the first offending record (0 for
+ * 1, 2, 11 and 12); in an accepted one, how many records it has. For a class it is 0 on
  * every refusal, else how many challenges there are.
  */
 typedef struct {
@@ -378,6 +386,21 @@ taa1_book_answer taa1_open_book(const uint8_t *ring, size_t ring_length,
 
 /* The refusals 1 to 5 that taa1_seal_book gives for a plain book; nothing is written. */
 taa1_book_answer taa1_check_plain(const uint8_t *plain, size_t plain_length);
+
+/*
+ * ---- Lineage sheets: a tree of keys, up to TAA1_MOST_RECORDS ----
+ *
+ * A record has 22 bytes: operation (1), first parent (2), second parent (2), length
+ * (1), value (16). Operation 0 is a given key: both parents zero, length 10 or 16,
+ * and zero bytes behind the key. Operations 1 to 5 are TA11, TA21, TA41, TB4 and
+ * TA71 of two records before it, the parents, whose indexes have the high byte
+ * first; length and value are zero. 1 to 3 take a key [16] and a key [10] and give
+ * 16 bytes, 4 and 5 take two keys [10] and give 10.
+ */
+
+/* The key of each record; writes TAA1_SHEET_VALUE_BYTES for each, zeros behind a key [10]. */
+taa1_book_answer taa1_lineage(const uint8_t *sheet, size_t sheet_length,
+                              uint8_t *out, size_t out_length);
 
 #ifdef __cplusplus
 }

@@ -255,6 +255,71 @@ static void classes(bool at_end, size_t count)
     give_back(out);
 }
 
+/* ---- Sheets ---- */
+
+/* A chain: a root, a seed, and TA11 of the key before and the seed. */
+static string chain(size_t records, bool at_end)
+{
+    string s = writable(TAA1_SHEET_RECORD_BYTES * records, at_end);
+    for (size_t i = 0; i < records; i++) {
+        uint8_t *at = s.bytes + TAA1_SHEET_RECORD_BYTES * i;
+        size_t first = i == 2 ? 0 : i - 1;
+        if (i < 2) {
+            memset(at, 0, 5);
+            at[5] = i == 0 ? 16 : 10;
+            memset(at + 6 + at[5], 0, (size_t)(16 - at[5]));
+        } else {
+            memset(at, 0, TAA1_SHEET_RECORD_BYTES);
+            at[0] = 1;
+            at[1] = (uint8_t)(first >> 8);
+            at[2] = (uint8_t)first;
+            at[4] = 1;
+        }
+    }
+    protect(s, PROT_READ);
+    return s;
+}
+
+static void sheets(bool at_end, size_t records)
+{
+    string sheet = chain(records, at_end);
+    string out = writable(TAA1_SHEET_VALUE_BYTES * records, at_end);
+
+    CHECK(is(taa1_lineage(S(sheet), S(out)), TAA1_ACCEPTED, records, out.length));
+    for (size_t i = 0; i < records; i++) {
+        const uint8_t *value = out.bytes + TAA1_SHEET_VALUE_BYTES * i;
+        if (i < 2) {
+            const uint8_t *given = sheet.bytes + TAA1_SHEET_RECORD_BYTES * i + 6;
+            CHECK(memcmp(value, given, TAA1_SHEET_VALUE_BYTES) == 0);
+        } else {
+            const uint8_t *seed = out.bytes + TAA1_SHEET_VALUE_BYTES;
+            const uint8_t *before = i == 2 ? out.bytes : value - TAA1_SHEET_VALUE_BYTES;
+            taa1_bytes16 single = taa1_ta11(before, 16, seed, 10);
+            CHECK(memcmp(value, single.bytes, sizeof single.bytes) == 0);
+        }
+    }
+
+    /* What is refused must not be written, not even where it could be. */
+    if (records > 2) {
+        size_t last = records - 1;
+        protect(out, PROT_READ);
+        CHECK(is(taa1_lineage(S(sheet), out.bytes, out.length - 1), TAA1_OUTPUT_SHORT, 0, 0));
+        CHECK(is(taa1_lineage(sheet.bytes, sheet.length - 1, S(out)), TAA1_BOOK_NOT_WHOLE, 0, 0));
+        protect(sheet, PROT_READ | PROT_WRITE);
+        uint8_t *at = sheet.bytes + TAA1_SHEET_RECORD_BYTES * last;
+        at[3] = 0xff;
+        CHECK(is(taa1_lineage(S(sheet), S(out)), TAA1_WRONG_PARENT, last, 0));
+        at[3] = 0;
+        at[0] = 4;
+        CHECK(is(taa1_lineage(S(sheet), S(out)), TAA1_PARENT_LENGTH, last, 0));
+        at[0] = 6;
+        CHECK(is(taa1_lineage(S(sheet), S(out)), TAA1_WRONG_FILLING, last, 0));
+    }
+
+    give_back(sheet);
+    give_back(out);
+}
+
 static void too_long(bool at_end)
 {
     string session_key = input(16, at_end);
@@ -267,6 +332,9 @@ static void too_long(bool at_end)
     CHECK(is(taa1_open_book(S(ring), S(out), S(plain)), TAA1_BOOK_TOO_LONG, 0, 0));
     CHECK(is(taa1_ta12_class(S(session_key), S(challenges), 0x9240, 0x6db6, S(out)),
              TAA1_BOOK_TOO_LONG, 0, 0));
+    string sheet = chain(TAA1_MOST_RECORDS + 1, at_end);
+    CHECK(is(taa1_lineage(S(sheet), S(out)), TAA1_BOOK_TOO_LONG, 0, 0));
+    give_back(sheet);
     give_back(session_key);
     give_back(challenges);
     give_back(ring);
@@ -287,6 +355,7 @@ static void nulls(void)
              TAA1_ACCEPTED, 0, 0));
     CHECK(is(taa1_ta12_class(NULL, 0, NULL, 0, 0x9240, 0x6db6, NULL, 0),
              TAA1_WRONG_LENGTH, 0, 0));
+    CHECK(is(taa1_lineage(NULL, 0, NULL, 0), TAA1_ACCEPTED, 0, 0));
     give_back(ring);
     give_back(session_key);
 }
@@ -308,6 +377,7 @@ int main(void)
         for (size_t i = 0; i < sizeof records / sizeof *records; i++) {
             books(at_end, records[i]);
             classes(at_end, records[i]);
+            sheets(at_end, records[i]);
         }
         too_long(at_end);
     }

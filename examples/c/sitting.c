@@ -1,8 +1,9 @@
 /*
- * Plays a sitting: makes the ring, and the ring of the one-sided sitting, seals
- * the model book, opens it and seals it again, then opens the candidate's book.
+ * Plays a sitting: makes the ring, and the ring of the one-sided sitting, works
+ * the lineage of its keys, seals the model book, opens it and seals it again, then
+ * opens the candidate's book.
  *
- *     sitting [FOLDER]    the folder with the four files; samples by default
+ *     sitting [FOLDER]    the folder with the five files; samples by default
  */
 #include <stdio.h>
 #include <stdlib.h>
@@ -10,10 +11,10 @@
 
 #include "taa1.h"
 
-enum { LONGEST = TAA1_MOST_RECORDS * TAA1_SEALED_RECORD_BYTES };
+enum { LONGEST = TAA1_MOST_RECORDS * TAA1_SHEET_RECORD_BYTES };
 
-/* A file's bytes. One more than the longest book has, so that the engine sees
- * that a book is too long. */
+/* A file's bytes. One more than the longest sheet or book has, so that the engine
+ * sees that one is too long. */
 typedef struct {
     size_t length;
     uint8_t bytes[LONGEST + 1];
@@ -54,10 +55,10 @@ static void print_refusal(FILE *stream, taa1_book_answer answer) {
             taa1_refusal_text(answer.refusal));
 }
 
-/* Ends the program if a book that the engine must accept is refused. */
-static void must_accept(const char *book, taa1_book_answer answer) {
+/* Ends the program if a sheet or book that the engine must accept is refused. */
+static void must_accept(const char *what, taa1_book_answer answer) {
     if (answer.refusal != TAA1_ACCEPTED) {
-        fprintf(stderr, "sitting: %s: ", book);
+        fprintf(stderr, "sitting: %s: ", what);
         print_refusal(stderr, answer);
         exit(EXIT_FAILURE);
     }
@@ -94,11 +95,12 @@ static void print_ring(const char *words, const taa1_ring_made *made) {
 }
 
 int main(int argc, char **argv) {
-    static contents sitting, one_sided, plain, candidate;
-    static uint8_t sealed[LONGEST], opened[LONGEST], again[LONGEST];
+    static contents sitting, one_sided, sheet, plain, candidate;
+    static uint8_t values[LONGEST], sealed[LONGEST], opened[LONGEST], again[LONGEST];
     const char *folder = argc > 1 ? argv[1] : "samples";
     read_file(folder, "sitting.bin", &sitting);
     read_file(folder, "one-sided.bin", &one_sided);
+    read_file(folder, "lineage.sheet", &sheet);
     read_file(folder, "plain.book", &plain);
     read_file(folder, "candidate.book", &candidate);
 
@@ -109,8 +111,14 @@ int main(int argc, char **argv) {
     taa1_ring_made of_one_side = make_ring("one-sided.bin", &one_sided);
     print_ring("one-sided ", &of_one_side);
 
-    taa1_book_answer answer =
-        taa1_seal_book(ring, ring_length, plain.bytes, plain.length, sealed, sizeof sealed);
+    taa1_book_answer answer = taa1_lineage(sheet.bytes, sheet.length, values, sizeof values);
+    must_accept("lineage.sheet", answer);
+    printf("lineage %zu records, %zu bytes\n", answer.index, answer.written);
+    for (size_t at = 0; at < answer.written; at += TAA1_SHEET_VALUE_BYTES) {
+        print_hex("lineage", values + at, TAA1_SHEET_VALUE_BYTES);
+    }
+
+    answer = taa1_seal_book(ring, ring_length, plain.bytes, plain.length, sealed, sizeof sealed);
     must_accept("plain.book", answer);
     const size_t sealed_length = answer.written;
     printf("sealed %zu records, %zu bytes\n", answer.index, sealed_length);

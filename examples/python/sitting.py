@@ -1,9 +1,10 @@
-"""Plays a sitting: makes the ring, and the ring of the one-sided sitting, seals the
-model book, opens it and seals it again, then opens the candidate's book.
+"""Plays a sitting: makes the ring, and the ring of the one-sided sitting, works the
+lineage of its keys, seals the model book, opens it and seals it again, then opens
+the candidate's book.
 
     sitting.py LIBRARY [FOLDER]
 
-LIBRARY is the engine's shared object; FOLDER has the four files (samples by
+LIBRARY is the engine's shared object; FOLDER has the five files (samples by
 default).
 """
 
@@ -63,6 +64,7 @@ def play(engine: taa1.Engine, folder: str) -> None:
     """Plays the sitting of a folder."""
     sitting = read(folder, "sitting.bin")
     one_sided = read(folder, "one-sided.bin")
+    sheet = read(folder, "lineage.sheet")
     plain = read(folder, "plain.book")
     candidate = read(folder, "candidate.book")
 
@@ -71,6 +73,11 @@ def play(engine: taa1.Engine, folder: str) -> None:
     of_one_side = must("one-sided.bin", engine.ring, parse("one-sided.bin", one_sided))
     print_ring("one-sided ", of_one_side)
     ring = made.ring
+
+    values = must("lineage.sheet", engine.lineage, sheet)
+    print(f"lineage {len(values)} records, {len(values) * taa1.SHEET_VALUE_BYTES} bytes")
+    for value in values:
+        print("lineage", value.hex())
 
     records, sealed = must("plain.book", engine.seal_book, ring, plain)
     print(f"sealed {records} records, {len(sealed)} bytes")

@@ -15,7 +15,9 @@ PLAIN_RECORD_BYTES = 18
 SEALED_RECORD_BYTES = 21
 CHALLENGE_BYTES = 10
 AUTHENTICATION_BYTES = 14  # a response, then a key
-MOST_RECORDS = 1024  # of a book; of challenges in a class
+SHEET_RECORD_BYTES = 22
+SHEET_VALUE_BYTES = 16
+MOST_RECORDS = 1024  # of a book or a sheet; of challenges in a class
 SITTING_BYTES = 83  # of a file with what a ring is made from
 
 
@@ -46,6 +48,9 @@ class Refusal(IntEnum):
     WRONG_LENGTH = 11
     OUTPUT_SHORT = 12
     WRONG_SIDES = 13
+    WRONG_FILLING = 14
+    WRONG_PARENT = 15
+    PARENT_LENGTH = 16
 
 
 NAMES: dict[int, str] = {
@@ -62,6 +67,9 @@ NAMES: dict[int, str] = {
     Refusal.WRONG_LENGTH: "input of a wrong length",
     Refusal.OUTPUT_SHORT: "output shorter than the result",
     Refusal.WRONG_SIDES: "number of sides not 1 to 3",
+    Refusal.WRONG_FILLING: "operation above 5 or wrong filling",
+    Refusal.WRONG_PARENT: "parent not before its record",
+    Refusal.PARENT_LENGTH: "parent of a wrong length",
 }
 
 
@@ -256,6 +264,7 @@ _CALLS: dict[str, tuple[type[ctypes.Structure], tuple[Any, ...]]] = {
     "seal_book": (_BOOK, (bytes, bytes, bytearray)),
     "open_book": (_BOOK, (bytes, bytes, bytearray)),
     "check_plain": (_BOOK, (bytes,)),
+    "lineage": (_BOOK, (bytes, bytearray)),
 }
 
 
@@ -461,3 +470,9 @@ class Engine:
     def check_plain(self, plain: Bytes) -> int:
         """The number of records of a well-formed plain book."""
         return self._call("check_plain", plain).records
+
+    def lineage(self, sheet: Bytes) -> list[bytes]:
+        """The key of each record of a lineage sheet, with zeros behind one of 10 bytes."""
+        content = self._book("lineage", SHEET_VALUE_BYTES, sheet).content
+        starts = range(0, len(content), SHEET_VALUE_BYTES)
+        return [content[at : at + SHEET_VALUE_BYTES] for at in starts]

@@ -18,6 +18,8 @@ from taa1 import (
     PLAIN_RECORD_BYTES,
     RING_BYTES,
     SEALED_RECORD_BYTES,
+    SHEET_RECORD_BYTES,
+    SHEET_VALUE_BYTES,
     SITTING_BYTES,
     KeyNumber,
     Kind,
@@ -79,6 +81,20 @@ BOOK = [
     record(Kind.TA81_G, upward(10) + b"\x0b\x0c"),
 ]
 
+
+def given(key: bytes) -> bytes:
+    """A sheet's record of a given key."""
+    return (bytes([0, 0, 0, 0, 0, len(key)]) + key).ljust(SHEET_RECORD_BYTES, b"\0")
+
+
+def derived(operation: int, first: int, second: int) -> bytes:
+    """A sheet's record of an operation on two others."""
+    parents = first.to_bytes(2, "big") + second.to_bytes(2, "big")
+    return (bytes([operation]) + parents).ljust(SHEET_RECORD_BYTES, b"\0")
+
+
+SHEET = [given(ROOT), given(KEY), derived(1, 0, 1), derived(4, 1, 1)]
+
 # For each call, values that it accepts.
 ACCEPTED: dict[str, tuple[Any, ...]] = {
     "encrypt": (ROOT, BLOCK),
@@ -112,6 +128,7 @@ ACCEPTED: dict[str, tuple[Any, ...]] = {
     "seal_book": (RING, BOOK[0]),
     "open_book": (RING, ENGINE.seal_book(RING, BOOK[0]).content),
     "check_plain": (BOOK[0],),
+    "lineage": (b"".join(SHEET),),
 }
 
 # For each type of value, what must not be taken for it.
@@ -178,6 +195,30 @@ class Results(unittest.TestCase):
                 single = (challenges[at : at + CHALLENGE_BYTES] for at in starts)
                 alone = [ENGINE.ta12(ROOT, challenge, *masks) for challenge in single]
                 self.assertEqual(ENGINE.ta12_class(ROOT, challenges, *masks), alone)
+
+    def test_lineage(self) -> None:
+        """Each operation, the empty sheet, and the longest, a chain."""
+        keys = [ROOT, KEY, upward(10)]
+        sheet = [given(key) for key in keys]
+        for operation, name, first, second in (
+            (1, "ta11", 0, 1),
+            (2, "ta21", 3, 2),
+            (4, "tb4", 1, 2),
+            (5, "ta71", 5, 1),
+            (3, "ta41", 4, 6),
+        ):
+            sheet.append(derived(operation, first, second))
+            keys.append(call(name, keys[first], keys[second]))
+        values = [key.ljust(SHEET_VALUE_BYTES, b"\0") for key in keys]
+        self.assertEqual(ENGINE.lineage(b"".join(sheet)), values)
+        self.assertEqual(ENGINE.lineage(b""), [])
+        keys = [ROOT]
+        sheet = [given(ROOT), given(KEY), derived(1, 0, 1)]
+        sheet += [derived(1, i, 1) for i in range(2, MOST_RECORDS - 1)]
+        for _ in range(2, MOST_RECORDS):
+            keys.append(ENGINE.ta11(keys[-1], KEY))
+        values = ENGINE.lineage(b"".join(sheet))
+        self.assertEqual(values[:1] + values[2:], keys)
 
     def test_seals(self) -> None:
         under10 = xor(upward(10), b"\x07\x08" * 5)
@@ -316,6 +357,20 @@ class Refusals(unittest.TestCase):
             self.refuses(Refusal.WRONG_MASK, 0, "ta12_class", ROOT, challenges, 0, 0)
             self.refuses(Refusal.SHARED_BIT, 0, "ta12_class", ROOT, challenges, 0x3C00, KEY_MASK)
 
+    def test_sheets(self) -> None:
+        """The first record decides, and in it 14 before 15 before 16."""
+        good, bad = b"".join(SHEET), derived(6, 0, 1)
+        long = bytes(SHEET_RECORD_BYTES * MOST_RECORDS + 1)
+        self.refuses(Refusal.BOOK_TOO_LONG, 0, "lineage", long)
+        self.refuses(Refusal.BOOK_NOT_WHOLE, 0, "lineage", good[1:])
+        self.refuses(Refusal.WRONG_FILLING, 4, "lineage", good + bad)
+        self.refuses(Refusal.WRONG_FILLING, 4, "lineage", good + given(KEY + b"\x01"))
+        self.refuses(Refusal.WRONG_FILLING, 4, "lineage", good + derived(1, 4, 4)[:-1] + b"\x01")
+        self.refuses(Refusal.WRONG_PARENT, 4, "lineage", good + derived(1, 4, 1) + bad)
+        self.refuses(Refusal.WRONG_PARENT, 4, "lineage", good + derived(5, 0, 260))
+        self.refuses(Refusal.PARENT_LENGTH, 4, "lineage", good + derived(1, 1, 0) + bad)
+        self.refuses(Refusal.PARENT_LENGTH, 4, "lineage", good + derived(4, 3, 2))
+
     def test_single_calls(self) -> None:
         self.refuses(Refusal.WRONG_NUMBER, None, "ta51", KEY, VERSION, ROOT, KeyNumber(32))
         self.refuses(Refusal.WRONG_MASK, None, "ta12", ROOT, KEY, 0x7000, KEY_MASK)
@@ -332,7 +387,8 @@ class Refusals(unittest.TestCase):
 
     def test_lengths(self) -> None:
         """A string of a wrong length, in each place that has a fixed one."""
-        books = (BOOK[0], ACCEPTED["open_book"][1], ACCEPTED["ta12_class"][1])
+        books = (BOOK[0], *(ACCEPTED[name][-1] for name in ("open_book", "lineage")))
+        books += (ACCEPTED["ta12_class"][1],)
         for name, values in ACCEPTED.items():
             for at, value in enumerate(values):
                 if isinstance(value, bytes) and value not in books:
@@ -373,7 +429,7 @@ class Values(unittest.TestCase):
         """ACCEPTED, which the tests below go by, has each call, and each accepts it."""
         public = {name for name in vars(taa1.Engine) if not name.startswith("_")}
         self.assertEqual(set(ACCEPTED), public)
-        self.assertEqual(len(public), 31)
+        self.assertEqual(len(public), 32)
         for name, values in ACCEPTED.items():
             with self.subTest(name):
                 call(name, *values)

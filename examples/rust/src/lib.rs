@@ -16,7 +16,9 @@ pub const SEALED_RECORD_BYTES: usize = 21;
 pub const CHALLENGE_BYTES: usize = 10;
 /// Bytes of a response and a key.
 pub const AUTHENTICATION_BYTES: usize = 14;
-/// The most records of a book, and the most challenges of a class.
+pub const SHEET_RECORD_BYTES: usize = 22;
+pub const SHEET_VALUE_BYTES: usize = 16;
+/// The most records of a book or a sheet, and the most challenges of a class.
 pub const MOST_RECORDS: usize = 1024;
 /// Bytes of a file with what a ring is made from.
 pub const SITTING_BYTES: usize = 83;
@@ -386,6 +388,16 @@ pub fn check_plain(plain: &[u8]) -> Result<usize, BookRefusal> {
     records(&call!(check_plain([plain])))
 }
 
+/// The key of each record of a lineage sheet of up to [`MOST_RECORDS`], with zeros
+/// behind one of 10 bytes.
+pub fn lineage(sheet: &[u8]) -> Result<Vec<[u8; SHEET_VALUE_BYTES]>, BookRefusal> {
+    let mut out = vec![0; sheet.len() / SHEET_RECORD_BYTES * SHEET_VALUE_BYTES];
+    let answer = call!(lineage([sheet], { out }));
+    let values = book(answer, out)?.bytes;
+    let one = |value: &[u8]| from_fn(|i| value[i]);
+    Ok(values.chunks_exact(SHEET_VALUE_BYTES).map(one).collect())
+}
+
 fn bytes<const N: usize>(answer: raw::Bytes<N>) -> Result<[u8; N], Refusal> {
     Refusal::test(answer.refusal)?;
     Ok(answer.bytes)
@@ -455,5 +467,7 @@ mod tests {
         let (four, ten) = (0xf000, 0x0ffc);
         let answer = call!(ta12_class([key], [challenge], four, ten, { out }));
         assert_eq!(book(answer, out), refused);
+        let (sheet, mut out) = ([0; SHEET_RECORD_BYTES], vec![0; SHEET_VALUE_BYTES - 1]);
+        assert_eq!(book(call!(lineage([sheet], { out })), out), refused);
     }
 }

@@ -105,6 +105,7 @@ macro_rules! calls {
             seal_book([ring], [plain], {out}) -> BookAnswer;
             open_book([ring], [sealed], {out}) -> BookAnswer;
             check_plain([plain]) -> BookAnswer;
+            lineage([sheet], {out}) -> BookAnswer;
         }
     };
 }

@@ -1,4 +1,4 @@
-//! The thirteen refusals.
+//! The sixteen refusals.
 
 use std::error::Error;
 use std::fmt;
@@ -19,10 +19,13 @@ pub enum Refusal {
     WrongLength = 11,
     OutputShort = 12,
     WrongSides = 13,
+    WrongFilling = 14,
+    WrongParent = 15,
+    ParentLength = 16,
 }
 
 impl Refusal {
-    pub const ALL: [Refusal; 13] = [
+    pub const ALL: [Refusal; 16] = [
         Refusal::BookTooLong,
         Refusal::BookNotWhole,
         Refusal::WrongKind,
@@ -36,6 +39,9 @@ impl Refusal {
         Refusal::WrongLength,
         Refusal::OutputShort,
         Refusal::WrongSides,
+        Refusal::WrongFilling,
+        Refusal::WrongParent,
+        Refusal::ParentLength,
     ];
 
     pub fn number(self) -> u32 {
@@ -57,6 +63,9 @@ impl Refusal {
             Refusal::WrongLength => "input of a wrong length",
             Refusal::OutputShort => "output shorter than the result",
             Refusal::WrongSides => "number of sides not 1 to 3",
+            Refusal::WrongFilling => "operation above 5 or wrong filling",
+            Refusal::WrongParent => "parent not before its record",
+            Refusal::ParentLength => "parent of a wrong length",
         }
     }
 
@@ -64,7 +73,7 @@ impl Refusal {
     pub(crate) fn test(number: u32) -> Result<(), Refusal> {
         match number {
             0 => Ok(()),
-            1..=13 => Err(Refusal::ALL[number as usize - 1]),
+            1..=16 => Err(Refusal::ALL[number as usize - 1]),
             _ => unreachable!("the engine has no refusal {number}"),
         }
     }
@@ -78,7 +87,7 @@ impl fmt::Display for Refusal {
 
 impl Error for Refusal {}
 
-/// Why the engine refuses a book or a class, and the first offending record (0
+/// Why the engine refuses a book, a class or a sheet, and the first offending record (0
 /// where the refusal is of no one record).
 #[derive(Clone, Copy, Debug, PartialEq, Eq)]
 pub struct BookRefusal {

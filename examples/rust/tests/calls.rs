@@ -6,7 +6,7 @@ use std::thread;
 use taa1::{
     Authentication, Book, BookRefusal, KeyNumber, Kind, Refusal, RingMade, Sitting, Unsealed,
     UnsealedNumbered, Version, CHALLENGE_BYTES, MOST_RECORDS, PLAIN_RECORD_BYTES, RING_BYTES,
-    SEALED_RECORD_BYTES,
+    SEALED_RECORD_BYTES, SHEET_RECORD_BYTES, SHEET_VALUE_BYTES,
 };
 
 const ROOT: [u8; 16] = *b"a root or key...";
@@ -61,6 +61,24 @@ fn record(kind: Kind, body: [u8; 12]) -> [u8; PLAIN_RECORD_BYTES] {
 /// The body of a cipher key and what follows it.
 fn body(key: [u8; 10], end: [u8; 2]) -> [u8; 12] {
     [&key[..], &end].concat().try_into().unwrap()
+}
+
+/// A sheet's record of a given key.
+fn given(key: &[u8]) -> [u8; SHEET_RECORD_BYTES] {
+    let head = [0, 0, 0, 0, 0, key.len() as u8];
+    from_fn(|i| *head.iter().chain(key).nth(i).unwrap_or(&0))
+}
+
+/// A sheet's record of an operation on two others.
+fn derived(operation: u8, first: u16, second: u16) -> [u8; SHEET_RECORD_BYTES] {
+    let ([a, b], [c, d]) = (first.to_be_bytes(), second.to_be_bytes());
+    let head = [operation, a, b, c, d];
+    from_fn(|i| head.get(i).copied().unwrap_or(0))
+}
+
+/// A key with zeros behind it.
+fn value(key: &[u8]) -> [u8; SHEET_VALUE_BYTES] {
+    from_fn(|i| key.get(i).copied().unwrap_or(0))
 }
 
 #[test]
@@ -124,6 +142,79 @@ fn classes_are_refused() {
         let shared = refused(&ROOT, class, 0x3c00, KEY_MASK);
         assert_eq!(shared, Refusal::SharedBit);
     }
+}
+
+/// Each operation on given and on derived keys, a record cited often, and the
+/// empty sheet.
+#[test]
+fn lineage_is_that_of_single_calls() {
+    let seed = upward::<10>();
+    let mut sheet = vec![given(&ROOT), given(&KEY), given(&seed)];
+    let ta11 = taa1::ta11(&ROOT, &KEY).unwrap();
+    let ta21 = taa1::ta21(&ta11, &seed).unwrap();
+    let tb4 = taa1::tb4(&KEY, &seed).unwrap();
+    let ta71 = taa1::ta71(&tb4, &KEY).unwrap();
+    let ta41 = taa1::ta41(&ta21, &ta71).unwrap();
+    sheet.extend([derived(1, 0, 1), derived(2, 3, 2), derived(4, 1, 2)]);
+    sheet.extend([derived(5, 5, 1), derived(3, 4, 6)]);
+    let mut values = vec![ROOT, value(&KEY), value(&seed), ta11, ta21];
+    values.extend([value(&tb4), value(&ta71), ta41]);
+    assert_eq!(taa1::lineage(&sheet.concat()), Ok(values));
+    assert_eq!(taa1::lineage(&[]), Ok(vec![]));
+}
+
+/// The longest sheet, a chain: each key is made from the one before it.
+#[test]
+fn chains_are_long() {
+    let (mut sheet, mut values) = (vec![given(&ROOT), given(&KEY)], vec![ROOT, value(&KEY)]);
+    for i in 2..MOST_RECORDS {
+        let first = if i == 2 { 0 } else { i - 1 };
+        sheet.push(derived(1, first as u16, 1));
+        values.push(taa1::ta11(&values[first], &KEY).unwrap());
+    }
+    assert_eq!(taa1::lineage(&sheet.concat()), Ok(values));
+    sheet.push(given(&KEY));
+    let refusal = Refusal::BookTooLong;
+    let refused = Err(BookRefusal { refusal, index: 0 });
+    assert_eq!(taa1::lineage(&sheet.concat()), refused);
+}
+
+/// The first record decides, and in it 14 before 15 before 16.
+#[test]
+fn sheets_are_refused() {
+    let refused = |records: &[[u8; SHEET_RECORD_BYTES]], refusal, index| {
+        let sheet = [&[given(&ROOT), given(&KEY)], records].concat().concat();
+        let wanted = Err(BookRefusal { refusal, index });
+        assert_eq!(taa1::lineage(&sheet), wanted);
+    };
+    let changed = |mut record: [u8; SHEET_RECORD_BYTES], at: usize| {
+        record[at] = 1;
+        record
+    };
+    let bad = derived(6, 0, 1);
+    refused(&[bad], Refusal::WrongFilling, 2);
+    for at in [1, 2, 3, 4, 16, 21] {
+        refused(&[changed(given(&KEY), at)], Refusal::WrongFilling, 2);
+    }
+    refused(&[given(&upward::<11>())], Refusal::WrongFilling, 2);
+    refused(&[changed(derived(1, 2, 2), 5)], Refusal::WrongFilling, 2);
+    refused(&[changed(derived(5, 1, 0), 21)], Refusal::WrongFilling, 2);
+    refused(&[derived(1, 2, 1), bad], Refusal::WrongParent, 2);
+    refused(&[derived(1, 1, 2)], Refusal::WrongParent, 2);
+    refused(&[derived(3, 0, 256)], Refusal::WrongParent, 2);
+    refused(&[derived(1, 1, 0), bad], Refusal::ParentLength, 2);
+    refused(
+        &[derived(1, 0, 1), derived(2, 2, 2)],
+        Refusal::ParentLength,
+        3,
+    );
+    refused(
+        &[derived(4, 1, 1), derived(5, 0, 2)],
+        Refusal::ParentLength,
+        3,
+    );
+    let short = taa1::lineage(&given(&KEY)[1..]).unwrap_err();
+    assert_eq!((short.refusal, short.index), (Refusal::BookNotWhole, 0));
 }
 
 #[test]

@@ -1,7 +1,8 @@
-//! Plays a sitting: makes the ring, and the ring of the one-sided sitting, seals
-//! the model book, opens it and seals it again, then opens the candidate's book.
+//! Plays a sitting: makes the ring, and the ring of the one-sided sitting, works
+//! the lineage of its keys, seals the model book, opens it and seals it again, then
+//! opens the candidate's book.
 //!
-//!     sitting [FOLDER]    the folder with the four files; samples by default
+//!     sitting [FOLDER]    the folder with the five files; samples by default
 
 use std::ffi::OsStr;
 use std::io::{self, Write};
@@ -61,6 +62,7 @@ fn hex(bytes: &[u8]) -> String {
 fn play(folder: &OsStr, lines: &mut Vec<String>) -> Result<(), String> {
     let sitting = read(folder, "sitting.bin")?;
     let one_sided = read(folder, "one-sided.bin")?;
+    let sheet = read(folder, "lineage.sheet")?;
     let plain = read(folder, "plain.book")?;
     let candidate = read(folder, "candidate.book")?;
 
@@ -68,6 +70,13 @@ fn play(folder: &OsStr, lines: &mut Vec<String>) -> Result<(), String> {
     lines.extend(ring_lines("", &made));
     let of_one_side = make_ring("one-sided.bin", &one_sided)?;
     lines.extend(ring_lines("one-sided ", &of_one_side));
+
+    let values = taa1::lineage(&sheet).map_err(|e| format!("lineage.sheet: {e}"))?;
+    let (records, length) = (values.len(), values.as_flattened().len());
+    lines.push(format!("lineage {records} records, {length} bytes"));
+    for value in &values {
+        lines.push(format!("lineage {}", hex(value)));
+    }
 
     let sealed = taa1::seal_book(&made.ring, &plain).map_err(|e| format!("plain.book: {e}"))?;
     let (records, length) = (sealed.records, sealed.bytes.len());
