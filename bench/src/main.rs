@@ -10,17 +10,19 @@ mod rust;
 
 use host::both::{self, AUTHENTICATION, CHALLENGE, MOST, RING};
 use host::random::Random;
+use interface::{SHEET_RECORD_BYTES, SHEET_VALUE_BYTES};
 use std::time::{Duration, Instant};
 
 #[rustfmt::skip]
-const ROWS: [&str; 16] = [
+const ROWS: [&str; 18] = [
     "schedule", "block, keys laid out", "schedule and block",
     "TA11", "TA31", "TA32", "TA51", "TA52", "TA81", "TA82", "TA91", "TA92",
     "record sealed", "record opened",
     "TA12, one by one", "TA12, in a class",
+    "TA11, one by one", "TA11, in a sheet",
 ];
-/// The last rows, whose steps are the records of one book or class.
-const LIST_ROWS: usize = 4;
+/// The last rows, whose steps are the records of one book, class or sheet.
+const LIST_ROWS: usize = 6;
 const RECORDS: usize = MOST;
 const STEPS: usize = 2_000;
 const ROUNDS: usize = 300;
@@ -44,6 +46,26 @@ struct Inputs {
     sealed: Vec<u8>,
     /// Those of a class; its session key is the first key.
     challenges: Vec<u8>,
+    /// A chain: the first key, a seed, and TA11 of the record before and the seed.
+    sheet: Vec<u8>,
+}
+
+/// A sheet's record of a given key.
+fn given(key: &[u8]) -> Vec<u8> {
+    let mut record = vec![0; SHEET_RECORD_BYTES];
+    record[5] = key.len() as u8;
+    record[6..6 + key.len()].copy_from_slice(key);
+    record
+}
+
+/// Record i of a chain: TA11 of the key before it and the seed.
+fn derived(i: usize) -> Vec<u8> {
+    let mut record = vec![0; SHEET_RECORD_BYTES];
+    record[0] = 1;
+    let before = if i == 2 { 0 } else { i as u16 - 1 };
+    record[1..3].copy_from_slice(&before.to_be_bytes());
+    record[4] = 1;
+    record
 }
 
 impl Inputs {
@@ -123,6 +145,24 @@ impl Inputs {
             }
         })
     }
+
+    /// The chain of the sheet one by one: each step derives the next key from the
+    /// last one and the seed.
+    fn chain<'a>(&'a self, mut step: impl FnMut(&[u8], &[u8]) -> [u8; 16] + 'a) -> Round<'a> {
+        let key = |i: usize| &self.sheet[SHEET_RECORD_BYTES * i + 6..SHEET_RECORD_BYTES * (i + 1)];
+        self.book(SHEET_VALUE_BYTES, move |out| {
+            let mut values = out.chunks_exact_mut(SHEET_VALUE_BYTES);
+            let (root, seed) = (key(0), key(1));
+            for given in [root, seed] {
+                values.next().unwrap().copy_from_slice(given);
+            }
+            let mut last: [u8; 16] = root.try_into().unwrap();
+            for value in values {
+                last = step(&last, &seed[..10]);
+                value.copy_from_slice(&last);
+            }
+        })
+    }
 }
 
 /// Makes the next text of what an unseal gave.
@@ -164,8 +204,15 @@ fn least(row: &str, steps: usize, mut contenders: [&mut Round; 3]) -> [Option<f6
 fn main() {
     let mut random = Random::from_environment();
     let (ring, plain) = (random.bytes(), random.plain_book(RECORDS));
+    let keys: Vec<[u8; 16]> = (0..STEPS).map(|_| random.bytes()).collect();
+    let start = [given(&keys[0]), given(&random.bytes::<10>())];
     let inputs = Inputs {
-        keys: (0..STEPS).map(|_| random.bytes()).collect(),
+        sheet: start
+            .into_iter()
+            .chain((2..RECORDS).map(derived))
+            .flatten()
+            .collect(),
+        keys,
         block: random.bytes(),
         text: random.bytes(),
         sealed: both::sealed(&ring, &plain),
@@ -198,9 +245,16 @@ fn main() {
         );
         times[i] = a;
     }
-    if let [.., Some(one_by_one), Some(class)] = times {
-        let ratio = shown(Some(class / one_by_one), 2);
-        println!("ours: a class of {RECORDS} takes {ratio} times its challenges one by one");
+    let [.., challenge, class, derivation, sheet] = times;
+    for (list, parts, all, one_by_one) in [
+        ("class", "challenges", class, challenge),
+        ("sheet", "derivations", sheet, derivation),
+    ] {
+        let (Some(all), Some(one_by_one)) = (all, one_by_one) else {
+            continue;
+        };
+        let ratio = shown(Some(all / one_by_one), 2);
+        println!("ours: a {list} of {RECORDS} takes {ratio} times its {parts} one by one");
     }
 }
 

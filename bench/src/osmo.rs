@@ -27,7 +27,14 @@ pub fn rounds(inputs: &Inputs) -> Rounds<'_> {
     let class = [(); 2].map(|()| {
         inputs.challenges(|challenge| osmo::ta12_ta22(&inputs.keys[0], &start(challenge)))
     });
-    calls.chain(books(inputs)).chain(class).collect()
+    // Nor one for a sheet.
+    let chain =
+        [(); 2].map(|()| inputs.chain(|key, seed| osmo::ta11_ta41(&start(key), &start(seed))));
+    calls
+        .chain(books(inputs))
+        .chain(class)
+        .chain(chain)
+        .collect()
 }
 
 fn texts(inputs: &Inputs) -> [Round<'_>; 9] {

@@ -3,6 +3,7 @@
 use crate::{Inputs, Round, Rounds, KEY_MASK, RESPONSE_MASK};
 use host::both::{AUTHENTICATION, PLAIN, SEALED};
 use host::engine;
+use interface::SHEET_VALUE_BYTES;
 
 pub fn rounds(inputs: &Inputs) -> Rounds<'_> {
     let [schedule, block] = steps(inputs);
@@ -28,6 +29,10 @@ pub fn rounds(inputs: &Inputs) -> Rounds<'_> {
                 KEY_MASK,
                 out,
             );
+        }),
+        inputs.chain(|key, seed| engine::ta11(key, seed).bytes),
+        inputs.book(SHEET_VALUE_BYTES, |out| {
+            engine::lineage(&inputs.sheet, out);
         }),
     ];
     let calls = cipher.into_iter().chain(texts!(inputs, engine));

@@ -38,5 +38,7 @@ pub fn rounds(inputs: &Inputs) -> Rounds<'_> {
         }),
     ];
     let calls = cipher.into_iter().chain(texts!(inputs, taa1));
-    calls.chain(lists).collect()
+    // Both rows of the sheet are its derivations one by one.
+    let chain = [(); 2].map(|()| inputs.chain(|key, seed| taa1::ta11(key, seed).bytes));
+    calls.chain(lists).chain(chain).collect()
 }
