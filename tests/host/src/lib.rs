@@ -8,6 +8,7 @@ pub mod class;
 pub mod damaged;
 pub mod engine;
 pub mod hurdle;
+pub mod lineage;
 pub mod random;
 pub mod settings;
 pub mod taa1;

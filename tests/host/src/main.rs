@@ -7,6 +7,8 @@ mod class_calls;
 mod derivation;
 mod edges;
 mod identity;
+mod lineage_calls;
+mod list;
 mod masks;
 mod mixing;
 mod ring;
@@ -27,5 +29,6 @@ fn main() -> ExitCode {
     ring::run(&mut tally, &mut random);
     book_calls::run(&mut tally, &mut random);
     class_calls::run(&mut tally, &mut random);
+    lineage_calls::run(&mut tally, &mut random);
     tally.finish()
 }

@@ -1,0 +1,300 @@
+//! The lineage sheet.
+
+use crate::list::List;
+use host::both::MOST;
+use host::engine;
+use host::lineage::{self, RECORD, VALUE};
+use host::random::Random;
+use host::tally::{Group, Tally};
+use std::array::from_fn;
+
+static LINEAGE: List = List {
+    name: "lineage",
+    engine: engine::lineage,
+    other: lineage::lineage,
+    from: RECORD,
+    to: VALUE,
+};
+
+type Record = [u8; RECORD];
+
+/// A record that holds a key.
+fn given(key: &[u8]) -> Record {
+    from_fn(|i| match i {
+        5 => key.len() as u8,
+        6.. if i - 6 < key.len() => key[i - 6],
+        _ => 0,
+    })
+}
+
+/// A record of two parents.
+fn made(operation: u8, [first, second]: [usize; 2]) -> Record {
+    let mut record = [0; RECORD];
+    record[0] = operation;
+    record[1..3].copy_from_slice(&(first as u16).to_be_bytes());
+    record[3..5].copy_from_slice(&(second as u16).to_be_bytes());
+    record
+}
+
+/// Bytes of a right record's value.
+fn size(record: &Record) -> usize {
+    match record[0] {
+        0 => record[5].into(),
+        1..=3 => 16,
+        _ => 10,
+    }
+}
+
+/// Where the records of a sheet have their parents: anywhere, close before them, or
+/// at the sheet's start.
+#[derive(Clone, Copy)]
+enum Shape {
+    Tree,
+    Chain,
+    Star,
+}
+
+const SHAPES: [Shape; 3] = [Shape::Tree, Shape::Chain, Shape::Star];
+
+/// The index of a record before that has a value of so many bytes.
+fn parent(random: &mut Random, shape: Shape, before: &[Record], wanted: usize) -> usize {
+    let right: Vec<usize> = (0..before.len())
+        .filter(|&i| size(&before[i]) == wanted)
+        .collect();
+    let some = match shape {
+        Shape::Tree => &right[..],
+        Shape::Chain => &right[right.len().saturating_sub(2)..],
+        Shape::Star => &right[..right.len().min(2)],
+    };
+    some[random.below(some.len())]
+}
+
+/// A right sheet. The first two records are given; in a tree others are, too.
+fn sheet(random: &mut Random, shape: Shape, count: usize) -> Vec<Record> {
+    let mut sheet = vec![given(&random.bytes::<16>()), given(&random.bytes::<10>())];
+    while sheet.len() < count {
+        let operation = match shape {
+            Shape::Tree => random.below(6),
+            _ => 1 + random.below(5),
+        };
+        let sizes = [if operation < 4 { 16 } else { 10 }, 10];
+        let parents = sizes.map(|size| parent(random, shape, &sheet, size));
+        let (length, key) = ([10, 16][random.below(2)], random.bytes::<16>());
+        sheet.push(match operation {
+            0 => given(&key[..length]),
+            _ => made(operation as u8, parents),
+        });
+    }
+    sheet.truncate(count);
+    sheet
+}
+
+pub fn run(tally: &mut Tally, random: &mut Random) {
+    tally.group("lineage (random)", |group| {
+        for i in 0..10_000 {
+            let count = random.below(12);
+            let sheet = sheet(random, SHAPES[i % 3], count).concat();
+            let room = (LINEAGE.room(&sheet) + random.below(40)).saturating_sub(2);
+            LINEAGE.compare(group, &sheet, room);
+        }
+    });
+    LINEAGE.groups(tally, &sheet(random, Shape::Tree, MOST + 3).concat());
+    tally.group("lineage (long chains, one record that all cite)", |group| {
+        for shape in SHAPES {
+            for count in [MOST - 1, MOST] {
+                LINEAGE.compare_rooms(group, &sheet(random, shape, count).concat());
+            }
+        }
+    });
+    tally.group("lineage (beside the single calls)", |group| {
+        for i in 0..2_000 {
+            let count = 2 + random.below(12);
+            single(group, &sheet(random, SHAPES[i % 3], count));
+        }
+        for shape in SHAPES {
+            single(group, &sheet(random, shape, MOST));
+        }
+    });
+    tally.group("lineage (another sheet with the same ancestors)", |group| {
+        for i in 0..2_000 {
+            let count = 2 + random.below(12);
+            let sheet = sheet(random, SHAPES[i % 3], count);
+            let index = random.below(count);
+            same_ancestors(group, random, &sheet, index);
+        }
+        let sheet = sheet(random, Shape::Tree, MOST);
+        for index in (0..MOST).step_by(41) {
+            same_ancestors(group, random, &sheet, index);
+        }
+    });
+    tally.group("lineage (faults alone and together)", |group| {
+        for count in [3, 4, 5, 6, 300, MOST - 1, MOST] {
+            faults(group, random, count);
+        }
+    });
+    tally.group("lineage (parents before and behind)", |group| {
+        parents(group, random);
+    });
+    tally.group("lineage (each byte changed to every other)", |group| {
+        let sheet = sheet(random, Shape::Tree, 8).concat();
+        for at in 0..sheet.len() {
+            for change in 1..=255 {
+                let mut sheet = sheet.clone();
+                sheet[at] ^= change;
+                LINEAGE.compare(group, &sheet, 8 * VALUE + 1);
+            }
+        }
+    });
+    tally.group("lineage (garbage)", |group| {
+        for _ in 0..20_000 {
+            let mut sheet = random.vec(4 * RECORD);
+            for byte in &mut sheet {
+                *byte = match random.below(8) {
+                    0 => *byte,
+                    1 => *byte % 8,
+                    2 => [10, 16][random.below(2)],
+                    _ => 0,
+                };
+            }
+            LINEAGE.compare(group, &sheet, 4 * VALUE + 1);
+        }
+    });
+}
+
+/// Wants each value to be what the engine's single calls make of the values at the
+/// parents' indexes.
+fn single(group: &mut Group, sheet: &[Record]) {
+    let values = LINEAGE.made(&sheet.concat());
+    let wanted = sheet.iter().flat_map(|record| {
+        let [first, second] = [1, 3].map(|at| {
+            let parent = usize::from(u16::from_be_bytes([record[at], record[at + 1]]));
+            &values[VALUE * parent..]
+        });
+        let value = match record[0] {
+            0 => record[6..].to_vec(),
+            1 => engine::ta11(&first[..16], &second[..10]).bytes.to_vec(),
+            2 => engine::ta21(&first[..16], &second[..10]).bytes.to_vec(),
+            3 => engine::ta41(&first[..16], &second[..10]).bytes.to_vec(),
+            4 => engine::tb4(&first[..10], &second[..10]).bytes.to_vec(),
+            _ => engine::ta71(&first[..10], &second[..10]).bytes.to_vec(),
+        };
+        from_fn::<u8, VALUE, _>(|i| value.get(i).copied().unwrap_or(0))
+    });
+    LINEAGE.want(group, &sheet.concat(), &wanted.collect::<Vec<u8>>());
+}
+
+/// Another given key of the same length in the place of each record that is no
+/// ancestor of one, and records behind it cut: its value stays.
+fn same_ancestors(group: &mut Group, random: &mut Random, sheet: &[Record], index: usize) {
+    let mut kept = vec![false; sheet.len()];
+    kept[index] = true;
+    for i in (0..=index).rev().filter(|&i| sheet[i][0] != 0) {
+        if kept[i] {
+            for at in [1, 3] {
+                kept[usize::from(u16::from_be_bytes([sheet[i][at], sheet[i][at + 1]]))] = true;
+            }
+        }
+    }
+    let other: Vec<Record> = (0..sheet.len())
+        .map(|i| match kept[i] {
+            true => sheet[i],
+            false => given(&random.vec(size(&sheet[i]))),
+        })
+        .collect();
+    if group.turn() {
+        let value = |sheet: &[Record]| -> [u8; VALUE] {
+            let values = LINEAGE.made(&sheet.concat());
+            from_fn(|i| values[VALUE * index + i])
+        };
+        let wanted = value(sheet);
+        for other in [&other[..], &other[..=index]] {
+            let inputs: [(&str, &dyn std::fmt::Debug); 2] = [("sheet", &sheet), ("index", &index)];
+            group.same("lineage", &inputs, value(other), wanted);
+        }
+    }
+}
+
+/// Wrong records for an index above 1 of a sheet whose first two records have 16
+/// and 10 bytes, with the first refusal that applies.
+fn wrong(index: usize) -> Vec<(u32, Record)> {
+    let changed = |mut record: Record, at: usize, byte: u8| {
+        record[at] = byte;
+        (14, record)
+    };
+    let mut wrong = Vec::new();
+    for operation in [6, 7, 128, 255] {
+        wrong.push((14, made(operation, [0, 1])));
+    }
+    for length in [0, 1, 9, 11, 15, 17, 26, 255] {
+        wrong.push(changed(given(&[7; 10]), 5, length));
+    }
+    for key in [&[7; 10][..], &[7; 16]] {
+        for at in 1..5 {
+            wrong.push(changed(given(key), at, 1));
+        }
+    }
+    for at in 16..RECORD {
+        wrong.push(changed(given(&[7; 10]), at, 0x80));
+    }
+    let behind = [index, index + 1, 256 + index, usize::from(u16::MAX)];
+    for operation in 1..=5 {
+        let right = if operation < 4 { [0, 1] } else { [1, 1] };
+        for (at, byte) in (5..RECORD).zip([10, 16, 1, 0xff].into_iter().cycle()) {
+            wrong.push(changed(made(operation, right), at, byte));
+            wrong.push(changed(made(operation, [index, index]), at, byte));
+        }
+        for parent in behind {
+            for other in [0, 1, parent] {
+                wrong.push((15, made(operation, [parent, other])));
+                wrong.push((15, made(operation, [other, parent])));
+            }
+        }
+        for parents in [[0, 0], [0, 1], [1, 0], [1, 1]] {
+            if parents != right {
+                wrong.push((16, made(operation, parents)));
+            }
+        }
+    }
+    wrong
+}
+
+/// The first wrong record decides, and in it the first of 14, 15 and 16.
+fn faults(group: &mut Group, random: &mut Random, count: usize) {
+    let sheet = sheet(random, Shape::Tree, count);
+    let room = VALUE * count;
+    for index in [2, 3, count / 2, count - 1] {
+        if (2..count).contains(&index) {
+            let mut sheet = sheet.clone();
+            for (refusal, record) in wrong(index) {
+                sheet[index] = record;
+                LINEAGE.want_refused(group, &sheet.concat(), room, (refusal, index));
+                // A second fault, of another number, behind it.
+                if index + 1 < count {
+                    let mut sheet = sheet.clone();
+                    let later = wrong(count - 1);
+                    sheet[count - 1] = later[random.below(later.len())].1;
+                    LINEAGE.want_refused(group, &sheet.concat(), room, (refusal, index));
+                }
+                LINEAGE.want_refused(group, &sheet.concat(), room - 1, (12, 0));
+            }
+        }
+    }
+}
+
+/// Every operation with every pair of parents in a short sheet, as its last record
+/// and as its first.
+fn parents(group: &mut Group, random: &mut Random) {
+    let right = sheet(random, Shape::Tree, 7);
+    for operation in 0..=7 {
+        for first in 0..9 {
+            for second in 0..9 {
+                for index in [0, 1, 6] {
+                    let mut sheet = right.clone();
+                    sheet[index] = made(operation, [first, second]);
+                    LINEAGE.compare_rooms(group, &sheet.concat());
+                    LINEAGE.compare_rooms(group, &sheet[..=index].concat());
+                }
+            }
+        }
+    }
+}
