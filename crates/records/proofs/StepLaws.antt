@@ -9,7 +9,7 @@ use borrow.Author.Tests.{not-true, not-false}
 use Rattle.standard.specs.Books.{sealingKey, named, recordKind, plainFault, openFault}
 use Rattle.standard.specs.Bytes.{_!_, part, bytesOf}
 use Rattle.standard.specs.Identity.{hide, reveal}
-use Rattle.standard.specs.Seals.{clear, kindOf, form, sealed, opened, seal, unseal, clears}
+use Rattle.standard.specs.Seals.{clear, kindOf, form, sealed, opened, seal, unseal, fails, clears}
 use Rattle.standard.specs.Sizes.{plainSize, sealedSize}
 use Rattle.standard.specs.declared.Kind.{Kind}
 use Rattle.standard.specs.declared.Named.{Named}
@@ -38,7 +38,7 @@ open-unknown r t e = rw e
 
 module _ (r t : List ℕ) (k : Kind) (e : kindOf (t ! 0) ≡ Known k) (key : List ℕ) (q : key ≡ form k .key (sealingKey k r) (part 4 2 t)) where
   cleared : (b : Bool) → clear (form k) (opened key (part 6 15 t)) ≡ b → clears (form k) (sealingKey k r) (part 4 2 t) (part 6 15 t) ≡ b
-  unfolding clears
+  unfolding fails
   cleared b h = ap (λ (z : List ℕ). clear (form k) (opened z (part 6 15 t))) (sym q) ∙ h
 
   pub open-set : not (clear (form k) (opened key (part 6 15 t))) ≡ true → 6 ≡ openFault r t

@@ -94,10 +94,10 @@ fn seal_if(long: bool, algorithm: Algorithm, key: [u8; 16], body: [u8; 12]) -> B
 struct UnsealedBody {
     refusal: u32,
     body: [u8; 12],
-    flag: bool,
+    failed_checks: u16,
 }
 
-// The body and the flag of a text, if the strings that it came from had their lengths.
+// The body of a text and its checks that fail, if the strings that it came from had their lengths.
 fn open_if(long: bool, algorithm: Algorithm, key: [u8; 16], text: [u8; 15]) -> UnsealedBody
     ensures { λ r. ⌜ r ≡ unsealedBody long (formOf algorithm) (openedOf key text) ⌝ }
 {
@@ -105,7 +105,7 @@ fn open_if(long: bool, algorithm: Algorithm, key: [u8; 16], text: [u8; 15]) -> U
         return UnsealedBody {
             refusal: WRONG_LENGTH,
             body: [0; 12],
-            flag: false,
+            failed_checks: 0,
         };
     }
     let opened = open_text(algorithm, key, text);
@@ -113,7 +113,7 @@ fn open_if(long: bool, algorithm: Algorithm, key: [u8; 16], text: [u8; 15]) -> U
     UnsealedBody {
         refusal: 0,
         body,
-        flag: opened.flag,
+        failed_checks: opened.failed,
     }
 }
 
@@ -149,7 +149,7 @@ pub fn ta32(text: &[u8], sealing_key: &[u8], version: Version) -> Unsealed
     Unsealed {
         refusal: opened.refusal,
         key: key_part(body),
-        flag: opened.flag,
+        failed_checks: opened.failed_checks,
     }
 }
 
@@ -180,7 +180,7 @@ pub fn ta52(text: &[u8], sealing_key: &[u8], version: Version) -> UnsealedNumber
         refusal: opened.refusal,
         key: key_part(body),
         number: number51(body),
-        flag: opened.flag,
+        failed_checks: opened.failed_checks,
     }
 }
 
@@ -208,7 +208,7 @@ pub fn ta82(text: &[u8], sealing_key: &[u8], version: Version) -> UnsealedNumber
         refusal: opened.refusal,
         key: key_part(body),
         number: number81(body),
-        flag: opened.flag,
+        failed_checks: opened.failed_checks,
     }
 }
 
@@ -228,6 +228,6 @@ pub fn ta92(text: &[u8], sealing_key: &[u8], version: Version) -> UnsealedGroup
     UnsealedGroup {
         refusal: opened.refusal,
         key: body,
-        flag: opened.flag,
+        failed_checks: opened.failed_checks,
     }
 }

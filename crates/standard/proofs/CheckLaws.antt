@@ -1,17 +1,17 @@
--- The check as arithmetic (02, 3): the or of the differences is 0 exactly if the check is clear.
+-- The checks of a text: no bit of their number is set exactly if each finds what it wants, and exactly if their or is 0 (02, 3, 6).
 -- Assumes nothing.
 use mathlib.Core.Bool.{Bool, true, false, _&&_}
 use mathlib.Core.List.{List, [], _∷_}
-use mathlib.Core.Path.{_≡_, refl, sym, ap, ap₂, _∙_}
-use Prim.Native.Nat.{ℕ, suc, _+_, _≤_}
-use native.Mathlib.Nat.{suc-inj, suc-ne-zero}
+use mathlib.Core.Path.{_≡_, refl, sym, ap, ap₂, subst, _∙_}
+use Prim.Native.Nat.{ℕ, zero, suc, _+_, _*_, _/_, _%_, _^_, _<_}
+use native.Mathlib.Nat.{suc-inj, suc-ne-zero, pow-succ', div-div-eq-div-mul}
 use native.Mathlib.Omega.{arith}
 use lib.Bits.{bitAnd, or-add-and, and-le-l, and-le-r, xor-self}
 use lib.Dec.{eqb}
 use lib.ListN.{length}
 use borrow.Author.Tests.{eqb-true, eqb-false, eq-eqb, ne-eqb}
-use Rattle.standard.specs.Bytes.{_⊕_, _∣_, sameOn, same}
-use Rattle.standard.specs.Seals.{clear, differences, orOn, orOf, formOf, opened, clears}
+use Rattle.standard.specs.Bytes.{_!_, bit, _⊕_, _∣_, sameOn, same, choose}
+use Rattle.standard.specs.Seals.{differences, failedOf, clear, orOn, orOf, formOf}
 use Rattle.standard.specs.declared.Algorithm.{Algorithm}
 use Rattle.standard.specs.declared.Algorithm.the-variants.{Ta31, Ta51, Ta81, Ta91}
 use Rattle.standard.proofs.XorLaws.{xor-cancel-r}
@@ -40,8 +40,74 @@ or-same x t e (a ∷ xs) [] l = absurd (suc-ne-zero (length xs) l)
 or-same x t e (a ∷ xs) (b ∷ ys) l =
     or-same (x ∣ (b ⊕ a)) (t && eqb a b) (or-test x (b ⊕ a) ∙ ap₂ _&&_ e (xor-test a b)) xs ys (suc-inj l)
 
+and-assoc : (s t u : Bool) → s && (t && u) ≡ s && t && u
+and-assoc true t u = refl
+and-assoc false t u = refl
+
+-- no bit of the number is set exactly if no check fails
+failed-test : (d : ℕ) (ds : List ℕ) → eqb (failedOf (d ∷ ds)) 0 ≡ eqb d 0 && eqb (failedOf ds) 0
+failed-test d ds = go (eqb d 0) (eqb (failedOf ds) 0) refl
+  where
+    go : (s t : Bool) → eqb (failedOf ds) 0 ≡ t → eqb (choose s 0 1 + 2 * failedOf ds) 0 ≡ s && t
+    go true true e = eq-eqb (0 + 2 * failedOf ds) 0 (omega (arith, eqb-true (failedOf ds) 0 e))
+    go true false e = ne-eqb (0 + 2 * failedOf ds) 0 (λ z. eqb-false (failedOf ds) 0 e (omega (arith, z)))
+    go false t e = ne-eqb (1 + 2 * failedOf ds) 0 (λ z. omega (arith, z))
+
+failed-same : (t : Bool) (xs ys : List ℕ) → length xs ≡ length ys → t && eqb (failedOf (differences xs ys)) 0 ≡ sameOn t xs ys
+failed-same true [] [] l = refl
+failed-same false [] [] l = refl
+failed-same t [] (b ∷ ys) l = absurd (suc-ne-zero (length ys) (sym l))
+failed-same t (a ∷ xs) [] l = absurd (suc-ne-zero (length xs) l)
+failed-same t (a ∷ xs) (b ∷ ys) l =
+    ap (λ (s : Bool). t && s) (failed-test (b ⊕ a) (differences xs ys))
+    ∙ and-assoc t (eqb (b ⊕ a) 0) _ ∙ ap (λ (s : Bool). t && s && eqb (failedOf (differences xs ys)) 0) (xor-test a b)
+    ∙ failed-same (t && eqb a b) xs ys (suc-inj l)
+
+-- no check fails exactly if nothing else is found than what is wanted
+pub none-failed : (xs ys : List ℕ) → length xs ≡ length ys → eqb (failedOf (differences xs ys)) 0 ≡ same xs ys
+none-failed xs ys l = failed-same true xs ys l
+
+-- an algorithm finds as much as it wants
+as-many : (a : Algorithm) (u : List ℕ) → length (formOf a .found u) ≡ length (formOf a .wanted u)
+as-many Ta31 u = refl
+as-many Ta51 u = refl
+as-many Ta81 u = refl
+as-many Ta91 u = refl
+
+pub clear-same : (a : Algorithm) (u : List ℕ) → clear (formOf a) u ≡ same (formOf a .found u) (formOf a .wanted u)
+clear-same a u = none-failed (formOf a .found u) (formOf a .wanted u) (as-many a u)
+
 pub or-clear : (a : Algorithm) (u : List ℕ) → eqb (orOf (formOf a) u) 0 ≡ clear (formOf a) u
-or-clear Ta31 u = or-same 0 true refl (formOf Ta31 .found u) (formOf Ta31 .wanted u) refl
-or-clear Ta51 u = or-same 0 true refl (formOf Ta51 .found u) (formOf Ta51 .wanted u) refl
-or-clear Ta81 u = or-same 0 true refl (formOf Ta81 .found u) (formOf Ta81 .wanted u) refl
-or-clear Ta91 u = or-same 0 true refl (formOf Ta91 .found u) (formOf Ta91 .wanted u) refl
+or-clear a u = or-same 0 true refl (formOf a .found u) (formOf a .wanted u) (as-many a u) ∙ sym (clear-same a u)
+
+-- ---- the bits of the number (02, 6)
+
+-- a number below 2, and twice another behind it
+bit-first : (b n : ℕ) → b < 2 → bit 0 (b + 2 * n) ≡ b
+unfolding bit
+bit-first b n h = omega arith
+
+bit-behind : (b n i : ℕ) → b < 2 → bit (suc i) (b + 2 * n) ≡ bit i n
+unfolding bit
+bit-behind b n i h =
+    let half : (b + 2 * n) / 2 ≡ n = omega arith in
+    ap (λ (x : ℕ). x % 2) (ap (λ (x : ℕ). (b + 2 * n) / x) (pow-succ' 2 i) ∙ sym (div-div-eq-div-mul (b + 2 * n) 2 (2 ^ i)) ∙ ap (λ (x : ℕ). x / 2 ^ i) half)
+
+fails-bit : (d : ℕ) → choose (eqb d 0) 0 1 < 2
+fails-bit d = go (eqb d 0)
+  where
+    go : (t : Bool) → choose t 0 1 < 2
+    go true = omega arith
+    go false = omega arith
+
+-- bit i is that of check i, and no other is set
+pub failed-bit : (ds : List ℕ) (i : ℕ) → i < length ds → bit i (failedOf ds) ≡ choose (eqb (ds ! i) 0) 0 1
+failed-bit [] i h = omega arith
+failed-bit (d ∷ ds) zero h = bit-first _ (failedOf ds) (fails-bit d)
+failed-bit (d ∷ ds) (suc i) h = bit-behind _ (failedOf ds) i (fails-bit d) ∙ failed-bit ds i (omega (arith, h))
+
+pub failed-below : (ds : List ℕ) → failedOf ds < 2 ^ length ds
+failed-below [] = omega arith
+failed-below (d ∷ ds) =
+    let below : choose (eqb d 0) 0 1 + 2 * failedOf ds < 2 * 2 ^ length ds = omega (arith, failed-below ds, fails-bit d) in
+    subst (λ (x : ℕ). failedOf (d ∷ ds) < x) (sym (pow-succ' 2 (length ds))) below

@@ -1,23 +1,28 @@
 -- The facts that the requests ask for (02), proved.
 -- Assumes nothing.
-use mathlib.Core.Bool.{Bool, true, _&&_}
+use mathlib.Core.Bool.{Bool, true, false, _&&_}
 use mathlib.Core.List.{List, [], _∷_, _++_}
-use mathlib.Core.Path.{_≡_, refl, sym, ap₂, _∙_}
+use mathlib.Core.Logic.{_↔_}
+use mathlib.Core.Path.{_≡_, refl, sym, ap, ap₂, fun-ext, _∙_}
 use Prim.Native.Nat.{ℕ, zero, suc, _^_, _<_}
 use native.Mathlib.Nat.{suc-ne-zero}
 use lib.Bits.{xor-zero-r}
 use lib.Dec.{eqb}
 use lib.ListN.{length}
-use borrow.Author.Tests.{eqb-true, eq-eqb, ne-eqb}
-use Rattle.standard.specs.Bytes.{part, xors, zeros}
+use borrow.Author.Tests.{eqb-true, eqb-false, eq-eqb, ne-eqb}
+use Rattle.standard.specs.Books.{recordKind, sealingKey, openRecord, openFault, bookCall, openBook}
+use Rattle.standard.specs.Bytes.{_!_, bit, part, xors, zeros, choose}
 use Rattle.standard.specs.Cores.{bl1With, bl1}
 use Rattle.standard.specs.Derivation.{core, ta11, ta21, chosen, ta12Call, sidesTest, ring, long7, ringCall}
-use Rattle.standard.specs.Facts.{BothSides, IdleChallenge, OneSide, OrIsFlag}
+use Rattle.standard.specs.Facts.{BothSides, IdleChallenge, OneSide, OrIsFlag, ChecksBits, flagClear, FlagIsNonzero, OrIsZero, flagFault, SameBooks}
 use Rattle.standard.specs.Mixing.{tb4, tb7}
 use Rattle.standard.specs.Refusals.{wrongLength, long, maskTests, first, ringMade}
-use Rattle.standard.specs.Seals.{form, opened, clears}
+use Rattle.standard.specs.Seals.{checks, failed, clear, formOf, form, opened, fails, clears}
+use Rattle.standard.specs.Sizes.{plainSize, sealedSize}
+use Rattle.standard.specs.declared.Algorithm.{Algorithm}
+use Rattle.standard.specs.declared.Algorithm.the-variants.{Ta31, Ta51, Ta81, Ta91}
 use Rattle.standard.proofs.BytesLaws.{spelled, long-spelled}
-use Rattle.standard.proofs.CheckLaws.{or-clear}
+use Rattle.standard.proofs.CheckLaws.{clear-same, or-clear, failed-bit, failed-below}
 use Rattle.standard.proofs.DerivationLaws.{masks-ones, length-chosen, long7-split}
 use Rattle.standard.proofs.FirstLaws.{all-pass, none-fails}
 
@@ -98,8 +103,53 @@ one-side = record {
 -- ---- the flag without branches (02, 3)
 
 pub or-is-flag : OrIsFlag
-unfolding clears
+unfolding fails
 or-is-flag k s v t =
     let u = opened (form k .key s v) t in
     let e = or-clear (k .algorithm) u in
     (λ z. sym e ∙ eq-eqb _ 0 z, λ c. eqb-true _ 0 (e ∙ c))
+
+-- ---- part marks for redundancy (02, 6)
+
+-- a bit that is 1 exactly where a check is not 0
+one-where : (b d : ℕ) → b ≡ choose (eqb d 0) 0 1 → (b ≡ 1) ↔ (d ≡ 0 → ⊥)
+one-where b d e = go (eqb d 0) refl e
+  where
+    go : (t : Bool) → eqb d 0 ≡ t → b ≡ choose t 0 1 → (b ≡ 1) ↔ (d ≡ 0 → ⊥)
+    go true z h = (λ o. absurd (suc-ne-zero 0 (sym o ∙ h)), λ n. absurd (n (eqb-true d 0 z)))
+    go false z h = (λ o. eqb-false d 0 z, λ n. h)
+
+pub checks-bits : ChecksBits
+checks-bits = record {
+  bits = λ k u i h. one-where _ (checks (form k) u ! i) (failed-bit (checks (form k) u) i h);
+  below = λ k u. failed-below (checks (form k) u);
+}
+
+-- the flag by the number is 01's
+flag-same : (a : Algorithm) (u : List ℕ) → clear (formOf a) u ≡ flagClear a u
+flag-same Ta31 u = clear-same Ta31 u
+flag-same Ta51 u = clear-same Ta51 u
+flag-same Ta81 u = clear-same Ta81 u
+flag-same Ta91 u = clear-same Ta91 u
+
+pub flag-is-nonzero : FlagIsNonzero
+unfolding fails
+flag-is-nonzero k s v t =
+    let u = opened (form k .key s v) t in
+    let e = flag-same (k .algorithm) u in
+    (λ z. sym e ∙ eq-eqb _ 0 z, λ c. eqb-true _ 0 (e ∙ c))
+
+pub or-is-zero : OrIsZero
+or-is-zero k s v t =
+    let e = or-is-flag k s v t in
+    (λ z. eqb-true _ 0 (e .0 z), λ z. e .1 (eq-eqb _ 0 z))
+
+same-fault : (r t : List ℕ) → openFault r t ≡ flagFault r t
+unfolding openFault fails
+same-fault r t = rw (flag-same (recordKind t .algorithm) (opened (form (recordKind t) .key (sealingKey (recordKind t) r) (part 4 2 t)) (part 6 15 t)))
+
+pub same-books : SameBooks
+unfolding openBook
+same-books r s out =
+    ap (λ (g : List ℕ → ℕ). bookCall (record { size = sealedSize; to = plainSize; fault = g; convert = openRecord r }) r s out)
+    (fun-ext (same-fault r))

@@ -9,14 +9,15 @@ use native.Mathlib.Nat.{mod-eq-of-lt}
 use native.Mathlib.Omega.{arith}
 use lib.Dec.{eqb, leb}
 use borrow.Author.Tests.{eqb-true, leb-true, eq-eqb, le-leb}
-use Rattle.standard.specs.Bytes.{_!_, part, choose, Bytes, Passed}
+use Rattle.standard.specs.Bytes.{_!_, part, same, choose, Bytes, Passed}
 use Rattle.standard.specs.Cores.{bl1}
 use Rattle.standard.specs.Expansions.{grouped, ungrouped, inserted, expected, exp1Groups, exp3Groups, x16Groups}
-use Rattle.standard.specs.Seals.{Form, clear, form31, form51, form81, formOf, without8, sealed, opened, seal, unseal, clears}
+use Rattle.standard.specs.Seals.{Form, clear, form31, form51, form81, formOf, without8, sealed, opened, seal, unseal, fails, clears}
 use Rattle.standard.specs.Refusals.{wrongNumber, notZero}
 use Rattle.standard.specs.declared.Algorithm.{Algorithm}
 use Rattle.standard.specs.declared.Algorithm.the-variants.{Ta31, Ta51, Ta81, Ta91}
 use Rattle.standard.proofs.BytesLaws.{spell, bytes-cons, bytes-one, bytes-zero, bytes-append, bytes-part, and-split, and-join, same-eq, same-refl}
+use Rattle.standard.proofs.CheckLaws.{clear-same}
 use Rattle.standard.proofs.CoreLaws.{sealCore, unsealCore, core}
 use Rattle.standard.proofs.ExpansionLaws.{bytes-grouped, bytes-ungrouped}
 use Rattle.standard.proofs.FirstLaws.{all-pass}
@@ -29,11 +30,11 @@ Body F = Passed 12 (λ b. eqb (F .fault b) 0)
 abbrev pub Clear : Form → List ℕ → List ℕ → List ℕ → Type 0
 Clear F s v = Passed 15 (clears F s v)
 
--- what is asked of a form: the input ends in a zero byte; before it, the check is clear exactly on the expansions of legal bodies, and
--- shrinking gives the body
+-- what is asked of a form: the input ends in a zero byte; before it, the check finds what it wants exactly on the expansions of legal
+-- bodies, and shrinking gives the body
 pub record FormLaw (F : Form) : Type 0 where
   pub ends : (b : List ℕ) → F .input b ≡ part 0 15 (F .input b) ++ 0 ∷ []
-  pub checks : Inverse (Body F) (Passed 15 (clear F)) (λ b. part 0 15 (F .input b)) (F .shrink)
+  pub checks : Inverse (Body F) (Passed 15 (λ u. same (F .found u) (F .wanted u))) (λ b. part 0 15 (F .input b)) (F .shrink)
 
 -- ---- the forms
 
@@ -107,26 +108,28 @@ form-law Ta91 = law81
 -- ---- sealed texts
 
 -- what holds of the form and of the core holds of both, one after the other
-sealing-by : (F : Form) → FormLaw F → (s v : List ℕ) → Inverse (Body F) (Clear F s v) (seal F s v) (unseal F s v)
-unfolding seal unseal clears sealed opened sealCore unsealCore
-sealing-by F law s v =
+sealing-by : (F : Form) → FormLaw F → ((u : List ℕ) → clear F u ≡ same (F .found u) (F .wanted u)) → (s v : List ℕ) → Inverse (Body F) (Clear F s v) (seal F s v) (unseal F s v)
+unfolding seal unseal fails sealed opened sealCore unsealCore
+sealing-by F law flag s v =
     let k = F .key s v in
     let c = core k in
     let L = law .checks in
     let u : List ℕ → List ℕ = λ b. part 0 15 (F .input b) in
     let whole : (b : List ℕ) → without8 (bl1 k (F .input b)) ≡ sealCore k (u b) = λ b. ap (λ (d : List ℕ). without8 (bl1 k d)) (law .ends b) in
+    let found : (t : List ℕ) → Clear F s v t → Passed 15 (λ w. same (F .found w) (F .wanted w)) (unsealCore k t) =
+    λ t h. record { bytes = c .from t (h .bytes); passed = sym (flag (unsealCore k t)) ∙ h .passed } in
     record {
       to = λ b h. rw (whole b) (record {
         bytes = c .to (u b) (L .to b h .bytes);
-        passed = ap (clear F) (c .back (u b) (L .to b h .bytes)) ∙ L .to b h .passed;
+        passed = ap (clear F) (c .back (u b) (L .to b h .bytes)) ∙ flag (u b) ∙ L .to b h .passed;
       });
-      from = λ t h. L .from (unsealCore k t) (record { bytes = c .from t (h .bytes); passed = h .passed });
+      from = λ t h. L .from (unsealCore k t) (found t h);
       back = λ b h. rw (whole b) (ap (F .shrink) (c .back (u b) (L .to b h .bytes)) ∙ L .back b h);
       forth = λ t h.
           whole (F .shrink (unsealCore k t))
-          ∙ ap (sealCore k) (L .forth (unsealCore k t) (record { bytes = c .from t (h .bytes); passed = h .passed }))
+          ∙ ap (sealCore k) (L .forth (unsealCore k t) (found t h))
           ∙ c .forth t (h .bytes);
     }
 
 pub sealing : (a : Algorithm) (s v : List ℕ) → Inverse (Body (formOf a)) (Clear (formOf a) s v) (seal (formOf a) s v) (unseal (formOf a) s v)
-sealing a s v = sealing-by (formOf a) (form-law a) s v
+sealing a s v = sealing-by (formOf a) (form-law a) (clear-same a) s v

@@ -1,16 +1,22 @@
 -- Facts that the requests ask for (02), stated. Their proofs are in proofs/FactLaws.
 -- Assumes nothing.
-use mathlib.Core.Bool.{true}
+use mathlib.Core.Bool.{Bool, true, _&&_}
 use mathlib.Core.List.{List, [], _∷_, _++_}
 use mathlib.Core.Logic.{_↔_}
 use mathlib.Core.Path.{_≡_}
-use Prim.Native.Nat.{ℕ, _^_, _<_}
+use Prim.Native.Nat.{ℕ, _/_, _^_, _<_}
+use lib.Dec.{eqb}
 use lib.ListN.{length}
-use Rattle.standard.specs.Bytes.{part, zeros}
+use Rattle.standard.specs.Books.{isKnown, recordKind, sealingKey, openRecord, bookCall, openBook}
+use Rattle.standard.specs.Bytes.{_!_, bit, part, zeros, same}
 use Rattle.standard.specs.Derivation.{ta11, ta21, ta41, ta12Call, ta22Call, long7, ringCall}
+use Rattle.standard.specs.Expansions.{inserted, expected, exp1Groups, exp3Groups, x16Groups}
 use Rattle.standard.specs.Mixing.{tb4, tb7}
-use Rattle.standard.specs.Refusals.{wrongLength, maskTests, first, ringMade}
-use Rattle.standard.specs.Seals.{form, orOf, opened, clears}
+use Rattle.standard.specs.Refusals.{wrongKind, flagSet, wrongLength, maskTests, first, ringMade}
+use Rattle.standard.specs.Seals.{form, checks, failed, orOf, opened, fails, clears, kindOf}
+use Rattle.standard.specs.Sizes.{plainSize, sealedSize}
+use Rattle.standard.specs.declared.Algorithm.{Algorithm}
+use Rattle.standard.specs.declared.Algorithm.the-variants.{Ta31, Ta51, Ta81, Ta91}
 use Rattle.standard.specs.declared.Authentication.{Authentication}
 use Rattle.standard.specs.declared.Kind.{Kind}
 
@@ -47,3 +53,36 @@ pub record OneSide : Type 0 where
 -- for every kind, sealing key, version and text the or of the differences is 0 exactly if the flag is clear
 abbrev pub OrIsFlag : Type 0
 OrIsFlag = (k : Kind) (s v t : List ℕ) → (orOf (form k) (opened (form k .key s v) t) ≡ 0) ↔ (clears (form k) s v t ≡ true)
+
+-- ---- part marks for redundancy (02, 6)
+
+-- of every kind and every output of BL2: bit i is 1 exactly if check i fails, and no other bit is set
+pub record ChecksBits : Type 0 where
+  pub bits : (k : Kind) (u : List ℕ) (i : ℕ) → i < length (checks (form k) u) → (bit i (failed (form k) u) ≡ 1) ↔ (checks (form k) u ! i ≡ 0 → ⊥)
+  pub below : (k : Kind) (u : List ℕ) → failed (form k) u < 2 ^ length (checks (form k) u)
+
+-- 01's flag is clear exactly if every inserted ⊕ byte is right and, for TA52, the number byte's top three bits are zero
+abbrev pub flagClear : Algorithm → List ℕ → Bool
+flagClear Ta31 u = same (inserted exp1Groups 0 u) (expected exp1Groups 0 u)
+flagClear Ta51 u = same (inserted exp3Groups 0 u) (expected exp3Groups 0 u) && eqb (u ! 13 / 32) 0
+flagClear Ta81 u = same (inserted x16Groups 0 u) (expected x16Groups 0 u)
+flagClear Ta91 u = same (inserted x16Groups 0 u) (expected x16Groups 0 u)
+
+-- for every kind, sealing key, version and text the number is 0 exactly if 01's flag is clear
+abbrev pub FlagIsNonzero : Type 0
+FlagIsNonzero = (k : Kind) (s v t : List ℕ) → (fails (form k) s v t ≡ 0) ↔ (flagClear (k .algorithm) (opened (form k .key s v) t) ≡ true)
+
+-- the or of the checks is 0 exactly if the number is
+abbrev pub OrIsZero : Type 0
+OrIsZero = (k : Kind) (s v t : List ℕ) → (orOf (form k) (opened (form k .key s v) t) ≡ 0) ↔ (fails (form k) s v t ≡ 0)
+
+-- the refusal of a sealed record by 01's flag: 3, then 6; or 0
+abbrev pub flagFault : List ℕ → List ℕ → ℕ
+flagFault r t =
+    let k : Kind = recordKind t in
+    first ((isKnown (kindOf (t ! 0)), wrongKind) ∷ (flagClear (k .algorithm) (opened (form k .key (sealingKey k r) (part 4 2 t)) (part 6 15 t)), flagSet) ∷ [])
+
+-- a book is refused in the same cases, with the same number and index, as by 01's flag
+abbrev pub SameBooks : Type 0
+SameBooks = (r s out : List ℕ)
+    → openBook r s out ≡ bookCall (record { size = sealedSize; to = plainSize; fault = flagFault r; convert = openRecord r }) r s out

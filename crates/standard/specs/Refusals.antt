@@ -137,15 +137,16 @@ authentication r s k = record { refusal = r; response = choose (eqb r 0) s (zero
 abbrev pub identity : ℕ → ℕ → Identity
 identity r n = record { refusal = r; identity = choose (eqb r 0) n 0 }
 
-abbrev pub unsealed : ℕ → List ℕ → Bool → Unsealed
-unsealed r k f = record { refusal = r; key = choose (eqb r 0) k (zeros 10); flag = choose (eqb r 0) f false }
+-- (02, 6) f has a bit for each check of the text that fails
+abbrev pub unsealed : ℕ → List ℕ → ℕ → Unsealed
+unsealed r k f = record { refusal = r; key = choose (eqb r 0) k (zeros 10); «failed_checks» = choose (eqb r 0) f 0 }
 
-abbrev pub unsealedNumbered : ℕ → List ℕ → ℕ → Bool → UnsealedNumbered
+abbrev pub unsealedNumbered : ℕ → List ℕ → ℕ → ℕ → UnsealedNumbered
 unsealedNumbered r k n f =
-    record { refusal = r; key = choose (eqb r 0) k (zeros 10); number = choose (eqb r 0) n 0; flag = choose (eqb r 0) f false }
+    record { refusal = r; key = choose (eqb r 0) k (zeros 10); number = choose (eqb r 0) n 0; «failed_checks» = choose (eqb r 0) f 0 }
 
-abbrev pub unsealedGroup : ℕ → List ℕ → Bool → UnsealedGroup
-unsealedGroup r k f = record { refusal = r; key = choose (eqb r 0) k (zeros 12); flag = choose (eqb r 0) f false }
+abbrev pub unsealedGroup : ℕ → List ℕ → ℕ → UnsealedGroup
+unsealedGroup r k f = record { refusal = r; key = choose (eqb r 0) k (zeros 12); «failed_checks» = choose (eqb r 0) f 0 }
 
 abbrev pub ringMade : ℕ → List ℕ → List ℕ → List ℕ → RingMade
 ringMade r k s t =

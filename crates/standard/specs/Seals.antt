@@ -2,11 +2,11 @@
 -- A body is what a plain record has behind its version, 12 bytes: a key and two zero bytes (kind 1), a key, a zero byte and a number
 -- (kind 2), a key and a number of two bytes (kind 3), or a group key (kind 4). Kinds 5 and 6 are kinds 2 and 3 under another key (02, 4).
 -- Assumes nothing.
-use mathlib.Core.Bool.{Bool, _&&_, not}
+use mathlib.Core.Bool.{Bool, _&&_}
 use mathlib.Core.List.{List, [], _∷_, _++_}
 use Prim.Native.Nat.{ℕ, _+_, _*_, _/_, _%_}
 use lib.Dec.{eqb, leb}
-use Rattle.standard.specs.Bytes.{_!_, _⊕_, _∣_, table, part, xors, zeros, bytesOf, same, choose}
+use Rattle.standard.specs.Bytes.{_!_, _⊕_, _∣_, table, part, xors, zeros, bytesOf, choose}
 use Rattle.standard.specs.Cores.{bl1, bl2}
 use Rattle.standard.specs.Expansions.{ungrouped, inserted, expected, exp1Groups, exp3Groups, x16Groups, exp1, exp3, exp4, x16, shr1, shr2}
 use Rattle.standard.specs.Refusals.{wrongLength, wrongNumber, notZero, long, first, answer15, unsealed, unsealedNumbered, unsealedGroup}
@@ -77,22 +77,34 @@ pub record Form : Type 0 where
   pub fault : List ℕ → ℕ
   pub key : List ℕ → List ℕ → List ℕ
 
--- the check: nothing else is found than what is wanted
-abbrev pub clear : Form → List ℕ → Bool
-clear F u = same (F .found u) (F .wanted u)
-
--- the check as arithmetic (02, 3): what is wanted ⊕ what is found, or-ed together. It is 0 exactly if the check is clear
+-- the checks of BL2's output, leftmost first: what is wanted ⊕ what is found, which is 0 exactly if the check passes
 abbrev pub differences : List ℕ → List ℕ → List ℕ
 differences [] ys = []
 differences (x ∷ xs) [] = []
 differences (x ∷ xs) (y ∷ ys) = y ⊕ x ∷ differences xs ys
 
+abbrev pub checks : Form → List ℕ → List ℕ
+checks F u = differences (F .found u) (F .wanted u)
+
+-- (02, 6) a bit for each check, bit 0 for the leftmost: set exactly if the check fails
+abbrev pub failedOf : List ℕ → ℕ
+failedOf [] = 0
+failedOf (d ∷ ds) = choose (eqb d 0) 0 1 + 2 * failedOf ds
+
+abbrev pub failed : Form → List ℕ → ℕ
+failed F u = failedOf (checks F u)
+
+-- the standard's flag is that number being non-zero
+abbrev pub clear : Form → List ℕ → Bool
+clear F u = eqb (failed F u) 0
+
+-- (02, 3) the checks or-ed together
 abbrev pub orOn : ℕ → List ℕ → ℕ
 orOn x [] = x
 orOn x (y ∷ ys) = orOn (x ∣ y) ys
 
 abbrev pub orOf : Form → List ℕ → ℕ
-orOf F u = orOn 0 (differences (F .found u) (F .wanted u))
+orOf F u = orOn 0 (checks F u)
 
 -- EXP1 of the key, then a zero byte
 abbrev pub form31 : Form
@@ -153,15 +165,18 @@ sealed F k b = without8 (bl1 k (F .input b))
 unfoldable pub opened : List ℕ → List ℕ → List ℕ
 opened k t = bl2 k (with8 t)
 
--- by a sealing key and a version: the sealed text of a body; the body of a text; whether the text's flag is clear
+-- by a sealing key and a version: the sealed text of a body; the body of a text; the text's checks that fail; whether its flag is clear
 unfoldable pub seal : Form → List ℕ → List ℕ → List ℕ → List ℕ
 seal F s v b = sealed F (F .key s v) b
 
 unfoldable pub unseal : Form → List ℕ → List ℕ → List ℕ → List ℕ
 unseal F s v t = F .shrink (opened (F .key s v) t)
 
-unfoldable pub clears : Form → List ℕ → List ℕ → List ℕ → Bool
-clears F s v t = clear F (opened (F .key s v) t)
+unfoldable pub fails : Form → List ℕ → List ℕ → List ℕ → ℕ
+fails F s v t = failed F (opened (F .key s v) t)
+
+abbrev pub clears : Form → List ℕ → List ℕ → List ℕ → Bool
+clears F s v t = eqb (fails F s v t) 0
 
 -- ---- the bodies of single keys
 
@@ -189,7 +204,7 @@ ta31Call ck v s = answer15 (first ((long 10 ck && long 10 s, wrongLength) ∷ []
 unfoldable pub ta32Call : List ℕ → List ℕ → Version → Unsealed
 ta32Call t s v =
     unsealed (first ((long 15 t && long 10 s, wrongLength) ∷ []))
-    (part 0 10 (unseal form31 s (bytesOf 2 (v .0)) t)) (not (clears form31 s (bytesOf 2 (v .0)) t))
+    (part 0 10 (unseal form31 s (bytesOf 2 (v .0)) t)) (fails form31 s (bytesOf 2 (v .0)) t)
 
 unfoldable pub ta51Call : List ℕ → Version → List ℕ → KeyNumber → Bytes15
 ta51Call ck v s n =
@@ -200,7 +215,7 @@ unfoldable pub ta52Call : List ℕ → List ℕ → Version → UnsealedNumbered
 ta52Call t s v =
     unsealedNumbered (first ((long 15 t && long 16 s, wrongLength) ∷ []))
     (part 0 10 (unseal form51 s (bytesOf 2 (v .0)) t)) (unseal form51 s (bytesOf 2 (v .0)) t ! 11)
-    (not (clears form51 s (bytesOf 2 (v .0)) t))
+    (fails form51 s (bytesOf 2 (v .0)) t)
 
 unfoldable pub ta81Call : List ℕ → Version → List ℕ → KeyNumber → Bytes15
 ta81Call ck v s n =
@@ -210,7 +225,7 @@ unfoldable pub ta82Call : List ℕ → List ℕ → Version → UnsealedNumbered
 ta82Call t s v =
     unsealedNumbered (first ((long 15 t && long 16 s, wrongLength) ∷ []))
     (part 0 10 (unseal form81 s (bytesOf 2 (v .0)) t)) (number2 (unseal form81 s (bytesOf 2 (v .0)) t))
-    (not (clears form81 s (bytesOf 2 (v .0)) t))
+    (fails form81 s (bytesOf 2 (v .0)) t)
 
 unfoldable pub ta91Call : List ℕ → Version → List ℕ → Bytes15
 ta91Call gk v s = answer15 (first ((long 12 gk && long 16 s, wrongLength) ∷ [])) (seal form81 s (bytesOf 2 (v .0)) (body91 gk))
@@ -218,4 +233,4 @@ ta91Call gk v s = answer15 (first ((long 12 gk && long 16 s, wrongLength) ∷ []
 unfoldable pub ta92Call : List ℕ → List ℕ → Version → UnsealedGroup
 ta92Call t s v =
     unsealedGroup (first ((long 15 t && long 16 s, wrongLength) ∷ []))
-    (unseal form81 s (bytesOf 2 (v .0)) t) (not (clears form81 s (bytesOf 2 (v .0)) t))
+    (unseal form81 s (bytesOf 2 (v .0)) t) (fails form81 s (bytesOf 2 (v .0)) t)

@@ -116,7 +116,7 @@ pub struct Identity {
 pub struct Unsealed {
     pub refusal: u32,
     pub key: [u8; 10],
-    pub flag: bool,
+    pub failed_checks: u16,
 }
 
 // What TA52 and TA82 answer.
@@ -125,7 +125,7 @@ pub struct UnsealedNumbered {
     pub refusal: u32,
     pub key: [u8; 10],
     pub number: u16,
-    pub flag: bool,
+    pub failed_checks: u16,
 }
 
 // What TA92 answers.
@@ -133,7 +133,7 @@ pub struct UnsealedNumbered {
 pub struct UnsealedGroup {
     pub refusal: u32,
     pub key: [u8; 12],
-    pub flag: bool,
+    pub failed_checks: u16,
 }
 
 // What the ring recipe takes.

@@ -1,5 +1,6 @@
 // A sealed text of a body, and back, under the core's key.
 use crate::forms::body_of;
+use crate::forms::failed_of;
 use crate::forms::input_of;
 use crate::forms::or_of;
 use cores::bl1;
@@ -127,19 +128,19 @@ pub fn seal_body(algorithm: Algorithm, key: [u8; 16], body: [u8; 12]) -> [u8; 15
     without8(bl1(key, input_of(algorithm, body)))
 }
 
-// The body of a sealed text, and its flag.
+// The body of a sealed text, and a bit for each of its checks that fails.
 pub struct Opened {
     pub body: [u8; 12],
-    pub flag: bool,
+    pub failed: u16,
 }
 
 pub fn open_text(algorithm: Algorithm, key: [u8; 16], text: [u8; 15]) -> Opened
-    ensures { λ r. ⌜ OpenedOf (formOf algorithm) (openedOf key text) (r .body) (r .flag) ⌝ }
+    ensures { λ r. ⌜ OpenedOf (formOf algorithm) (openedOf key text) (r .body) (r .failed) ⌝ }
 {
     let u = bl2(key, with8(text));
     Opened {
         body: body_of(algorithm, u),
-        flag: or_of(algorithm, u) != 0,
+        failed: failed_of(algorithm, u),
     }
 }
 

@@ -2,7 +2,7 @@
 -- Assumes nothing.
 use borrow.Author.Needs.{needs}
 use Rattle.seals.proofs.AnswerLaws.{key10-part, opened-part, key-out}
-use Rattle.standard.specs.Seals.{form31, unseal, clears, ta32Call}
+use Rattle.standard.specs.Seals.{form31, unseal, fails, ta32Call}
 use Rattle.seals.proofs.ta32.Statement.{statement}
 use Rattle.seals.proofs.ta32.Tie as tie
 
@@ -25,7 +25,7 @@ key-part-requires : tie.Need-key-part-requires
 key-part-requires c κs = search needs
 
 returns : tie.Need-returns
-unfolding ta32Call unseal clears
+unfolding ta32Call unseal fails
 returns c =
     let o = c .before .before in
     let key = o .before .before in

@@ -4,7 +4,7 @@ use mathlib.Core.Path.{refl}
 use borrow.Author.Needs.{needs}
 use Rattle.seals.proofs.AnswerLaws.{number-out}
 use Rattle.standard.specs.Bytes.{_!_}
-use Rattle.standard.specs.Seals.{form51, unseal, clears, ta52Call}
+use Rattle.standard.specs.Seals.{form51, unseal, fails, ta52Call}
 use Rattle.seals.proofs.ta52.Statement.{statement}
 use Rattle.seals.proofs.ta52.Tie as tie
 
@@ -18,7 +18,7 @@ number51-requires : tie.Need-number51-requires
 number51-requires c κs = search needs
 
 returns : tie.Need-returns
-unfolding ta52Call unseal clears
+unfolding ta52Call unseal fails
 returns c =
     let o = c .before .before .before .open16 in
     rw (c .number51 .ensures, c .before .key-part .ensures) (number-out (o .result) form51 _ (λ b. b ! 11) refl _ (o .ensures))

@@ -3,7 +3,7 @@
 use mathlib.Core.Path.{refl}
 use borrow.Author.Needs.{needs}
 use Rattle.seals.proofs.AnswerLaws.{number-out}
-use Rattle.standard.specs.Seals.{form81, unseal, clears, number2, ta82Call}
+use Rattle.standard.specs.Seals.{form81, unseal, fails, number2, ta82Call}
 use Rattle.seals.proofs.ta82.Statement.{statement}
 use Rattle.seals.proofs.ta82.Tie as tie
 
@@ -17,7 +17,7 @@ number81-requires : tie.Need-number81-requires
 number81-requires c κs = search needs
 
 returns : tie.Need-returns
-unfolding ta82Call unseal clears
+unfolding ta82Call unseal fails
 returns c =
     let o = c .before .before .before .open16 in
     rw (c .number81 .ensures, c .before .key-part .ensures) (number-out (o .result) form81 _ number2 refl _ (o .ensures))

@@ -2,7 +2,7 @@
 -- Assumes nothing.
 use borrow.Author.Needs.{needs}
 use Rattle.seals.proofs.AnswerLaws.{group-key-out}
-use Rattle.standard.specs.Seals.{form81, unseal, clears, ta92Call}
+use Rattle.standard.specs.Seals.{form81, unseal, fails, ta92Call}
 use Rattle.seals.proofs.ta92.Statement.{statement}
 use Rattle.seals.proofs.ta92.Tie as tie
 
@@ -10,7 +10,7 @@ open16-requires : tie.Need-open16-requires
 open16-requires c κs = search needs
 
 returns : tie.Need-returns
-unfolding ta92Call unseal clears
+unfolding ta92Call unseal fails
 returns c = group-key-out (c .before .open16 .result) form81 _ _ (c .before .open16 .ensures)
 
 pub ta92-spec : {M : Type 1} → statement M

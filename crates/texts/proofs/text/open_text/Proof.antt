@@ -1,9 +1,6 @@
 -- `texts::text::open_text` meets its contract.
 -- Assumes nothing.
-use mathlib.Core.Bool.{not}
-use mathlib.Core.Path.{ap}
 use borrow.Author.Needs.{needs}
-use Rattle.standard.proofs.CheckLaws.{or-clear}
 use Rattle.standard.specs.Seals.{opened}
 use Rattle.texts.proofs.text.open_text.Statement.{statement}
 use Rattle.texts.proofs.text.open_text.Tie as tie
@@ -17,8 +14,8 @@ bl2-requires c κs = search needs
 body-of-requires : tie.Need-body-of-requires
 body-of-requires c κs = search needs
 
-or-of-requires : tie.Need-or-of-requires
-or-of-requires c κs = search needs
+failed-of-requires : tie.Need-failed-of-requires
+failed-of-requires c κs = search needs
 
 returns : tie.Need-returns
 unfolding opened
@@ -26,11 +23,9 @@ returns c =
     let made = c .before .before in
     record {
       is = rw (c .before .body-of .ensures, made .bl2 .ensures, made .before .with8 .ensures);
-      told =
-          rw (c .or-of .ensures, made .bl2 .ensures, made .before .with8 .ensures)
-          (ap not (or-clear (c .before .before .before .before .args .algorithm) _));
+      told = rw (c .failed-of .ensures, made .bl2 .ensures, made .before .with8 .ensures);
     }
 
 pub open-text-spec : {M : Type 1} → statement M
 open-text-spec =
-    tie.close (tie.spec with8-requires bl2-requires body-of-requires or-of-requires returns)
+    tie.close (tie.spec with8-requires bl2-requires body-of-requires failed-of-requires returns)

@@ -1,0 +1,15 @@
+-- `texts::forms::failed_of` meets its contract.
+-- Assumes nothing.
+use mathlib.Core.Path.{_∙_}
+use borrow.Author.Needs.{needs}
+use Rattle.texts.proofs.PadLaws.{failed-padded}
+use Rattle.texts.proofs.forms.failed_of.Statement.{statement}
+use Rattle.texts.proofs.forms.failed_of.Tie as tie
+
+returns : tie.Need-returns
+returns c =
+    let made = c .before in
+    rw (c .marked .ensures, made .checks-of .ensures) (failed-padded (made .before .args .algorithm) _)
+
+pub failed-of-spec : {M : Type 1} → statement M
+failed-of-spec = tie.close (tie.spec (λ c κs. search needs) (λ c κs. search needs) returns)

@@ -1,0 +1,13 @@
+-- `texts::forms::fails` meets its contract.
+-- Assumes nothing.
+use Prim.Native.Nat.{_<_}
+use borrow.Author.Needs.{needs}
+use Rattle.texts.proofs.PadLaws.{fails-bit}
+use Rattle.texts.proofs.forms.fails.Statement.{statement}
+use Rattle.texts.proofs.forms.fails.Tie as tie
+
+returns : tie.Need-returns
+returns c = let h : c .args .d < 256 = search needs in fails-bit (c .args .d) h
+
+pub fails-spec : {M : Type 1} → statement M
+fails-spec = tie.close (tie.spec (λ c. search needs) returns)
