@@ -46,6 +46,14 @@ enum {
     TAA1_SITTING_BYTES = 83         /* of a file with what taa1_ring takes */
 };
 
+/* How many checks an unsealed text has. */
+enum {
+    TAA1_TA32_CHECKS = 5,
+    TAA1_TA52_CHECKS = 5,
+    TAA1_TA82_CHECKS = 3,
+    TAA1_TA92_CHECKS = 3
+};
+
 /* The kinds of a record, by the call that seals the key; the last two seal it under G. */
 enum taa1_kind {
     TAA1_KIND_TA31 = 1,
@@ -150,24 +158,30 @@ typedef struct {
     uint32_t identity;
 } taa1_identity;
 
-/* A set flag says that the text is not what sealing gives; it is no refusal. */
+/*
+ * A bit of failed_checks is set exactly if its check of the text fails. Bit 0
+ * stands for the leftmost inserted byte, the next for the one to its right, and so
+ * on; with TA52 the last, bit 4, stands for the three zero bits of the number
+ * byte. The manipulation flag of the standard is that the number is not 0: then
+ * the text is not what sealing gives. That is no refusal.
+ */
 typedef struct {
     uint32_t refusal;
     uint8_t key[10];
-    bool flag;
+    uint16_t failed_checks;
 } taa1_unsealed;
 
 typedef struct {
     uint32_t refusal;
     uint8_t key[10];
     uint16_t number;
-    bool flag;
+    uint16_t failed_checks;
 } taa1_unsealed_numbered;
 
 typedef struct {
     uint32_t refusal;
     uint8_t key[12];
-    bool flag;
+    uint16_t failed_checks;
 } taa1_unsealed_group;
 
 typedef struct {

@@ -126,15 +126,15 @@ static void single_calls(bool at_end, int longer)
     CHECK(taa1_ring(S(root), S(key), S(key2), S(key), S(key2), S(key), S(group_key),
                     0, response_mask, key_mask).refusal == no_sides);
 
-    /* A random text has its flag set, or the answer is zero. */
+    /* Of a random text a check fails, or the answer is zero. */
     taa1_unsealed kind1 = taa1_ta32(S(text), S(key), version);
     taa1_unsealed_numbered kind2 = taa1_ta52(S(text), S(root), version);
     taa1_unsealed_numbered kind3 = taa1_ta82(S(text), S(root), version);
     taa1_unsealed_group kind4 = taa1_ta92(S(text), S(root), version);
-    CHECK(kind1.refusal == wanted && kind1.flag == (longer == 0));
-    CHECK(kind2.refusal == wanted && kind2.flag == (longer == 0));
-    CHECK(kind3.refusal == wanted && kind3.flag == (longer == 0));
-    CHECK(kind4.refusal == wanted && kind4.flag == (longer == 0));
+    CHECK(kind1.refusal == wanted && (kind1.failed_checks != 0) == (longer == 0));
+    CHECK(kind2.refusal == wanted && (kind2.failed_checks != 0) == (longer == 0));
+    CHECK(kind3.refusal == wanted && (kind3.failed_checks != 0) == (longer == 0));
+    CHECK(kind4.refusal == wanted && (kind4.failed_checks != 0) == (longer == 0));
 
     give_back(block);
     give_back(key);

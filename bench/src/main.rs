@@ -165,11 +165,12 @@ impl Inputs {
     }
 }
 
-/// Makes the next text of what an unseal gave.
-fn put(text: &mut [u8; 15], key: &[u8], number: u16, flag: u8) {
+/// Makes the next text of what an unseal gave. osmo-tetra tells of the checks only
+/// whether one failed.
+fn put(text: &mut [u8; 15], key: &[u8], number: u16, failed: bool) {
     text[..key.len()].copy_from_slice(key);
     text[13] ^= number as u8;
-    text[14] ^= flag;
+    text[14] ^= u8::from(failed);
 }
 
 #[cfg(peer)]

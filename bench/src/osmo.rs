@@ -50,26 +50,26 @@ fn texts(inputs: &Inputs) -> [Round<'_>; 9] {
         inputs.texts(move |i, text| *text = osmo::ta31(&start(text), &version, &seal_keys[i])),
         inputs.texts(move |i, text| {
             let (key, [flag]) = osmo::ta32(text, &version, &unseal_keys[i]);
-            put(text, &key, 0, flag);
+            put(text, &key, 0, flag != 0);
         }),
         inputs.texts(move |i, text| {
             *text = osmo::ta51(&start(text), &version, &keys[i], &[number[1]]);
         }),
         inputs.texts(move |i, text| {
             let (key, [flag], [byte]) = osmo::ta52(text, &keys[i], &version);
-            put(text, &key, u16::from(byte % 32), flag);
+            put(text, &key, u16::from(byte % 32), flag != 0);
         }),
         inputs.texts(move |i, text| {
             *text = osmo::ta81(&start(text), &version, &number, &keys[i]);
         }),
         inputs.texts(move |i, text| {
             let (key, [flag], number) = osmo::ta82(text, &version, &keys[i]);
-            put(text, &key, u16::from_be_bytes(number), flag);
+            put(text, &key, u16::from_be_bytes(number), flag != 0);
         }),
         inputs.texts(move |i, text| *text = osmo::ta91(&start(text), &version, &keys[i])),
         inputs.texts(move |i, text| {
             let (key, [flag]) = osmo::ta92(text, &version, &keys[i]);
-            put(text, &key, 0, flag);
+            put(text, &key, 0, flag != 0);
         }),
     ]
 }

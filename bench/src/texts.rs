@@ -15,28 +15,28 @@ macro_rules! texts {
             }),
             $inputs.texts(|i, text| {
                 let opened = $calls::ta32(text, &keys[i][..10], VERSION.into());
-                put(text, &opened.key, 0, opened.flag.into());
+                put(text, &opened.key, 0, opened.failed_checks != 0);
             }),
             $inputs.texts(|i, text| {
                 *text = $calls::ta51(&text[..10], VERSION.into(), &keys[i], NUMBER.into()).bytes;
             }),
             $inputs.texts(|i, text| {
                 let opened = $calls::ta52(text, &keys[i], VERSION.into());
-                put(text, &opened.key, opened.number, opened.flag.into());
+                put(text, &opened.key, opened.number, opened.failed_checks != 0);
             }),
             $inputs.texts(|i, text| {
                 *text = $calls::ta81(&text[..10], VERSION.into(), &keys[i], NUMBER.into()).bytes;
             }),
             $inputs.texts(|i, text| {
                 let opened = $calls::ta82(text, &keys[i], VERSION.into());
-                put(text, &opened.key, opened.number, opened.flag.into());
+                put(text, &opened.key, opened.number, opened.failed_checks != 0);
             }),
             $inputs.texts(|i, text| {
                 *text = $calls::ta91(&text[..12], VERSION.into(), &keys[i]).bytes;
             }),
             $inputs.texts(|i, text| {
                 let opened = $calls::ta92(text, &keys[i], VERSION.into());
-                put(text, &opened.key, 0, opened.flag.into());
+                put(text, &opened.key, 0, opened.failed_checks != 0);
             }),
         ]
     }};

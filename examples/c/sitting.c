@@ -1,7 +1,7 @@
 /*
  * Plays a sitting: makes the ring, and the ring of the one-sided sitting, works
  * the lineage of its keys, seals the model book, opens it and seals it again, then
- * opens the candidate's book.
+ * opens the candidate's book and gives part marks for the text that seals no key.
  *
  *     sitting [FOLDER]    the folder with the five files; samples by default
  */
@@ -94,6 +94,42 @@ static void print_ring(const char *words, const taa1_ring_made *made) {
     print_hex("response 2", made->response2, sizeof made->response2);
 }
 
+/* The checks of a sealed record's text that fail, a bit for each, of how many. */
+typedef struct {
+    unsigned failed;
+    int count;
+} checks;
+
+static checks checks_of(const uint8_t *ring, const uint8_t *record) {
+    const uint8_t *d = ring, *o = ring + 10, *g = ring + 36, *text = record + 6;
+    taa1_version version = {(uint16_t)(record[4] << 8 | record[5])};
+    switch (record[0]) {
+    case TAA1_KIND_TA31:
+        return (checks){taa1_ta32(text, 15, d, 10, version).failed_checks, TAA1_TA32_CHECKS};
+    case TAA1_KIND_TA51:
+        return (checks){taa1_ta52(text, 15, o, 16, version).failed_checks, TAA1_TA52_CHECKS};
+    case TAA1_KIND_TA51_G:
+        return (checks){taa1_ta52(text, 15, g, 16, version).failed_checks, TAA1_TA52_CHECKS};
+    case TAA1_KIND_TA81:
+        return (checks){taa1_ta82(text, 15, o, 16, version).failed_checks, TAA1_TA82_CHECKS};
+    case TAA1_KIND_TA81_G:
+        return (checks){taa1_ta82(text, 15, g, 16, version).failed_checks, TAA1_TA82_CHECKS};
+    default:
+        return (checks){taa1_ta92(text, 15, o, 16, version).failed_checks, TAA1_TA92_CHECKS};
+    }
+}
+
+/* Part marks: which checks of a record fail, leftmost first. */
+static void print_marks(size_t index, checks of) {
+    printf("record %zu, of %d checks failed:", index, of.count);
+    for (int place = 0; place < of.count; place++) {
+        if (of.failed >> place & 1) {
+            printf(" %d", place);
+        }
+    }
+    putchar('\n');
+}
+
 int main(int argc, char **argv) {
     static contents sitting, one_sided, sheet, plain, candidate;
     static uint8_t values[LONGEST], sealed[LONGEST], opened[LONGEST], again[LONGEST];
@@ -144,6 +180,10 @@ int main(int argc, char **argv) {
                             sizeof opened);
     if (answer.refusal != TAA1_ACCEPTED) {
         print_refusal(stdout, answer);
+        if (answer.refusal == TAA1_FLAG_SET) {
+            const uint8_t *record = candidate.bytes + answer.index * TAA1_SEALED_RECORD_BYTES;
+            print_marks(answer.index, checks_of(ring, record));
+        }
     } else {
         printf("accepted %zu records, %zu bytes\n", answer.index, answer.written);
     }

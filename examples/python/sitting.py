@@ -1,6 +1,6 @@
 """Plays a sitting: makes the ring, and the ring of the one-sided sitting, works the
 lineage of its keys, seals the model book, opens it and seals it again, then opens
-the candidate's book.
+the candidate's book and gives part marks for the text that seals no key.
 
     sitting.py LIBRARY [FOLDER]
 
@@ -60,6 +60,23 @@ def print_ring(words: str, made: taa1.RingMade) -> None:
     print(f"{words}response 2 {made.response2.hex()}")
 
 
+def print_marks(engine: taa1.Engine, ring: bytes, index: int, record: bytes) -> None:
+    """Part marks: which checks of a sealed record's text fail, leftmost first."""
+    d, o, g = ring[:10], ring[10:26], ring[36:]
+    unseal, key, count = {
+        taa1.Kind.TA31: (engine.ta32, d, taa1.TA32_CHECKS),
+        taa1.Kind.TA51: (engine.ta52, o, taa1.TA52_CHECKS),
+        taa1.Kind.TA81: (engine.ta82, o, taa1.TA82_CHECKS),
+        taa1.Kind.TA91: (engine.ta92, o, taa1.TA92_CHECKS),
+        taa1.Kind.TA51_G: (engine.ta52, g, taa1.TA52_CHECKS),
+        taa1.Kind.TA81_G: (engine.ta82, g, taa1.TA82_CHECKS),
+    }[taa1.Kind(record[0])]
+    version = taa1.Version(int.from_bytes(record[4:6], "big"))
+    failed = must("candidate.book", unseal, record[6:], key, version).failed_checks
+    places = "".join(f" {place}" for place in failed)
+    print(f"record {index}, of {count} checks failed:{places}")
+
+
 def play(engine: taa1.Engine, folder: str) -> None:
     """Plays the sitting of a folder."""
     sitting = read(folder, "sitting.bin")
@@ -99,6 +116,10 @@ def play(engine: taa1.Engine, folder: str) -> None:
         print(f"accepted {records} records, {len(opened)} bytes")
     except taa1.Refused as refused:
         print(refused)
+        if refused.number == taa1.Refusal.FLAG_SET:
+            at = refused.index * taa1.SEALED_RECORD_BYTES
+            record = candidate[at : at + taa1.SEALED_RECORD_BYTES]
+            print_marks(engine, ring, refused.index, record)
 
 
 def main() -> None:

@@ -3,10 +3,10 @@
 from __future__ import annotations
 
 import ctypes
-from ctypes import c_bool, c_char, c_char_p, c_size_t, c_uint8, c_uint16, c_uint32, c_uint64
+from ctypes import c_char, c_char_p, c_size_t, c_uint8, c_uint16, c_uint32, c_uint64
 from dataclasses import dataclass
 from enum import IntEnum
-from typing import Any, Callable, NamedTuple, Union
+from typing import Any, Callable, Iterator, NamedTuple, Union
 
 Bytes = Union[bytes, bytearray, memoryview]
 
@@ -19,6 +19,12 @@ SHEET_RECORD_BYTES = 22
 SHEET_VALUE_BYTES = 16
 MOST_RECORDS = 1024  # of a book or a sheet; of challenges in a class
 SITTING_BYTES = 83  # of a file with what a ring is made from
+
+# How many checks an unsealed text has.
+TA32_CHECKS = 5
+TA52_CHECKS = 5
+TA82_CHECKS = 3
+TA92_CHECKS = 3
 
 
 class Kind(IntEnum):
@@ -158,19 +164,32 @@ class Authentication(NamedTuple):
     key: bytes
 
 
+class FailedChecks(int):
+    """The checks of an unsealed text that fail, a bit for each.
+
+    Bit 0 stands for the leftmost inserted byte, and so on rightwards; with TA52 bit 4
+    stands for the three zero bits of the number byte. 0 says that the standard's flag
+    is clear: the text is what sealing gives.
+    """
+
+    def __iter__(self) -> Iterator[int]:
+        """The places of those that fail, leftmost first."""
+        return (place for place in range(self.bit_length()) if self >> place & 1)
+
+
 class Unsealed(NamedTuple):
-    """A cipher key or group key. A set flag says that the text is not what sealing gives."""
+    """A cipher key or group key, and the text's checks that fail."""
 
     key: bytes
-    flag: bool
+    failed_checks: FailedChecks
 
 
 class UnsealedNumbered(NamedTuple):
-    """A key and its number. A set flag says that the text is not what sealing gives."""
+    """A key and its number, and the text's checks that fail."""
 
     key: bytes
     number: KeyNumber
-    flag: bool
+    failed_checks: FailedChecks
 
 
 class Book(NamedTuple):
@@ -187,9 +206,14 @@ class _Written(NamedTuple):
     length: int
 
 
-def _numbered(key: bytes, number: int, flag: bool) -> UnsealedNumbered:
+def _unsealed(key: bytes, failed_checks: int) -> Unsealed:
     """The result from an answer's fields."""
-    return UnsealedNumbered(key, KeyNumber(number), flag)
+    return Unsealed(key, FailedChecks(failed_checks))
+
+
+def _numbered(key: bytes, number: int, failed_checks: int) -> UnsealedNumbered:
+    """The result from an answer's fields."""
+    return UnsealedNumbered(key, KeyNumber(number), FailedChecks(failed_checks))
 
 
 def _answer(result: Callable[..., Any], **fields: Any) -> type[ctypes.Structure]:
@@ -205,9 +229,11 @@ _BYTES15 = _answer(bytes, bytes=c_uint8 * 15)
 _BYTES16 = _answer(bytes, bytes=c_uint8 * 16)
 _AUTHENTICATION = _answer(Authentication, response=c_uint8 * 4, key=c_uint8 * 10)
 _IDENTITY = _answer(int, identity=c_uint32)
-_UNSEALED = _answer(Unsealed, key=c_uint8 * 10, flag=c_bool)
-_UNSEALED_NUMBERED = _answer(_numbered, key=c_uint8 * 10, number=c_uint16, flag=c_bool)
-_UNSEALED_GROUP = _answer(Unsealed, key=c_uint8 * 12, flag=c_bool)
+_UNSEALED = _answer(_unsealed, key=c_uint8 * 10, failed_checks=c_uint16)
+_UNSEALED_NUMBERED = _answer(
+    _numbered, key=c_uint8 * 10, number=c_uint16, failed_checks=c_uint16
+)
+_UNSEALED_GROUP = _answer(_unsealed, key=c_uint8 * 12, failed_checks=c_uint16)
 _RING_MADE = _answer(
     RingMade, ring=c_uint8 * RING_BYTES, response1=c_uint8 * 4, response2=c_uint8 * 4
 )

@@ -233,15 +233,33 @@ class Results(unittest.TestCase):
         self.assertEqual(ENGINE.ta81(key, VERSION, under16, KeyNumber(0x0B0C)), wide)
         self.assertEqual(ENGINE.ta91(group_key, VERSION, under16), wide)
 
-        self.assertEqual(ENGINE.ta32(kind1, under10, VERSION), (key, False))
-        self.assertEqual(ENGINE.ta52(kind2, under16, VERSION), (key, KeyNumber(0x0B), False))
-        self.assertEqual(ENGINE.ta82(wide, under16, VERSION), (key, KeyNumber(0x0B0C), False))
-        self.assertEqual(ENGINE.ta92(wide, under16, VERSION), (group_key, False))
+        self.assertEqual(ENGINE.ta32(kind1, under10, VERSION), (key, 0))
+        self.assertEqual(ENGINE.ta52(kind2, under16, VERSION), (key, KeyNumber(0x0B), 0))
+        self.assertEqual(ENGINE.ta82(wide, under16, VERSION), (key, KeyNumber(0x0B0C), 0))
+        self.assertEqual(ENGINE.ta92(wide, under16, VERSION), (group_key, 0))
 
-    def test_flags(self) -> None:
-        for name in ("ta32", "ta52", "ta82", "ta92"):
-            with self.subTest(name):
-                self.assertIs(call(name, *ACCEPTED[name]).flag, True)
+    def test_failed_checks(self) -> None:
+        """Each check fails by itself where its byte, or a top bit of the number, is another."""
+        under10 = xor(upward(10), b"\x07\x08" * 5)
+        under16 = xor(ROOT, b"\x07\x08" * 8)
+        for name, core_key, sealing_key, expanded, inserted in (
+            ("ta32", EXP4, under10, EXP1 + b"\0", (2, 5, 8, 11, 14)),
+            ("ta52", ROOT, under16, EXP3 + b"\0", (2, 6, 10, 14)),
+            ("ta82", ROOT, under16, X16, (4, 9, 14)),
+            ("ta92", ROOT, under16, X16, (4, 9, 14)),
+        ):
+            for place, at in enumerate(inserted):
+                with self.subTest(name, place=place):
+                    other = bytearray(expanded)
+                    other[at] ^= 1
+                    failed = call(name, sealed(core_key, bytes(other)), sealing_key, VERSION)
+                    self.assertEqual(failed.failed_checks, 1 << place)
+                    self.assertEqual(list(failed.failed_checks), [place])
+        wide = bytearray(EXP3 + b"\0")
+        wide[13] ^= 0x80
+        wide[14] ^= 0x80
+        opened = ENGINE.ta52(sealed(ROOT, bytes(wide)), under16, VERSION)
+        self.assertEqual(opened.failed_checks, 0b10000)
 
     def test_identities(self) -> None:
         # The first record of the sample sitting.

@@ -3,11 +3,13 @@
 //! A byte string may have any length: the engine refuses a wrong one. The calls
 //! share nothing, so any number of threads may make them at once.
 
+mod checks;
 pub mod raw;
 mod refusal;
 
 use std::array::from_fn;
 
+pub use checks::FailedChecks;
 pub use refusal::{BookRefusal, Refusal};
 
 pub const RING_BYTES: usize = 52;
@@ -22,6 +24,12 @@ pub const SHEET_VALUE_BYTES: usize = 16;
 pub const MOST_RECORDS: usize = 1024;
 /// Bytes of a file with what a ring is made from.
 pub const SITTING_BYTES: usize = 83;
+
+/// How many checks an unsealed text has.
+pub const TA32_CHECKS: usize = 5;
+pub const TA52_CHECKS: usize = 5;
+pub const TA82_CHECKS: usize = 3;
+pub const TA92_CHECKS: usize = 3;
 
 /// The kinds of a record, by the call that seals the key; the last two seal it
 /// under G.
@@ -90,21 +98,19 @@ pub struct Authentication {
     pub key: [u8; 10],
 }
 
-/// A cipher key of 10 bytes or a group key of 12. A set flag says that the text
-/// is not what sealing gives.
+/// A cipher key of 10 bytes or a group key of 12, and the text's checks that fail.
 #[derive(Clone, Copy, Debug, PartialEq, Eq)]
 pub struct Unsealed<const N: usize> {
     pub key: [u8; N],
-    pub flag: bool,
+    pub failed_checks: FailedChecks,
 }
 
-/// A cipher key and its number. A set flag says that the text is not what
-/// sealing gives.
+/// A cipher key and its number, and the text's checks that fail.
 #[derive(Clone, Copy, Debug, PartialEq, Eq)]
 pub struct UnsealedNumbered {
     pub key: [u8; 10],
     pub number: KeyNumber,
-    pub flag: bool,
+    pub failed_checks: FailedChecks,
 }
 
 /// A book that the engine wrote, and the number of its records.
@@ -415,7 +421,7 @@ fn unsealed<const N: usize>(answer: raw::Unsealed<N>) -> Result<Unsealed<N>, Ref
     Refusal::test(answer.refusal)?;
     Ok(Unsealed {
         key: answer.key,
-        flag: answer.flag != 0,
+        failed_checks: FailedChecks(answer.failed_checks),
     })
 }
 
@@ -424,7 +430,7 @@ fn numbered(answer: raw::UnsealedNumbered) -> Result<UnsealedNumbered, Refusal> 
     Ok(UnsealedNumbered {
         key: answer.key,
         number: KeyNumber(answer.number),
-        flag: answer.flag != 0,
+        failed_checks: FailedChecks(answer.failed_checks),
     })
 }
 

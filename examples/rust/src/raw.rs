@@ -4,9 +4,6 @@
 
 use crate::{KeyNumber, Version, RING_BYTES};
 
-/// C's bool. A byte here, since Rust's bool may be nothing but 0 and 1.
-pub type Flag = u8;
-
 #[repr(C)]
 #[derive(Clone, Copy, Debug, PartialEq, Eq)]
 pub struct Bytes<const N: usize> {
@@ -34,7 +31,7 @@ pub struct Identity {
 pub struct Unsealed<const N: usize> {
     pub refusal: u32,
     pub key: [u8; N],
-    pub flag: Flag,
+    pub failed_checks: u16,
 }
 
 #[repr(C)]
@@ -43,7 +40,7 @@ pub struct UnsealedNumbered {
     pub refusal: u32,
     pub key: [u8; 10],
     pub number: u16,
-    pub flag: Flag,
+    pub failed_checks: u16,
 }
 
 #[repr(C)]

@@ -4,13 +4,14 @@ use std::array::from_fn;
 use std::thread;
 
 use taa1::{
-    Authentication, Book, BookRefusal, KeyNumber, Kind, Refusal, RingMade, Sitting, Unsealed,
-    UnsealedNumbered, Version, CHALLENGE_BYTES, MOST_RECORDS, PLAIN_RECORD_BYTES, RING_BYTES,
-    SEALED_RECORD_BYTES, SHEET_RECORD_BYTES, SHEET_VALUE_BYTES,
+    Authentication, Book, BookRefusal, FailedChecks, KeyNumber, Kind, Refusal, RingMade, Sitting,
+    Unsealed, UnsealedNumbered, Version, CHALLENGE_BYTES, MOST_RECORDS, PLAIN_RECORD_BYTES,
+    RING_BYTES, SEALED_RECORD_BYTES, SHEET_RECORD_BYTES, SHEET_VALUE_BYTES,
 };
 
 const ROOT: [u8; 16] = *b"a root or key...";
 const KEY: [u8; 10] = *b"cipher key";
+const CLEAR: FailedChecks = FailedChecks(0);
 const VERSION: Version = Version(0x0708);
 const RESPONSE_MASK: u16 = 0xf000;
 const KEY_MASK: u16 = 0x0ffc;
@@ -222,7 +223,10 @@ fn kind_1_is_sealed() {
     let (key, sealing_key) = (upward(), with_version::<10>(upward()));
     let text = sealed(EXP4, EXP1_ZERO);
     assert_eq!(taa1::ta31(&key, VERSION, &sealing_key), Ok(text));
-    let opened = Unsealed { key, flag: false };
+    let opened = Unsealed {
+        key,
+        failed_checks: CLEAR,
+    };
     assert_eq!(taa1::ta32(&text, &sealing_key, VERSION), Ok(opened));
 }
 
@@ -234,7 +238,7 @@ fn kind_2_is_sealed() {
     let opened = UnsealedNumbered {
         key,
         number,
-        flag: false,
+        failed_checks: CLEAR,
     };
     assert_eq!(taa1::ta52(&text, &sealing_key, VERSION), Ok(opened));
 }
@@ -247,7 +251,7 @@ fn kind_3_is_sealed() {
     let opened = UnsealedNumbered {
         key,
         number,
-        flag: false,
+        failed_checks: CLEAR,
     };
     assert_eq!(taa1::ta82(&text, &sealing_key, VERSION), Ok(opened));
 }
@@ -257,17 +261,53 @@ fn kind_4_is_sealed() {
     let (key, sealing_key) = (upward(), with_version(ROOT));
     let text = sealed(ROOT, X16);
     assert_eq!(taa1::ta91(&key, VERSION, &sealing_key), Ok(text));
-    let opened = Unsealed { key, flag: false };
+    let opened = Unsealed {
+        key,
+        failed_checks: CLEAR,
+    };
     assert_eq!(taa1::ta92(&text, &sealing_key, VERSION), Ok(opened));
 }
 
+/// Each check fails by itself where its byte, or the number byte's top bit, is
+/// another.
 #[test]
-fn other_texts_set_the_flag() {
-    let text = upward::<15>();
-    assert!(taa1::ta32(&text, &KEY, VERSION).unwrap().flag);
-    assert!(taa1::ta52(&text, &ROOT, VERSION).unwrap().flag);
-    assert!(taa1::ta82(&text, &ROOT, VERSION).unwrap().flag);
-    assert!(taa1::ta92(&text, &ROOT, VERSION).unwrap().flag);
+fn failed_checks_are_told_apart() {
+    fn failed<const N: usize>(
+        expanded: [u8; 16],
+        at: [usize; N],
+        failing: impl Fn([u8; 15]) -> FailedChecks,
+    ) {
+        for (place, at) in (0..).zip(at) {
+            let mut other = expanded;
+            other[at] ^= 1;
+            let failed = failing(sealed(ROOT, other));
+            assert!(!failed.is_clear());
+            assert_eq!(failed.places().collect::<Vec<u32>>(), [place]);
+        }
+    }
+    let key = with_version(ROOT);
+    failed(EXP3_ZERO, [2, 6, 10, 14], |text| {
+        taa1::ta52(&text, &key, VERSION).unwrap().failed_checks
+    });
+    failed(X16, [4, 9, 14], |text| {
+        taa1::ta82(&text, &key, VERSION).unwrap().failed_checks
+    });
+    failed(X16, [4, 9, 14], |text| {
+        taa1::ta92(&text, &key, VERSION).unwrap().failed_checks
+    });
+    // bits 5 to 7 of the number byte, and the byte inserted behind it with them
+    let mut wide = EXP3_ZERO;
+    wide[13] ^= 0x80;
+    wide[14] ^= 0x80;
+    let opened = taa1::ta52(&sealed(ROOT, wide), &key, VERSION).unwrap();
+    assert_eq!(opened.failed_checks, FailedChecks(0b10000));
+    let key = with_version::<10>(upward());
+    for (place, at) in [2, 5, 8, 11, 14].into_iter().enumerate() {
+        let mut other = EXP1_ZERO;
+        other[at] ^= 1;
+        let opened = taa1::ta32(&sealed(EXP4, other), &key, VERSION).unwrap();
+        assert_eq!(opened.failed_checks, FailedChecks(1 << place));
+    }
 }
 
 /// The first record of the sample sitting.

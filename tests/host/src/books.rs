@@ -117,13 +117,13 @@ impl Record {
         let kind = sealed[0];
         let (hidden, version) = head(sealed);
         let (text, sealing_key) = (&sealed[6..], ring.sealing_key(kind));
-        let (key, number, flag) = match kind {
+        let (key, number, failed_checks) = match kind {
             1 => {
                 let opened = taa1::ta32(text, sealing_key, version);
                 (
                     opened.key.to_vec(),
                     0u16.to_be_bytes().to_vec(),
-                    opened.flag,
+                    opened.failed_checks,
                 )
             }
             2 | 3 | 5 | 6 => {
@@ -135,16 +135,16 @@ impl Record {
                 (
                     opened.key.to_vec(),
                     opened.number.to_be_bytes().to_vec(),
-                    opened.flag,
+                    opened.failed_checks,
                 )
             }
             4 => {
                 let opened = taa1::ta92(text, sealing_key, version);
-                (opened.key.to_vec(), Vec::new(), opened.flag)
+                (opened.key.to_vec(), Vec::new(), opened.failed_checks)
             }
             _ => return Err(3),
         };
-        if flag {
+        if failed_checks != 0 {
             return Err(6);
         }
         let identity = taa1::ta61_inverse(ring.c, hidden).identity.into();

@@ -24,8 +24,8 @@ answers! {
     taa1::Bytes -> Bytes<N> { bytes }
     taa1::Authentication -> Authentication { response, key }
     taa1::Identity -> Identity { identity }
-    taa1::UnsealedKey -> Unsealed<N> { key, flag }
-    taa1::UnsealedNumbered -> UnsealedNumbered { key, number, flag }
+    taa1::UnsealedKey -> Unsealed<N> { key, failed_checks }
+    taa1::UnsealedNumbered -> UnsealedNumbered { key, number, failed_checks }
     taa1::RingMade -> RingMade { ring, response1, response2 }
     books::BookAnswer -> BookAnswer { index, written }
 }

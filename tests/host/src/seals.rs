@@ -28,8 +28,8 @@ struct Calls {
     compare_seal: fn(&mut Group, Inputs),
     compare_unseal: fn(&mut Group, &[u8], Inputs),
     seal: fn(Inputs) -> [u8; 15],
-    /// Wants the inputs' key and number, and this flag, from an unseal.
-    want: fn(&mut Group, &[u8], Inputs, bool),
+    /// Wants the inputs' key and number, and these failed checks, from an unseal.
+    want: fn(&mut Group, &[u8], Inputs, u16),
 }
 
 macro_rules! calls {
@@ -48,13 +48,13 @@ macro_rules! calls {
                 let Inputs { key, version, sealing_key, .. } = inputs;
                 engine::$seal(key, version.into(), sealing_key $(, inputs.$number.into())?).bytes
             },
-            want: |group, text, inputs, flag| {
+            want: |group, text, inputs, failed_checks| {
                 let Inputs { key, version, sealing_key, .. } = inputs;
                 let wanted = $answer {
                     refusal: 0,
                     key: fixed(key),
                     $($number: inputs.$number,)?
-                    flag: flag.into(),
+                    failed_checks,
                 };
                 compare!(group, $unseal([text], [sealing_key], version), wanted);
             },
@@ -69,6 +69,8 @@ struct Kind {
     highest_number: u16,
     /// Key and number with their check bytes.
     expanded: fn(Inputs) -> [u8; 15],
+    /// Where the check bytes stand among those.
+    checks: &'static [usize],
     /// The key that the cipher gets.
     cipher_key: fn(Inputs) -> [u8; 16],
 }
@@ -80,6 +82,7 @@ const KINDS: [Kind; 4] = [
         sealing_key_length: 10,
         highest_number: 0,
         expanded: |inputs| taa1::exp1(&fixed(inputs.key)),
+        checks: &[2, 5, 8, 11, 14],
         cipher_key: |inputs| taa1::exp4(&under_version(fixed(inputs.sealing_key), inputs.version)),
     },
     Kind {
@@ -88,6 +91,7 @@ const KINDS: [Kind; 4] = [
         sealing_key_length: 16,
         highest_number: 31,
         expanded: |inputs| taa1::exp3(&fixed(&[inputs.key, &[inputs.number as u8]].concat())),
+        checks: &[2, 6, 10, 14],
         cipher_key: |inputs| under_version(fixed(inputs.sealing_key), inputs.version),
     },
     Kind {
@@ -96,6 +100,7 @@ const KINDS: [Kind; 4] = [
         sealing_key_length: 16,
         highest_number: u16::MAX,
         expanded: |inputs| x15(&[inputs.key, &inputs.number.to_be_bytes()].concat()),
+        checks: &[4, 9, 14],
         cipher_key: |inputs| under_version(fixed(inputs.sealing_key), inputs.version),
     },
     Kind {
@@ -104,6 +109,7 @@ const KINDS: [Kind; 4] = [
         sealing_key_length: 16,
         highest_number: 0,
         expanded: |inputs| x15(inputs.key),
+        checks: &[4, 9, 14],
         cipher_key: |inputs| under_version(fixed(inputs.sealing_key), inputs.version),
     },
 ];
@@ -120,11 +126,12 @@ fn x15(bytes: &[u8]) -> [u8; 15] {
 type Check = fn(&Kind, &mut Group, &mut Random, Inputs);
 
 /// The groups of every kind, and how many times each runs with new inputs.
-const GROUPS: [(&str, usize, Check); 8] = [
+const GROUPS: [(&str, usize, Check); 9] = [
     ("random", 50_000, Kind::random),
     ("there and back", 50_000, Kind::there_and_back),
     ("each bit flipped", 200, Kind::flipped),
     ("each bit flipped before sealing", 200, Kind::flipped_before),
+    ("every subset of failed checks", 1_000, Kind::subsets),
     ("another version", 200, Kind::another_version),
     ("versions and numbers", 200, Kind::versions_and_numbers),
     ("zeros, ones, single bits", 1, Kind::edges),
@@ -174,7 +181,7 @@ impl Kind {
 
     fn there_and_back(&self, group: &mut Group, _: &mut Random, inputs: Inputs) {
         let text = (self.calls.seal)(inputs);
-        (self.calls.want)(group, &text, inputs, false);
+        (self.calls.want)(group, &text, inputs, 0);
     }
 
     fn flipped(&self, group: &mut Group, _: &mut Random, inputs: Inputs) {
@@ -184,12 +191,34 @@ impl Kind {
         }
     }
 
-    /// Here one check fails and no other.
+    /// Here a check or two fail and no other.
     fn flipped_before(&self, group: &mut Group, _: &mut Random, inputs: Inputs) {
         let cipher_key = (self.cipher_key)(inputs);
         for bit in 0..TEXT_BITS {
             let text = sealed(&cipher_key, flipped((self.expanded)(inputs), bit));
             (self.calls.compare_unseal)(group, &text, inputs);
+        }
+    }
+
+    /// Key and number stay right. TA52 has one more check, of the number byte's
+    /// three bits, which its check byte follows.
+    fn subsets(&self, group: &mut Group, random: &mut Random, inputs: Inputs) {
+        let (cipher_key, count) = ((self.cipher_key)(inputs), self.checks.len());
+        let zero_bits = usize::from(self.highest_number == 31);
+        for failed_checks in 0..1 << (count + zero_bits) {
+            let mut bytes = (self.expanded)(inputs);
+            for (i, &at) in self.checks.iter().enumerate() {
+                if failed_checks >> i & 1 == 1 {
+                    bytes[at] ^= 1 + random.below(255) as u8;
+                }
+            }
+            if failed_checks >> count == 1 {
+                let three_bits = (1 + random.below(7) as u8) << 5;
+                bytes[13] ^= three_bits;
+                bytes[14] ^= three_bits;
+            }
+            let text = sealed(&cipher_key, bytes);
+            (self.calls.want)(group, &text, inputs, failed_checks);
         }
     }
 
@@ -252,7 +281,7 @@ impl Kind {
             inputs.number = byte;
             let text = sealed(&cipher_key, (self.expanded)(inputs));
             inputs.number = byte % 32;
-            (self.calls.want)(group, &text, inputs, byte > 31);
+            (self.calls.want)(group, &text, inputs, u16::from(byte > 31) << 4);
         }
     }
 }

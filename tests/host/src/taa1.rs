@@ -42,7 +42,7 @@ pub struct Identity {
 pub struct UnsealedKey<const N: usize> {
     pub refusal: u32,
     pub key: [u8; N],
-    pub flag: bool,
+    pub failed_checks: u16,
 }
 
 /// Answer of TA32.
@@ -56,7 +56,7 @@ pub struct UnsealedNumbered {
     pub refusal: u32,
     pub key: [u8; 10],
     pub number: u16,
-    pub flag: bool,
+    pub failed_checks: u16,
 }
 
 /// Answer of the ring recipe.
@@ -105,7 +105,7 @@ impl<const N: usize> Answer for UnsealedKey<N> {
         UnsealedKey {
             refusal,
             key: [0; N],
-            flag: false,
+            failed_checks: 0,
         }
     }
 }
@@ -116,7 +116,7 @@ impl Answer for UnsealedNumbered {
             refusal,
             key: [0; 10],
             number: 0,
-            flag: false,
+            failed_checks: 0,
         }
     }
 }
@@ -369,6 +369,12 @@ fn unseal(key: &[u8; 16], text: &[u8; 15]) -> [u8; 15] {
     bl2(key, &data)
 }
 
+/// One bit for each check, the leftmost inserted byte's lowest, set where it fails
+/// (02, 6).
+fn failed<const N: usize>(checks: [bool; N]) -> u16 {
+    (0..N).map(|i| u16::from(checks[i]) << i).sum()
+}
+
 /// TA31 (5.8).
 pub fn ta31(cipher_key: &[u8], version: u16, sealing_key: &[u8]) -> Bytes15 {
     answer(|| {
@@ -384,14 +390,12 @@ pub fn ta32(text: &[u8], sealing_key: &[u8], version: u16) -> Unsealed {
         let (text, sealing_key) = (exact(text)?, exact(sealing_key)?);
         let out = unseal(&exp4(&under_version(&sealing_key, version)), &text);
         let b = |j: usize| out[14 - j];
-        let right = [0, 3, 6, 9, 12]
-            .iter()
-            .all(|&i| b(i) == b(i + 1) ^ b(i + 2));
+        let failed_checks = failed([12, 9, 6, 3, 0].map(|i| b(i) != b(i + 1) ^ b(i + 2)));
         let key = pick(&out, 14, [14, 13, 11, 10, 8, 7, 5, 4, 2, 1]); // SHR1 (5.5.1)
         Ok(Unsealed {
             refusal: 0,
             key,
-            flag: !right,
+            failed_checks,
         })
     })
 }
@@ -417,18 +421,20 @@ pub fn ta52(text: &[u8], sealing_key: &[u8], version: u16) -> UnsealedNumbered {
         let (text, sealing_key) = (exact(text)?, exact(sealing_key)?);
         let out = unseal(&under_version(&sealing_key, version), &text);
         let b = |j: usize| out[14 - j];
-        let right = [0, 4, 8]
-            .iter()
-            .all(|&i| b(i) == b(i + 1) ^ b(i + 2) ^ b(i + 3))
-            && b(12) == b(13) ^ b(14)
-            && b(1) >> 5 == 0;
+        let failed_checks = failed([
+            b(12) != b(13) ^ b(14),
+            b(8) != b(9) ^ b(10) ^ b(11),
+            b(4) != b(5) ^ b(6) ^ b(7),
+            b(0) != b(1) ^ b(2) ^ b(3),
+            b(1) >> 5 != 0,
+        ]);
         let key = pick(&out, 14, [14, 13, 11, 10, 9, 7, 6, 5, 3, 2]); // SHR2 (5.5.2)
         let number = u16::from(b(1) & 31);
         Ok(UnsealedNumbered {
             refusal: 0,
             key,
             number,
-            flag: !right,
+            failed_checks,
         })
     })
 }
@@ -460,17 +466,15 @@ pub fn ta82(text: &[u8], sealing_key: &[u8], version: u16) -> UnsealedNumbered {
             refusal: 0,
             key,
             number,
-            flag: manipulated(&out),
+            failed_checks: manipulated(&out),
         })
     })
 }
 
-/// Output 2 of TA82 and TA92 (5.15.3, 5.17.3).
-fn manipulated(out: &[u8; 15]) -> bool {
+/// The checks of TA82 and TA92 (5.15.3, 5.17.3).
+fn manipulated(out: &[u8; 15]) -> u16 {
     let b = |j: usize| out[15 - j];
-    ![1, 6, 11]
-        .iter()
-        .all(|&i| b(i) == b(4 + i) ^ b(3 + i) ^ b(2 + i) ^ b(1 + i))
+    failed([11, 6, 1].map(|i| b(i) != b(4 + i) ^ b(3 + i) ^ b(2 + i) ^ b(1 + i)))
 }
 
 /// TA91 (5.16).
@@ -493,7 +497,7 @@ pub fn ta92(text: &[u8], sealing_key: &[u8], version: u16) -> UnsealedGroup {
         Ok(UnsealedGroup {
             refusal: 0,
             key,
-            flag: manipulated(&out),
+            failed_checks: manipulated(&out),
         })
     })
 }
@@ -868,7 +872,7 @@ mod tests {
                 Unsealed {
                     refusal: 0,
                     key,
-                    flag: false
+                    failed_checks: 0
                 }
             );
             let number = wide % 32;
@@ -877,7 +881,7 @@ mod tests {
                 refusal: 0,
                 key,
                 number,
-                flag: false,
+                failed_checks: 0,
             };
             assert_eq!(ta52(&text, &o, version), opened);
             let text = ta81(&key, version, &o, wide).bytes;
@@ -885,7 +889,7 @@ mod tests {
                 refusal: 0,
                 key,
                 number: wide,
-                flag: false,
+                failed_checks: 0,
             };
             assert_eq!(ta82(&text, &o, version), opened);
             let group = random.bytes();
@@ -893,7 +897,7 @@ mod tests {
             let opened = UnsealedGroup {
                 refusal: 0,
                 key: group,
-                flag: false,
+                failed_checks: 0,
             };
             assert_eq!(ta92(&text, &o, version), opened);
         }
@@ -902,7 +906,7 @@ mod tests {
     /// Changed texts and other versions are noticed; a miss is too rare to
     /// happen with these fixed seeds.
     #[test]
-    fn changes_set_the_flag() {
+    fn changes_fail_checks() {
         let mut random = Random::new(5);
         for _ in 0..200 {
             let (key, d, o) = (
@@ -918,16 +922,19 @@ mod tests {
                 ta81(&key, version, &o, 31).bytes,
                 ta91(&group, version, &o).bytes,
             ];
-            assert!(ta32(&texts[0], &d, version ^ 1).flag);
-            assert!(ta52(&texts[1], &o, version ^ 256).flag);
-            assert!(ta82(&texts[2], &o, !version).flag);
-            assert!(ta92(&texts[3], &o, version.wrapping_add(1)).flag);
+            assert_ne!(ta32(&texts[0], &d, version ^ 1).failed_checks, 0);
+            assert_ne!(ta52(&texts[1], &o, version ^ 256).failed_checks, 0);
+            assert_ne!(ta82(&texts[2], &o, !version).failed_checks, 0);
+            assert_ne!(
+                ta92(&texts[3], &o, version.wrapping_add(1)).failed_checks,
+                0
+            );
             let (place, change) = (random.number() as usize % 15, random.number() as u8 | 1);
             texts.iter_mut().for_each(|text| text[place] ^= change);
-            assert!(ta32(&texts[0], &d, version).flag);
-            assert!(ta52(&texts[1], &o, version).flag);
-            assert!(ta82(&texts[2], &o, version).flag);
-            assert!(ta92(&texts[3], &o, version).flag);
+            assert_ne!(ta32(&texts[0], &d, version).failed_checks, 0);
+            assert_ne!(ta52(&texts[1], &o, version).failed_checks, 0);
+            assert_ne!(ta82(&texts[2], &o, version).failed_checks, 0);
+            assert_ne!(ta92(&texts[3], &o, version).failed_checks, 0);
         }
     }
 
@@ -944,8 +951,38 @@ mod tests {
             assert_eq!(opened.refusal, 0);
             assert_eq!(opened.key, upward());
             assert_eq!(opened.number, u16::from(number % 32));
-            assert_eq!(opened.flag, number > 31);
+            assert_eq!(opened.failed_checks, u16::from(number > 31) << 4);
         }
+    }
+
+    /// One inserted byte after the other is wrong.
+    #[test]
+    fn checks_have_their_bits() {
+        let (d, o, version) = (upward::<10>(), upward::<16>(), 0x1234);
+        let (short, long) = (
+            exp4(&under_version(&d, version)),
+            under_version(&o, version),
+        );
+        let wrong = |key, mut bytes: [u8; 16], at: usize| {
+            bytes[at] ^= 0x40;
+            seal(key, &bytes)
+        };
+        for (bit, at) in [2, 5, 8, 11, 14].into_iter().enumerate() {
+            let text = wrong(&short, zero_appended(&exp1(&upward())), at);
+            assert_eq!(ta32(&text, &d, version).failed_checks, 1 << bit);
+        }
+        for (bit, at) in [2, 6, 10, 14].into_iter().enumerate() {
+            let text = wrong(&long, zero_appended(&exp3(&upward())), at);
+            assert_eq!(ta52(&text, &o, version).failed_checks, 1 << bit);
+        }
+        for (bit, at) in [4, 9, 14].into_iter().enumerate() {
+            let text = wrong(&long, x16(&upward()), at);
+            assert_eq!(ta82(&text, &o, version).failed_checks, 1 << bit);
+            assert_eq!(ta92(&text, &o, version).failed_checks, 1 << bit);
+        }
+        // The number byte is in the last inserted byte's check, too.
+        let text = wrong(&long, zero_appended(&exp3(&upward())), 13);
+        assert_eq!(ta52(&text, &o, version).failed_checks, 0b11000);
     }
 
     #[test]

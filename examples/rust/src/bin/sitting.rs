@@ -1,6 +1,6 @@
 //! Plays a sitting: makes the ring, and the ring of the one-sided sitting, works
 //! the lineage of its keys, seals the model book, opens it and seals it again, then
-//! opens the candidate's book.
+//! opens the candidate's book and gives part marks for the text that seals no key.
 //!
 //!     sitting [FOLDER]    the folder with the five files; samples by default
 
@@ -10,7 +10,10 @@ use std::path::Path;
 use std::process::ExitCode;
 use std::{env, fs};
 
-use taa1::{RingMade, Sitting, SEALED_RECORD_BYTES, SITTING_BYTES};
+use taa1::{
+    FailedChecks, Kind, Refusal, RingMade, Sitting, Version, RING_BYTES, SEALED_RECORD_BYTES,
+    SITTING_BYTES, TA32_CHECKS, TA52_CHECKS, TA82_CHECKS, TA92_CHECKS,
+};
 
 fn read(folder: &OsStr, name: &str) -> Result<Vec<u8>, String> {
     let mut path = folder.to_os_string();
@@ -56,6 +59,31 @@ fn ring_lines(words: &str, made: &RingMade) -> [String; 3] {
 
 fn hex(bytes: &[u8]) -> String {
     bytes.iter().map(|byte| format!("{byte:02x}")).collect()
+}
+
+/// The checks of a sealed record's text that fail, of how many.
+fn checks_of(ring: &[u8; RING_BYTES], record: &[u8]) -> Result<(FailedChecks, usize), Refusal> {
+    let (d, o, g) = (&ring[..10], &ring[10..26], &ring[36..]);
+    let version = Version(u16::from_be_bytes([record[4], record[5]]));
+    let text = &record[6..];
+    let numbered_5 = |key| taa1::ta52(text, key, version).map(|u| (u.failed_checks, TA52_CHECKS));
+    let numbered_16 = |key| taa1::ta82(text, key, version).map(|u| (u.failed_checks, TA82_CHECKS));
+    match record[0] {
+        k if k == Kind::Ta31 as u8 => {
+            taa1::ta32(text, d, version).map(|u| (u.failed_checks, TA32_CHECKS))
+        }
+        k if k == Kind::Ta51 as u8 => numbered_5(o),
+        k if k == Kind::Ta51G as u8 => numbered_5(g),
+        k if k == Kind::Ta81 as u8 => numbered_16(o),
+        k if k == Kind::Ta81G as u8 => numbered_16(g),
+        _ => taa1::ta92(text, o, version).map(|u| (u.failed_checks, TA92_CHECKS)),
+    }
+}
+
+/// Part marks: which checks of a record fail, leftmost first.
+fn marks_line(index: usize, (failed, count): (FailedChecks, usize)) -> String {
+    let places: String = failed.places().map(|place| format!(" {place}")).collect();
+    format!("record {index}, of {count} checks failed:{places}")
 }
 
 /// The lines of a sitting, as far as it goes, into `lines`.
@@ -105,14 +133,22 @@ fn play(folder: &OsStr, lines: &mut Vec<String>) -> Result<(), String> {
         "sealed again {records} records, {length} bytes: the same bytes"
     ));
 
-    lines.push(match taa1::open_book(&made.ring, &candidate) {
-        Ok(book) => format!(
+    match taa1::open_book(&made.ring, &candidate) {
+        Ok(book) => lines.push(format!(
             "accepted {} records, {} bytes",
             book.records,
             book.bytes.len()
-        ),
-        Err(refusal) => refusal.to_string(),
-    });
+        )),
+        Err(refused) => {
+            lines.push(refused.to_string());
+            if refused.refusal == Refusal::FlagSet {
+                let index = refused.index;
+                let record = &candidate[index * SEALED_RECORD_BYTES..][..SEALED_RECORD_BYTES];
+                let checks = checks_of(&made.ring, record).map_err(|e| e.to_string())?;
+                lines.push(marks_line(index, checks));
+            }
+        }
+    }
     Ok(())
 }
 
