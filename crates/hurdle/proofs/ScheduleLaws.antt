@@ -1,43 +1,16 @@
--- The schedule is linear in the key: each Q is the key, rotated, ⊕ the zero key's Q.
+-- The round keys from the constants of the code: the schedule is linear in the key.
 -- Assumes nothing.
 use mathlib.Core.Bool.{true, _&&_}
 use mathlib.Core.List.{List, [], _∷_}
 use mathlib.Core.Path.{_≡_, refl, sym, ap, ap₂, _∙_}
-use Prim.Native.Nat.{ℕ, zero, suc, _+_, _*_, _/_, _%_, _<_}
-use native.Mathlib.Nat.{add-zero, mod-eq-of-lt}
+use Prim.Native.Nat.{ℕ, _+_, _*_, _/_, _%_, _<_}
 use native.Mathlib.Omega.{arith}
-use lib.Bits.{xor-zero-r}
 use lib.Dec.{eqb, ltb}
 use borrow.Author.Tests.{eqb-true, ltb-true}
 use Rattle.standard.specs.Bytes.{_!_, _⊕_, table, zeros}
-use Rattle.standard.specs.Hurdle.{D, a, rotl, Q, laid, schedule}
+use Rattle.standard.specs.Hurdle.{D, a, Q, laid, schedule}
 use Rattle.standard.proofs.BytesLaws.{table-at, table-same, and-split, every, every-at}
-use Rattle.standard.proofs.XorLaws.{xor-assoc}
-
--- a1 + .. + ai modulo 16
-pub turn : ℕ → ℕ
-turn zero = 0
-turn (suc i) = (turn i + a ! i) % 16
-
-Q-step : (key : List ℕ) (i m : ℕ) → m < 16 → Q key (suc i) ! m ≡ Q key i ! ((m + a ! i) % 16) ⊕ D ! m
-unfolding Q
-Q-step key i m h =
-    table-at 16 (λ j. rotl (a ! i) (Q key i) ! j ⊕ D ! j) m h
-    ∙ ap (λ (x : ℕ). x ⊕ D ! m) (table-at 16 (λ j. Q key i ! ((j + a ! i) % 16)) m h)
-
-turned-on : (m x t : ℕ) → ((m + x) % 16 + t) % 16 ≡ (m + (t + x) % 16) % 16
-turned-on m x t = omega arith
-
-Q-linear : (key : List ℕ) (i m : ℕ) → m < 16 → Q key i ! m ≡ key ! ((m + turn i) % 16) ⊕ Q (zeros 16) i ! m
-unfolding turn Q
-Q-linear key zero m h = sym (rw (table-at 16 (λ j. 0) m h, xor-zero-r, add-zero, mod-eq-of-lt h))
-Q-linear key (suc i) m h =
-    let m′ : ℕ = (m + a ! i) % 16 in
-    let k : m′ < 16 = omega arith in
-    Q-step key i m h
-    ∙ ap (λ (x : ℕ). x ⊕ D ! m) (Q-linear key i m′ k)
-    ∙ xor-assoc (key ! ((m′ + turn i) % 16)) (Q (zeros 16) i ! m′) (D ! m)
-    ∙ ap₂ (λ (n x : ℕ). key ! n ⊕ x) (turned-on m (a ! i) (turn i)) (sym (Q-step (zeros 16) i m h))
+use Rattle.standard.proofs.ScheduleLaws.{turn, Q-linear, byteAt, laid-table}
 
 -- ---- the constants of the code
 
@@ -68,14 +41,6 @@ unfolding rotations turn a
 rotation i h =
     let e = and-split _ _ (every-at 16 (λ j. eqb (rotations ! j) (turn j) && ltb (rotations ! j) 16) refl i h) in
     (eqb-true _ _ (e .0), ltb-true _ _ (e .1))
-
--- the byte at n of the round keys laid out
-abbrev byteAt : List ℕ → ℕ → ℕ
-byteAt key n = Q key (n / 12) ! (4 + n % 12)
-
-laid-table : (key : List ℕ) → schedule key ≡ table 192 (byteAt key)
-unfolding laid
-laid-table key = refl
 
 masks-laid : masks ≡ schedule (zeros 16)
 unfolding masks laid Q D a

@@ -6,6 +6,7 @@ pub mod MixingLaws
 pub mod DerivationLaws
 pub mod InverseLaws
 pub mod HurdleLaws
+pub mod ScheduleLaws
 pub mod CoreLaws
 pub mod ExpansionLaws
 pub mod SealLaws
