@@ -3,7 +3,7 @@
 use mathlib.Core.Bool.{Bool, true, _&&_}
 use mathlib.Core.List.{List, [], _∷_, _++_}
 use mathlib.Core.Path.{_≡_, refl, sym, ap, ap₂, _∙_}
-use Prim.Native.Nat.{ℕ, suc, _+_, _-_, _*_, _/_, _%_, _^_, _≤_, _<_}
+use Prim.Native.Nat.{ℕ, zero, suc, _+_, _-_, _*_, _/_, _%_, _^_, _≤_, _<_}
 use native.Mathlib.Numerals.{add-one}
 use native.Mathlib.Omega.{arith}
 use lib.Bits.{bitXor, bitAnd, xor-zero-r, xor-shr, xor-mod}
@@ -13,33 +13,33 @@ use borrow.Author.Tests.{eqb-true, leb-true}
 use Rattle.standard.specs.Bytes.{_!_, byte, bit, _⊕_, _⊞_, part, xors}
 use Rattle.standard.specs.Hurdle.{S, E, T, ofBits, Y, f, Halves, round, rounds, crypt, roundKey}
 use Rattle.standard.proofs.BytesLaws.{lent-part, and-split, every, every-at}
-use Rattle.hurdle.specs.Steps.{bytes4, Linked, Four, Spread, nibble, Nibbles, gathered, Gathered, HalvesOf, place, Turned}
+use Rattle.hurdle.specs.Steps.{bytes4, TOver, YOver, fOver, roundOver, Linked, Four, Spread, nibble, Nibbles, gathered, Gathered, HalvesOf, place, Turned}
 
 -- ---- the chain
 
-chain-next : (x k : List ℕ) (j : ℕ) {t r : ℕ} → t ≡ T x k j → r ≡ S ! ((E x (suc j) ⊞ byte 12 k (suc j)) ⊕ t) → r ≡ T x k (suc j)
-unfolding T
-chain-next x k j p q = q ∙ rw p
+chain-next : (s x k : List ℕ) (j : ℕ) {t r : ℕ} → t ≡ TOver s x k j → r ≡ s ! ((E x (suc j) ⊞ byte 12 k (suc j)) ⊕ t) → r ≡ TOver s x k (suc j)
+unfolding TOver
+chain-next s x k j p q = q ∙ rw p
 
 -- T3, from four links of which the first is one after 0
-pub chain-start : (x k : List ℕ) {a b c d : ℕ} → Linked 0 x 0 1 2 3 k 8 a b c d → d ≡ T x k 3
-unfolding T
-chain-start x k {a} h =
-    let t₀ : a ≡ T x k 0 = h .first ∙ ap (_!_ S) (xor-zero-r (E x 0 ⊞ byte 12 k 0)) in
-    chain-next x k 2 (chain-next x k 1 (chain-next x k 0 t₀ (h .second)) (h .third)) (h .fourth)
+pub chain-start : (s x k : List ℕ) {a b c d : ℕ} → Linked s 0 x 0 1 2 3 k 8 a b c d → d ≡ TOver s x k 3
+unfolding TOver
+chain-start s x k {a} h =
+    let t₀ : a ≡ TOver s x k 0 = h .first ∙ ap (_!_ s) (xor-zero-r (E x 0 ⊞ byte 12 k 0)) in
+    chain-next s x k 2 (chain-next s x k 1 (chain-next s x k 0 t₀ (h .second)) (h .third)) (h .fourth)
 
 -- four links after Tj, from the links' results
-pub chain-four : (x k : List ℕ) (j : ℕ) {t a b c d : ℕ} → t ≡ T x k j
-    → a ≡ S ! ((E x (suc j) ⊞ byte 12 k (suc j)) ⊕ t)
-    → b ≡ S ! ((E x (suc (suc j)) ⊞ byte 12 k (suc (suc j))) ⊕ a)
-    → c ≡ S ! ((E x (suc (suc (suc j))) ⊞ byte 12 k (suc (suc (suc j)))) ⊕ b)
-    → d ≡ S ! ((E x (suc (suc (suc (suc j)))) ⊞ byte 12 k (suc (suc (suc (suc j))))) ⊕ c)
-    → Four x k (suc j) a b c d
-chain-four x k j t a b c d =
-    let p = chain-next x k j t a in
-    let q = chain-next x k (suc j) p b in
-    let r = chain-next x k (suc (suc j)) q c in
-    record { first = p; second = q; third = r; fourth = chain-next x k (suc (suc (suc j))) r d }
+pub chain-four : (s x k : List ℕ) (j : ℕ) {t a b c d : ℕ} → t ≡ TOver s x k j
+    → a ≡ s ! ((E x (suc j) ⊞ byte 12 k (suc j)) ⊕ t)
+    → b ≡ s ! ((E x (suc (suc j)) ⊞ byte 12 k (suc (suc j))) ⊕ a)
+    → c ≡ s ! ((E x (suc (suc (suc j))) ⊞ byte 12 k (suc (suc (suc j)))) ⊕ b)
+    → d ≡ s ! ((E x (suc (suc (suc (suc j)))) ⊞ byte 12 k (suc (suc (suc (suc j))))) ⊕ c)
+    → Four s x k (suc j) a b c d
+chain-four s x k j t a b c d =
+    let p = chain-next s x k j t a in
+    let q = chain-next s x k (suc j) p b in
+    let r = chain-next s x k (suc (suc j)) q c in
+    record { first = p; second = q; third = r; fourth = chain-next s x k (suc (suc (suc j))) r d }
 
 -- ---- the bits
 
@@ -86,17 +86,33 @@ bytes4-of a b c d ha hb hc hd =
     let e0 : w % 256 ≡ a = omega arith in
     cc
 
--- T4 to T11, gathered, are f's result
-pub gathered-is : (x k : List ℕ) {a b c d e f′ g h y : ℕ} → Four x k 4 a b c d → Four x k 8 e f′ g h → Gathered a b c d e f′ g h y → bytes4 y ≡ f x k
-unfolding f
-gathered-is x k {a} {b} {c} {d} {e} {f′} {g} {h} {y} p q o =
+-- T4 to T11, gathered, are f's result, over any table
+pub gathered-is : (s x k : List ℕ) {a b c d e f′ g h y : ℕ} → Four s x k 4 a b c d → Four s x k 8 e f′ g h → Gathered a b c d e f′ g h y → bytes4 y ≡ fOver s x k
+unfolding fOver
+gathered-is s x k {a} {b} {c} {d} {e} {f′} {g} {h} {y} p q o =
     let lt : (n : ℕ) → gathered n a b c d e f′ g h < 256 = λ n. omega (arith, nibble-lt n a b c d, nibble-lt n e f′ g h) in
-    let is : (n : ℕ) → gathered n a b c d e f′ g h ≡ Y x k n =
+    let is : (n : ℕ) → gathered n a b c d e f′ g h ≡ YOver s x k n =
     λ n. rw (p .first, p .second, p .third, p .fourth, q .first, q .second, q .third, q .fourth) (sums n) in
     ap bytes4 (o .is) ∙ bytes4-of _ _ _ _ (lt 0) (lt 1) (lt 2) (lt 3) ∙ rw (is 0, is 1, is 2, is 3)
   where
-    sums : (n : ℕ) → gathered n (T x k 4) (T x k 5) (T x k 6) (T x k 7) (T x k 8) (T x k 9) (T x k 10) (T x k 11) ≡ Y x k n
+    sums : (n : ℕ) → gathered n (TOver s x k 4) (TOver s x k 5) (TOver s x k 6) (TOver s x k 7) (TOver s x k 8) (TOver s x k 9) (TOver s x k 10) (TOver s x k 11) ≡ YOver s x k n
     sums n = omega arith
+
+-- ---- over S
+
+T-over : (x k : List ℕ) (j : ℕ) → TOver S x k j ≡ T x k j
+unfolding TOver T
+T-over x k zero = refl
+T-over x k (suc j) = ap (λ (t : ℕ). S ! ((E x (suc j) ⊞ byte 12 k (suc j)) ⊕ t)) (T-over x k j)
+
+f-over : (x k : List ℕ) → fOver S x k ≡ f x k
+unfolding fOver f
+f-over x k = rw (T-over x k 4, T-over x k 5, T-over x k 6, T-over x k 7, T-over x k 8, T-over x k 9, T-over x k 10, T-over x k 11)
+
+-- a round over S is the cipher's
+pub round-over : (k : List ℕ) (h : Halves) → roundOver S k h ≡ round k h
+unfolding roundOver round
+round-over k h = ap (λ (y : List ℕ). (h .1, xors 4 (h .0) y)) (f-over (h .1) k)
 
 -- ---- the rounds
 
@@ -110,21 +126,26 @@ pub turned-none : {back : Bool} {keys : List ℕ} {l r : ℕ} → Turned back ke
 unfolding rounds
 turned-none = record { is = refl }
 
+-- the halves after a round
+pub round-words : (s k : List ℕ) (l r y : ℕ) → bytes4 y ≡ fOver s (bytes4 r) k → (bytes4 r, bytes4 (bitXor l y)) ≡ roundOver s k (bytes4 l, bytes4 r)
+unfolding roundOver
+round-words s k l r y e = ap (λ (z : List ℕ). (bytes4 r, z)) (bytes4-xor l y ∙ ap (xors 4 (bytes4 l)) e)
+
 -- one round more
-round-more : (k : ℕ → List ℕ) (i : ℕ) (h : Halves) (l r y : ℕ) → bytes4 y ≡ f (bytes4 r) (k i) → (bytes4 l, bytes4 r) ≡ rounds k i h
+round-more : (k : ℕ → List ℕ) (i : ℕ) (h : Halves) (l r y : ℕ) → bytes4 y ≡ fOver S (bytes4 r) (k i) → (bytes4 l, bytes4 r) ≡ rounds k i h
     → (bytes4 r, bytes4 (bitXor l y)) ≡ rounds k (i + 1) h
-unfolding round rounds
+unfolding rounds
 round-more k i h l r y e p =
-    ap (λ (z : List ℕ). (bytes4 r, z)) (bytes4-xor l y ∙ ap (xors 4 (bytes4 l)) e) ∙ ap (round (k i)) p ∙ rw add-one refl
+    round-words S (k i) l r y e ∙ round-over (k i) (bytes4 l, bytes4 r) ∙ ap (round (k i)) p ∙ rw add-one refl
 
 -- the round key is lent as a part of those laid out
 pub turned-more : {back : Bool} {keys : List ℕ} {l₀ r₀ i n l r : ℕ} (y : ℕ) → n ≡ place back i → n * 12 + 12 ≤ length keys
-    → bytes4 y ≡ f (bytes4 r) (take (n * 12 + 12 - n * 12) (drop (n * 12) keys))
+    → bytes4 y ≡ fOver S (bytes4 r) (take (n * 12 + 12 - n * 12) (drop (n * 12) keys))
     → Turned back keys l₀ r₀ i l r → Turned back keys l₀ r₀ (i + 1) r (bitXor l y)
 turned-more {back} {keys} {l₀} {r₀} {i} {n} {l} {r} y e fits p h =
     let k : take (n * 12 + 12 - n * 12) (drop (n * 12) keys) ≡ roundKey keys (place back i) =
     lent-part (n * 12) 12 keys fits ∙ ap (roundKey keys) e in
-    record { is = round-more (λ m. roundKey keys (place back m)) i _ l r y (p ∙ ap (f (bytes4 r)) k) (h .is) }
+    record { is = round-more (λ m. roundKey keys (place back m)) i _ l r y (p ∙ ap (fOver S (bytes4 r)) k) (h .is) }
 
 -- the halves, the rounds and the halves exchanged are the block
 pub crypted : {back : Bool} {keys b out : List ℕ} {l r l₁ r₁ : ℕ} → HalvesOf b l r → Turned back keys l r 16 l₁ r₁

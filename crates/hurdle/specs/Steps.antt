@@ -3,9 +3,9 @@
 use mathlib.Core.Bool.{Bool, true, false, _&&_}
 use mathlib.Core.List.{List, [], _∷_}
 use mathlib.Core.Path.{_≡_}
-use Prim.Native.Nat.{ℕ, suc, _+_, _-_, _*_, _/_, _%_, _^_, _≤_}
-use Rattle.standard.specs.Bytes.{_!_, byte, bit, _⊕_, _⊞_, part}
-use Rattle.standard.specs.Hurdle.{S, T, rounds, crypt, schedule, roundKey}
+use Prim.Native.Nat.{ℕ, zero, suc, _+_, _-_, _*_, _/_, _%_, _^_, _≤_}
+use Rattle.standard.specs.Bytes.{_!_, byte, bit, _⊕_, _⊞_, part, xors}
+use Rattle.standard.specs.Hurdle.{E, ofBits, Halves, rounds, crypt, schedule, roundKey}
 use Rattle.standard.specs.Refusals.{wrongLength, long, first, answer8}
 use Rattle.standard.specs.declared.Bytes8.{Bytes8}
 
@@ -13,19 +13,33 @@ use Rattle.standard.specs.declared.Bytes8.{Bytes8}
 abbrev pub bytes4 : ℕ → List ℕ
 bytes4 w = w / 2 ^ 24 % 256 ∷ w / 2 ^ 16 % 256 ∷ w / 2 ^ 8 % 256 ∷ w % 256 ∷ []
 
+-- T, f and a round over a table s in the place of S: the code takes a copy of S, made once for a block
+unfoldable pub TOver : (s x k : List ℕ) → ℕ → ℕ
+TOver s x k zero = s ! (E x 0 ⊞ byte 12 k 0)
+TOver s x k (suc j) = s ! ((E x (suc j) ⊞ byte 12 k (suc j)) ⊕ TOver s x k j)
+
+abbrev pub YOver : (s x k : List ℕ) → ℕ → ℕ
+YOver s x k n = ofBits (λ m. bit n (TOver s x k (m + 4)))
+
+unfoldable pub fOver : (s x k : List ℕ) → List ℕ
+fOver s x k = YOver s x k 3 ∷ YOver s x k 2 ∷ YOver s x k 1 ∷ YOver s x k 0 ∷ []
+
+unfoldable pub roundOver : (s k : List ℕ) → Halves → Halves
+roundOver s k h = (h .1, xors 4 (h .0) (fOver s (h .1) k))
+
 -- four links after t, from the bytes of x that e₀ to e₃ number and those of the round key from index `at` on, the last one first
-pub record Linked (t : ℕ) (x : List ℕ) (e₀ e₁ e₂ e₃ : ℕ) (k : List ℕ) (at a b c d : ℕ) : Type 0 where
-  pub first : a ≡ S ! ((byte 4 x e₀ ⊞ k ! (at + 3)) ⊕ t)
-  pub second : b ≡ S ! ((byte 4 x e₁ ⊞ k ! (at + 2)) ⊕ a)
-  pub third : c ≡ S ! ((byte 4 x e₂ ⊞ k ! (at + 1)) ⊕ b)
-  pub fourth : d ≡ S ! ((byte 4 x e₃ ⊞ k ! at) ⊕ c)
+pub record Linked (s : List ℕ) (t : ℕ) (x : List ℕ) (e₀ e₁ e₂ e₃ : ℕ) (k : List ℕ) (at a b c d : ℕ) : Type 0 where
+  pub first : a ≡ s ! ((byte 4 x e₀ ⊞ k ! (at + 3)) ⊕ t)
+  pub second : b ≡ s ! ((byte 4 x e₁ ⊞ k ! (at + 2)) ⊕ a)
+  pub third : c ≡ s ! ((byte 4 x e₂ ⊞ k ! (at + 1)) ⊕ b)
+  pub fourth : d ≡ s ! ((byte 4 x e₃ ⊞ k ! at) ⊕ c)
 
 -- four bytes of the chain, from Tj on
-pub record Four (x k : List ℕ) (j a b c d : ℕ) : Type 0 where
-  pub first : a ≡ T x k j
-  pub second : b ≡ T x k (suc j)
-  pub third : c ≡ T x k (suc (suc j))
-  pub fourth : d ≡ T x k (suc (suc (suc j)))
+pub record Four (s x k : List ℕ) (j a b c d : ℕ) : Type 0 where
+  pub first : a ≡ TOver s x k j
+  pub second : b ≡ TOver s x k (suc j)
+  pub third : c ≡ TOver s x k (suc (suc j))
+  pub fourth : d ≡ TOver s x k (suc (suc (suc j)))
 
 -- bit n of t is the lowest bit of byte n of r
 pub record Spread (t r : ℕ) : Type 0 where

@@ -5,14 +5,18 @@ mod tables;
 
 use crate::key_schedule::lay;
 use crate::round::crypt;
-use crate::tables::S;
 use crate::tables::S_INVERSE;
 use crate::tables::entry;
 use arrays::array8;
 use arrays::array16;
 use arrays::both_long;
+pub use round::Halves;
+pub use round::joined;
+pub use round::round_under;
+pub use round::split;
 use standard::Bytes8;
 use standard::WRONG_LENGTH;
+pub use tables::S;
 ghost use mathlib.Core.Path.{_≡_};
 ghost use Rattle.standard.specs.Bytes.{_!_, table, zeros};
 ghost use Rattle.hurdle.specs.Steps.{cryptCall};
@@ -74,7 +78,7 @@ pub fn substitute_back(x: [u8; 3]) -> [u8; 3]
     [a, b, c]
 }
 
-fn refused8(number: u32) -> Bytes8
+pub fn refused8(number: u32) -> Bytes8
     ensures { λ r. ⌜ r ≡ record { refusal = number; bytes = zeros 8 } ⌝ }
 {
     Bytes8 {

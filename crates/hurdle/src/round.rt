@@ -6,9 +6,9 @@ ghost use mathlib.Core.List.{[], _∷_, _++_};
 ghost use mathlib.Core.Path.{_≡_};
 ghost use Prim.Native.Nat.{_+_, _<_, _≤_};
 ghost use lib.ListN.{length};
-ghost use Rattle.standard.specs.Bytes.{_!_, byte, _⊕_, _⊞_};
-ghost use Rattle.standard.specs.Hurdle.{S as sOf, f as fOf, crypt as cryptOf, roundKey};
-ghost use Rattle.hurdle.specs.Steps.{bytes4, place as placeOf, Linked, Spread, Nibbles, Gathered, HalvesOf, Turned};
+ghost use Rattle.standard.specs.Bytes.{_!_, byte, _⊕_, _⊞_, part};
+ghost use Rattle.standard.specs.Hurdle.{crypt as cryptOf, roundKey};
+ghost use Rattle.hurdle.specs.Steps.{bytes4, fOver, roundOver, place as placeOf, Linked, Spread, Nibbles, Gathered, HalvesOf, Turned};
 
 // Byte n of a half, byte 0 the rightmost.
 fn half_byte(x: u32, n: u8) -> u8
@@ -24,8 +24,7 @@ fn half_byte(x: u32, n: u8) -> u8
 
 // S[(e + k) ⊕ t], where e is byte n of the half x.
 fn link(s: &[u8; 256], t: u8, x: u32, n: u8, k: u8) -> u8
-    requires { ⌜ now s ≡ sOf ⌝ }
-    ensures { λ r. ⌜ r ≡ sOf ! ((byte 4 (bytes4 x) n ⊞ k) ⊕ t) ⌝ }
+    ensures { λ r. ⌜ r ≡ now (s .entry) ! ((byte 4 (bytes4 x) n ⊞ k) ⊕ t) ⌝ }
 {
     let e = half_byte(x, n);
     entry(s, wrapping_add_u8(e, k) ^ t)
@@ -37,9 +36,8 @@ struct Four(u8, u8, u8, u8);
 // Four links of the chain after t. Their E is the half's bytes numbered in e; their key bytes are those from index `at` on, the last
 // one first.
 fn links(s: &[u8; 256], t: u8, x: u32, e: Four, k: &[u8], at: usize) -> Four
-    requires { ⌜ now s ≡ sOf ⌝ }
     requires { ⌜ at + 4 ≤ length (now k) ⌝ }
-    ensures { λ r. ⌜ Linked t (bytes4 x) (e .0) (e .1) (e .2) (e .3) (now (k .entry)) at (r .0) (r .1) (r .2) (r .3) ⌝ }
+    ensures { λ r. ⌜ Linked (now (s .entry)) t (bytes4 x) (e .0) (e .1) (e .2) (e .3) (now (k .entry)) at (r .0) (r .1) (r .2) (r .3) ⌝ }
 {
     let a = link(s, t, x, e.0, k[at + 3]);
     let b = link(s, a, x, e.1, k[at + 2]);
@@ -71,14 +69,23 @@ fn gather(q: Four, r: Four) -> u32
 
 // f of a half and a round key of twelve bytes. The chain's first link is one after 0.
 fn f(s: &[u8; 256], x: u32, k: &[u8]) -> u32
-    requires { ⌜ now s ≡ sOf ⌝ }
     requires { ⌜ length (now k) ≡ 12 ⌝ }
-    ensures { λ r. ⌜ bytes4 r ≡ fOf (bytes4 x) (now (k .entry)) ⌝ }
+    ensures { λ r. ⌜ bytes4 r ≡ fOver (now (s .entry)) (bytes4 x) (now (k .entry)) ⌝ }
 {
     let p = links(s, 0, x, Four(0, 1, 2, 3), k, 8);
     let q = links(s, p.3, x, Four(0, 2, 1, 3), k, 4);
     let r = links(s, q.3, x, Four(2, 0, 3, 1), k, 0);
     gather(q, r)
+}
+
+// A round under bytes 11 to 0 of a register, over a table of which the caller has a copy: S.
+pub fn round_under(s: &[u8; 256], h: Halves, q: &[u8; 16]) -> Halves
+    ensures { λ o. ⌜ (bytes4 (o .l), bytes4 (o .r)) ≡ roundOver (now (s .entry)) (part 4 12 (now (q .entry))) (bytes4 (h .l), bytes4 (h .r)) ⌝ }
+{
+    let register = &q[..];
+    let l = h.r;
+    let r = h.l ^ f(s, l, &register[4..16]);
+    Halves { l, r }
 }
 
 // The round key that round i takes.
@@ -89,9 +96,9 @@ fn place(back: bool, i: usize) -> usize
     if back { 15 - i } else { i }
 }
 
-struct Halves {
-    l: u32,
-    r: u32,
+pub struct Halves {
+    pub l: u32,
+    pub r: u32,
 }
 
 // The word of four bytes, the leftmost first.
@@ -101,7 +108,7 @@ fn word(a: u8, b: u8, c: u8, d: u8) -> u32
     a as u32 * 16777216 + b as u32 * 65536 + c as u32 * 256 + d as u32
 }
 
-fn split(block: [u8; 8]) -> Halves
+pub fn split(block: [u8; 8]) -> Halves
     ensures { λ h. ⌜ HalvesOf block (h .l) (h .r) ⌝ }
 {
     Halves {
@@ -111,7 +118,7 @@ fn split(block: [u8; 8]) -> Halves
 }
 
 // R, then L.
-fn joined(h: Halves) -> [u8; 8]
+pub fn joined(h: Halves) -> [u8; 8]
     ensures { λ b. ⌜ b ≡ bytes4 (h .r) ++ bytes4 (h .l) ⌝ }
 {
     [

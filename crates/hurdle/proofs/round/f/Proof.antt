@@ -24,13 +24,14 @@ returns c =
     let third = c .before in
     let second = third .before in
     let x = second .before .before .before .args in
+    let s = now (x .s) in
     let h = bytes4 (x .x) in
     let k = now (x .k) in
     let q = second .links2 .ensures in
     let r = third .links3 .ensures in
-    let t₄ = chain-four h k 3 (chain-start h k (second .before .links .ensures)) (q .first) (q .second) (q .third) (q .fourth) in
-    let t₈ = chain-four h k 7 (t₄ .fourth) (r .first) (r .second) (r .third) (r .fourth) in
-    gathered-is h k t₄ t₈ (c .gather .ensures)
+    let t₄ = chain-four s h k 3 (chain-start s h k (second .before .links .ensures)) (q .first) (q .second) (q .third) (q .fourth) in
+    let t₈ = chain-four s h k 7 (t₄ .fourth) (r .first) (r .second) (r .third) (r .fourth) in
+    gathered-is s h k t₄ t₈ (c .gather .ensures)
 
 pub f-spec : {M : Type 1} → statement M
 f-spec =

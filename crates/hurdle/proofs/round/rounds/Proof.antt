@@ -37,8 +37,7 @@ part-f-end : tie.Need-part-f-end Inv-loop μ-loop
 part-f-end c = omega arith
 
 f-requires : tie.Need-f-requires Inv-loop μ-loop
-unfolding S
-f-requires c κs = (refl, omega arith)
+f-requires c κs = omega arith
 
 add-i : tie.Need-add-i Inv-loop μ-loop
 add-i c = omega arith
@@ -47,6 +46,7 @@ loop-less : tie.Need-loop-less Inv-loop μ-loop
 loop-less c = omega arith
 
 loop-again : tie.Need-loop-again Inv-loop μ-loop
+unfolding S
 loop-again c =
     let placed = c .before .before .before in
     (omega arith, turned-more (c .f .result) (placed .place .ensures .0) (omega arith) (c .f .ensures) (placed .before .before .loop .inv .1))
