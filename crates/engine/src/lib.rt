@@ -21,6 +21,7 @@ ghost use Rattle.standard.specs.Hurdle.{encryptCall, decryptCall};
 ghost use Rattle.standard.specs.Identity.{ta61Call, ta61⁻¹Call};
 ghost use Rattle.standard.specs.Lineage.{lineageCall};
 ghost use Rattle.standard.specs.Mixing.{tb1Call, tb2Call, tb3Call, tb4Call, tb5Call, tb6Call, tb7Call};
+ghost use Rattle.standard.specs.Register.{registerCall};
 ghost use Rattle.standard.specs.Seals.{ta31Call, ta32Call, ta51Call, ta52Call, ta81Call, ta82Call, ta91Call, ta92Call};
 
 #[no_mangle]
@@ -35,6 +36,27 @@ pub extern "C" fn taa1_decrypt(key: &[u8], block: &[u8]) -> Bytes8
     ensures { λ r. ⌜ r ≡ decryptCall (now (key .entry)) (now (block .entry)) ⌝ }
 {
     hurdle::decrypt(key, block)
+}
+
+#[no_mangle]
+pub extern "C" fn taa1_encrypt_register(key: &[u8], block: &[u8]) -> Bytes8
+    ensures { λ r. ⌜ r ≡ encryptCall (now (key .entry)) (now (block .entry)) ⌝ }
+{
+    register::encrypt_register(key, block)
+}
+
+#[no_mangle]
+pub extern "C" fn taa1_decrypt_register(key: &[u8], block: &[u8]) -> Bytes8
+    ensures { λ r. ⌜ r ≡ decryptCall (now (key .entry)) (now (block .entry)) ⌝ }
+{
+    register::decrypt_register(key, block)
+}
+
+#[no_mangle]
+pub extern "C" fn taa1_register(key: &[u8], steps: u64) -> Bytes16
+    ensures { λ r. ⌜ r ≡ registerCall (now (key .entry)) steps ⌝ }
+{
+    register::register(key, steps)
 }
 
 #[no_mangle]

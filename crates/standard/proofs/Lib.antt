@@ -7,6 +7,7 @@ pub mod DerivationLaws
 pub mod InverseLaws
 pub mod HurdleLaws
 pub mod ScheduleLaws
+pub mod RegisterLaws
 pub mod CoreLaws
 pub mod ExpansionLaws
 pub mod SealLaws

@@ -14,6 +14,7 @@ pub mod Derivation
 pub mod Mixing
 pub mod Classes
 pub mod Lineage
+pub mod Register
 pub mod Refusals
 pub mod Facts
 pub mod Programs

@@ -1,0 +1,72 @@
+-- `register::backward` meets its contract.
+-- Assumes nothing.
+use mathlib.Core.Path.{_≡_, refl, ap}
+use Prim.Native.Nat.{_-_, _≤_, zero-le}
+use native.Mathlib.Omega.{arith}
+use borrow.Author.Needs.{needs}
+use Rattle.standard.specs.Hurdle.{S, a}
+use Rattle.standard.specs.Register.{State, backward}
+use Rattle.register.proofs.StepLaws.{rotation-most, backward-more}
+use Rattle.register.specs.Steps.{stateOf}
+use Rattle.register.proofs.backward.Statement.{statement}
+use Rattle.register.proofs.backward.Tie as tie
+
+abbrev Inv-loop : tie.InvT-loop
+Inv-loop s rots q₀ h₀ i₀ q h i = (i ≤ 16) × (rots ≡ a) × (stateOf q (h .l) (h .r) ≡ backward i (stateOf q₀ (h₀ .l) (h₀ .r)))
+
+abbrev μ-loop : tie.MeasureT-loop
+μ-loop s rots q₀ h₀ i₀ q h i = 16 - i
+
+loop-holds : tie.Need-loop-holds Inv-loop μ-loop
+unfolding a backward
+loop-holds c = (zero-le, refl, refl)
+
+sub-step-back : tie.Need-sub-step-back Inv-loop μ-loop
+sub-step-back c = omega arith
+
+mul-step-back : tie.Need-mul-step-back Inv-loop μ-loop
+mul-step-back c = omega arith
+
+array-read-step-back : tie.Need-array-read-step-back Inv-loop μ-loop
+array-read-step-back c = omega arith
+
+step-back-requires : tie.Need-step-back-requires Inv-loop μ-loop
+step-back-requires c κs = rotation-most _ (15 - c .before .loop .i) (c .before .loop .inv .1) (omega arith)
+
+round-under-requires : tie.Need-round-under-requires Inv-loop μ-loop
+round-under-requires c κs = search needs
+
+add-i : tie.Need-add-i Inv-loop μ-loop
+add-i c = omega arith
+
+loop-less : tie.Need-loop-less Inv-loop μ-loop
+loop-less c = omega arith
+
+loop-again : tie.Need-loop-again Inv-loop μ-loop
+unfolding S
+loop-again c =
+    let stepped = c .before .before .before in
+    let at = stepped .before .before .loop in
+    (omega arith, at .inv .1, backward-more _ (at .i) _ (at .q) (at .h .l) (at .h .r) (stepped .step-back .result) (c .round-under .result .l) (c .round-under .result .r) (at .inv .1) (at .inv .2) (stepped .step-back .ensures) (c .round-under .ensures))
+
+returns : tie.Need-returns Inv-loop μ-loop
+returns c =
+    let e : c .before .loop .i ≡ 16 = omega arith in
+    ap (λ (t : State). t .halves) (rw e at (c .before .loop .inv .2))
+
+pub backward-spec : {M : Type 1} → statement M
+backward-spec =
+    tie.close
+    (tie.spec
+    Inv-loop
+    μ-loop
+    loop-holds
+    sub-step-back
+    mul-step-back
+    array-read-step-back
+    step-back-requires
+    round-under-requires
+    add-i
+    loop-less
+    loop-again
+    returns)

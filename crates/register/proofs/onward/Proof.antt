@@ -1,0 +1,68 @@
+-- `register::onward` meets its contract.
+-- Assumes nothing.
+use mathlib.Core.Path.{_≡_, refl, ap}
+use Prim.Native.Nat.{_-_, _≤_, zero-le}
+use native.Mathlib.Omega.{arith}
+use borrow.Author.Needs.{needs}
+use Rattle.standard.specs.Hurdle.{S, a}
+use Rattle.standard.specs.Register.{State, onward}
+use Rattle.register.proofs.StepLaws.{rotation-most, onward-more}
+use Rattle.register.specs.Steps.{stateOf}
+use Rattle.register.proofs.onward.Statement.{statement}
+use Rattle.register.proofs.onward.Tie as tie
+
+abbrev Inv-loop : tie.InvT-loop
+Inv-loop s rots q₀ h₀ i₀ q h i = (i ≤ 16) × (rots ≡ a) × (stateOf q (h .l) (h .r) ≡ onward i (stateOf q₀ (h₀ .l) (h₀ .r)))
+
+abbrev μ-loop : tie.MeasureT-loop
+μ-loop s rots q₀ h₀ i₀ q h i = 16 - i
+
+loop-holds : tie.Need-loop-holds Inv-loop μ-loop
+unfolding a onward
+loop-holds c = (zero-le, refl, refl)
+
+mul-step : tie.Need-mul-step Inv-loop μ-loop
+mul-step c = omega arith
+
+array-read-step : tie.Need-array-read-step Inv-loop μ-loop
+array-read-step c = omega arith
+
+step-requires : tie.Need-step-requires Inv-loop μ-loop
+step-requires c κs = rotation-most _ (c .before .loop .i) (c .before .loop .inv .1) (omega arith)
+
+round-under-requires : tie.Need-round-under-requires Inv-loop μ-loop
+round-under-requires c κs = search needs
+
+add-i : tie.Need-add-i Inv-loop μ-loop
+add-i c = omega arith
+
+loop-less : tie.Need-loop-less Inv-loop μ-loop
+loop-less c = omega arith
+
+loop-again : tie.Need-loop-again Inv-loop μ-loop
+unfolding S
+loop-again c =
+    let stepped = c .before .before .before in
+    let at = stepped .before .before .loop in
+    (omega arith, at .inv .1, onward-more _ (at .i) _ (at .q) (at .h .l) (at .h .r) (stepped .step .result) (c .round-under .result .l) (c .round-under .result .r) (at .inv .1) (at .inv .2) (c .round-under .ensures) (stepped .step .ensures))
+
+returns : tie.Need-returns Inv-loop μ-loop
+returns c =
+    let e : c .before .loop .i ≡ 16 = omega arith in
+    ap (λ (t : State). t .halves) (rw e at (c .before .loop .inv .2))
+
+pub onward-spec : {M : Type 1} → statement M
+onward-spec =
+    tie.close
+    (tie.spec
+    Inv-loop
+    μ-loop
+    loop-holds
+    mul-step
+    array-read-step
+    step-requires
+    round-under-requires
+    add-i
+    loop-less
+    loop-again
+    returns)

@@ -1,0 +1,43 @@
+-- `register::register` meets its contract.
+-- Assumes nothing.
+use Prim.Native.Nat.{_%_}
+use native.Mathlib.Omega.{arith}
+use denote.Ref.{now}
+use borrow.Author.Needs.{needs}
+use borrow.Author.Tests.{eq-eqb, ne-eqb}
+use Rattle.standard.proofs.BytesLaws.{spelled}
+use Rattle.standard.proofs.RegisterLaws.{begins-anew}
+use Rattle.standard.specs.Register.{registerCall}
+use Rattle.register.proofs.register.Statement.{statement}
+use Rattle.register.proofs.register.Tie as tie
+
+refused16-requires : tie.Need-refused16-requires
+refused16-requires c κs = search needs
+
+returns : tie.Need-returns
+unfolding registerCall
+returns c = rw (c .refused16 .ensures, ne-eqb _ _ (c .before .if1 .taken))
+
+array16-requires : tie.Need-array16-requires
+array16-requires c κs = search needs
+
+turned-requires : tie.Need-turned-requires
+turned-requires c κs = omega arith
+
+returns-2 : tie.Need-returns-2
+unfolding registerCall
+returns-2 c =
+    let made = c .before in
+    let x = made .before .before .before .args in
+    let h = made .before .if1 .left in
+    rw (c .turned .ensures, made .array16 .ensures, spelled 16 (now (x .key)) h, eq-eqb _ _ h, begins-anew (now (x .key)) (x .steps) h)
+
+pub register-spec : {M : Type 1} → statement M
+register-spec =
+    tie.close
+    (tie.spec
+    refused16-requires
+    returns
+    array16-requires
+    turned-requires
+    returns-2)

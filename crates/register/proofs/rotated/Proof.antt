@@ -1,0 +1,58 @@
+-- `register::rotated` meets its contract.
+-- Assumes nothing.
+use mathlib.Core.Path.{_≡_, refl, _∙_}
+use Prim.Native.Nat.{_+_, _-_, _%_, _≤_, zero-le}
+use native.Mathlib.Omega.{arith}
+use lib.ListN.{length, take, length-set}
+use Rattle.standard.proofs.FillLaws.{fill-next, filled}
+use Rattle.standard.specs.Bytes.{_!_, table}
+use Rattle.register.proofs.rotated.Statement.{statement}
+use Rattle.register.proofs.rotated.Tie as tie
+
+abbrev Inv-loop : tie.InvT-loop
+Inv-loop n q out₀ i₀ out i = (i ≤ 16) × (length out ≡ 16) × (take i out ≡ table i (λ j. q ! ((j + n) % 16)))
+
+abbrev μ-loop : tie.MeasureT-loop
+μ-loop n q out₀ i₀ out i = 16 - i
+
+loop-holds : tie.Need-loop-holds Inv-loop μ-loop
+loop-holds c = (zero-le, refl, refl)
+
+add-out : tie.Need-add-out Inv-loop μ-loop
+add-out c = omega arith
+
+array-read-out : tie.Need-array-read-out Inv-loop μ-loop
+array-read-out c = omega arith
+
+array-write-out : tie.Need-array-write-out Inv-loop μ-loop
+array-write-out c = omega arith
+
+add-i : tie.Need-add-i Inv-loop μ-loop
+add-i c = omega arith
+
+loop-less : tie.Need-loop-less Inv-loop μ-loop
+loop-less c = omega arith
+
+loop-again : tie.Need-loop-again Inv-loop μ-loop
+loop-again c =
+    let at = c .before .loop in
+    (omega arith, length-set (at .out) _ _ ∙ at .inv .1, fill-next (at .out) _ (at .i) _ (omega arith) refl (at .inv .2))
+
+returns : tie.Need-returns Inv-loop μ-loop
+returns c =
+    let at = c .before .loop in filled (at .out) _ 16 (at .i) (at .inv .1) (omega arith) (at .inv .2)
+
+pub rotated-spec : {M : Type 1} → statement M
+rotated-spec =
+    tie.close
+    (tie.spec
+    Inv-loop
+    μ-loop
+    loop-holds
+    add-out
+    array-read-out
+    array-write-out
+    add-i
+    loop-less
+    loop-again
+    returns)

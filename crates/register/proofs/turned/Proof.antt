@@ -1,0 +1,61 @@
+-- `register::turned` meets its contract.
+-- Assumes nothing.
+use mathlib.Core.Path.{_≡_, refl}
+use Prim.Native.Nat.{_-_, _≤_, zero-le}
+use native.Mathlib.Omega.{arith}
+use Rattle.standard.specs.Hurdle.{a}
+use Rattle.standard.specs.Register.{turned}
+use Rattle.register.proofs.StepLaws.{rotation-most, turned-more}
+use Rattle.register.proofs.turned.Statement.{statement}
+use Rattle.register.proofs.turned.Tie as tie
+
+abbrev Inv-loop : tie.InvT-loop
+Inv-loop steps rots q₀ i₀ q i = (i ≤ steps) × (rots ≡ a) × (q ≡ turned q₀ i)
+
+abbrev μ-loop : tie.MeasureT-loop
+μ-loop steps rots q₀ i₀ q i = steps - i
+
+loop-holds : tie.Need-loop-holds Inv-loop μ-loop
+unfolding a turned
+loop-holds c = (zero-le, refl, refl)
+
+mul-step : tie.Need-mul-step Inv-loop μ-loop
+mul-step c = omega arith
+
+array-read-step : tie.Need-array-read-step Inv-loop μ-loop
+array-read-step c = omega arith
+
+step-requires : tie.Need-step-requires Inv-loop μ-loop
+step-requires c κs = rotation-most _ (c .before .loop .i) (c .before .loop .inv .1) (omega arith)
+
+add-i : tie.Need-add-i Inv-loop μ-loop
+add-i c = omega arith
+
+loop-less : tie.Need-loop-less Inv-loop μ-loop
+loop-less c = omega arith
+
+loop-again : tie.Need-loop-again Inv-loop μ-loop
+loop-again c =
+    let at = c .before .before .loop in
+    (omega arith, at .inv .1, turned-more _ (at .i) _ (at .q) (c .step .result) (at .inv .1) (omega arith) (at .inv .2) (c .step .ensures))
+
+returns : tie.Need-returns Inv-loop μ-loop
+returns c =
+    let at = c .before .loop in
+    let e : at .i ≡ c .before .before .args .steps = omega arith in
+    rw e at (at .inv .2)
+
+pub turned-spec : {M : Type 1} → statement M
+turned-spec =
+    tie.close
+    (tie.spec
+    Inv-loop
+    μ-loop
+    loop-holds
+    mul-step
+    array-read-step
+    step-requires
+    add-i
+    loop-less
+    loop-again
+    returns)

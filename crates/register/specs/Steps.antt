@@ -1,0 +1,22 @@
+-- What the steps of the code compute on their way to the definitions.
+-- Assumes nothing.
+use mathlib.Core.Bool.{Bool, _&&_}
+use mathlib.Core.List.{List, [], _∷_}
+use Prim.Native.Nat.{ℕ}
+use Rattle.hurdle.specs.Steps.{bytes4}
+use Rattle.standard.specs.Bytes.{choose}
+use Rattle.standard.specs.Hurdle.{encrypt, decrypt}
+use Rattle.standard.specs.Refusals.{wrongLength, long, first, answer8}
+use Rattle.standard.specs.Register.{State}
+use Rattle.standard.specs.declared.Bytes8.{Bytes8}
+
+-- a register, and halves that are words
+abbrev pub stateOf : List ℕ → ℕ → ℕ → State
+stateOf q l r = record { register = q; halves = (bytes4 l, bytes4 r) }
+
+-- the block in either direction, and the call
+abbrev pub crypt : List ℕ → List ℕ → Bool → List ℕ
+crypt key b back = choose back (decrypt key b) (encrypt key b)
+
+unfoldable pub cryptCall : List ℕ → List ℕ → Bool → Bytes8
+cryptCall key b back = answer8 (first ((long 16 key && long 8 b, wrongLength) ∷ [])) (crypt key b back)

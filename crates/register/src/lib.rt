@@ -1,0 +1,169 @@
+// HURDLE-II with the key schedule in sixteen bytes (02, 7): one register beside the block, which starts as the key and steps from round to
+// round until the key is back. The calls answer what those of `hurdle` do.
+use arrays::array8;
+use arrays::array16;
+use arrays::both_long;
+use arrays::xor16;
+use hurdle::Halves;
+use hurdle::S;
+use hurdle::joined;
+use hurdle::refused8;
+use hurdle::round_under;
+use hurdle::split;
+use standard::Bytes8;
+use standard::Bytes16;
+use standard::WRONG_LENGTH;
+use standard::refused16;
+ghost use mathlib.Core.Path.{_≡_};
+ghost use Prim.Native.Nat.{_-_, _≤_};
+ghost use Rattle.hurdle.specs.Steps.{bytes4};
+ghost use Rattle.standard.specs.Bytes.{xors};
+ghost use Rattle.standard.specs.Hurdle.{D as dOf, rotl, next, encryptCall, decryptCall};
+ghost use Rattle.standard.specs.Register.{turned as turnedOf, onward as onwardOf, backward as backwardOf, registerCall};
+ghost use Rattle.register.specs.Steps.{stateOf, crypt as cryptOf, cryptCall};
+
+const D: [u8; 16] = [
+    0x3c,
+    0xa7,
+    0xec,
+    0x25,
+    0x79,
+    0x57,
+    0xdf,
+    0xc0,
+    0x38,
+    0x0a,
+    0x33,
+    0x1e,
+    0xf3,
+    0x8c,
+    0xf4,
+    0xf7,
+];
+
+// The rotations a1, a2, ..
+const A: [usize; 16] = [5, 5, 5, 5, 3, 7, 5, 5, 5, 5, 7, 3, 5, 5, 5, 5];
+
+// Rotated left by n bytes.
+fn rotated(q: [u8; 16], n: usize) -> [u8; 16]
+    requires { ⌜ n ≤ 16 ⌝ }
+    ensures { λ r. ⌜ r ≡ rotl n q ⌝ }
+{
+    let mut out = [0u8; 16];
+    for i in 0..16 {
+        out[i] = q[(i + n) % 16];
+    }
+    out
+}
+
+// The step that rotates by n.
+fn step(q: [u8; 16], n: usize) -> [u8; 16]
+    requires { ⌜ n ≤ 16 ⌝ }
+    ensures { λ r. ⌜ r ≡ next n q ⌝ }
+{
+    xor16(rotated(q, n), D)
+}
+
+// Undoes it.
+fn step_back(q: [u8; 16], n: usize) -> [u8; 16]
+    requires { ⌜ n ≤ 16 ⌝ }
+    ensures { λ r. ⌜ r ≡ rotl (16 - n) (xors 16 q dOf) ⌝ }
+{
+    rotated(xor16(q, D), 16 - n)
+}
+
+// Sixteen rounds of encryption: each a round, and then the step.
+fn onward(key: [u8; 16], block: Halves) -> Halves
+    ensures { λ o. ⌜ (bytes4 (o .l), bytes4 (o .r)) ≡ onwardOf 16 (stateOf key (block .l) (block .r)) .halves ⌝ }
+{
+    let s = S;
+    let a = A;
+    let mut q = key;
+    let mut h = block;
+    for i in 0..16 {
+        let stepped = step(q, a[i]);
+        h = round_under(&s, h, &q);
+        q = stepped;
+    }
+    h
+}
+
+// Sixteen rounds of decryption: each the step back, and then a round.
+fn backward(key: [u8; 16], block: Halves) -> Halves
+    ensures { λ o. ⌜ (bytes4 (o .l), bytes4 (o .r)) ≡ backwardOf 16 (stateOf key (block .l) (block .r)) .halves ⌝ }
+{
+    let s = S;
+    let a = A;
+    let mut q = key;
+    let mut h = block;
+    for i in 0..16 {
+        let stepped = step_back(q, a[15 - i]);
+        h = round_under(&s, h, &stepped);
+        q = stepped;
+    }
+    h
+}
+
+// The register after so many steps.
+fn turned(key: [u8; 16], steps: usize) -> [u8; 16]
+    requires { ⌜ steps ≤ 16 ⌝ }
+    ensures { λ r. ⌜ r ≡ turnedOf key steps ⌝ }
+{
+    let a = A;
+    let mut q = key;
+    for i in 0..steps {
+        let stepped = step(q, a[i]);
+        q = stepped;
+    }
+    q
+}
+
+// A block in either direction.
+fn crypt(key: [u8; 16], block: [u8; 8], back: bool) -> [u8; 8]
+    ensures { λ r. ⌜ r ≡ cryptOf key block back ⌝ }
+{
+    let halves = split(block);
+    if back {
+        joined(backward(key, halves))
+    } else {
+        joined(onward(key, halves))
+    }
+}
+
+// A call in either direction, over strings of any length.
+fn crypted(key: &[u8], block: &[u8], back: bool) -> Bytes8
+    ensures { λ r. ⌜ r ≡ cryptCall (now (key .entry)) (now (block .entry)) back ⌝ }
+{
+    if !both_long(key, 16, block, 8) {
+        return refused8(WRONG_LENGTH);
+    }
+    Bytes8 {
+        refusal: 0,
+        bytes: crypt(array16(key), array8(block), back),
+    }
+}
+
+pub fn encrypt_register(key: &[u8], block: &[u8]) -> Bytes8
+    ensures { λ r. ⌜ r ≡ encryptCall (now (key .entry)) (now (block .entry)) ⌝ }
+{
+    crypted(key, block, false)
+}
+
+pub fn decrypt_register(key: &[u8], block: &[u8]) -> Bytes8
+    ensures { λ r. ⌜ r ≡ decryptCall (now (key .entry)) (now (block .entry)) ⌝ }
+{
+    crypted(key, block, true)
+}
+
+// The register after any number of steps: after each sixteen they begin anew.
+pub fn register(key: &[u8], steps: u64) -> Bytes16
+    ensures { λ r. ⌜ r ≡ registerCall (now (key .entry)) steps ⌝ }
+{
+    if key.len() != 16 {
+        return refused16(WRONG_LENGTH);
+    }
+    Bytes16 {
+        refusal: 0,
+        bytes: turned(array16(key), (steps % 16) as usize),
+    }
+}

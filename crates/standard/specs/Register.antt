@@ -1,0 +1,87 @@
+-- The key schedule in sixteen bytes (02, 7): one register, which starts as the key and steps from round to round until the key is back.
+-- Assumes nothing.
+use mathlib.Core.List.{List, [], _∷_, _++_}
+use mathlib.Core.Path.{_≡_}
+use Prim.Native.Nat.{ℕ, zero, suc, _-_, _%_, _<_}
+use lib.ListN.{length}
+use Rattle.standard.specs.Bytes.{_!_, part, xors}
+use Rattle.standard.specs.Hurdle.{Halves, round, D, a, rotl, next, encrypt, decrypt}
+use Rattle.standard.specs.Refusals.{wrongLength, long, first, answer16}
+use Rattle.standard.specs.declared.Bytes16.{Bytes16}
+
+-- the step after round i + 1: rotated left by a(i+1) bytes, then ⊕ D
+abbrev pub step : ℕ → List ℕ → List ℕ
+step i q = next (a ! i) q
+
+-- the step back: ⊕ D, then rotated right as far, which is left by what is missing to sixteen
+abbrev pub stepBack : ℕ → List ℕ → List ℕ
+stepBack i q = rotl (16 - a ! i) (xors 16 q D)
+
+-- the register after n steps; after each sixteen the rotations begin anew
+unfoldable pub turned : List ℕ → ℕ → List ℕ
+turned key zero = key
+turned key (suc n) = step (n % 16) (turned key n)
+
+-- ---- the second form of encryption and decryption
+
+-- the register, and the block's halves beside it
+pub record State : Type 0 where
+  pub register : List ℕ
+  pub halves : Halves
+
+abbrev pub start : List ℕ → List ℕ → State
+start key b = record { register = key; halves = (part 0 4 b, part 4 4 b) }
+
+-- a round takes bytes 11 to 0 of the register as its key
+abbrev pub roundUnder : List ℕ → Halves → Halves
+roundUnder q h = round (part 4 12 q) h
+
+-- n rounds of encryption: each a round under the register, and then its step
+unfoldable pub onward : ℕ → State → State
+onward zero s = s
+onward (suc n) s =
+    let t : State = onward n s in
+    record { register = step n (t .register); halves = roundUnder (t .register) (t .halves) }
+
+-- n rounds of decryption: each a step back, and then a round under the register
+unfoldable pub backward : ℕ → State → State
+backward zero s = s
+backward (suc n) s =
+    let t : State = backward n s in
+    let q : List ℕ = stepBack (15 - n) (t .register) in
+    record { register = q; halves = roundUnder q (t .halves) }
+
+-- R, then L
+abbrev pub joined : State → List ℕ
+joined s = s .halves .1 ++ s .halves .0
+
+unfoldable pub encryptRegister : List ℕ → List ℕ → List ℕ
+encryptRegister key b = joined (onward 16 (start key b))
+
+unfoldable pub decryptRegister : List ℕ → List ℕ → List ℕ
+decryptRegister key b = joined (backward 16 (start key b))
+
+-- ---- the call that shows the register; those of the cipher are `encryptCall` and `decryptCall`
+
+unfoldable pub registerCall : List ℕ → ℕ → Bytes16
+registerCall key n = answer16 (first ((long 16 key, wrongLength) ∷ [])) (turned key n)
+
+-- ---- what the request asks for, stated; the proofs are in proofs/RegisterLaws
+
+-- each of step and step back undoes the other, in each round
+pub record StepBack : Type 0 where
+  pub undone : (i : ℕ) (q : List ℕ) → i < 16 → length q ≡ 16 → stepBack i (step i q) ≡ q
+  pub redone : (i : ℕ) (q : List ℕ) → i < 16 → length q ≡ 16 → step i (stepBack i q) ≡ q
+
+-- after sixteen steps the register holds the key again
+abbrev pub Returns : Type 0
+Returns = (key : List ℕ) → length key ≡ 16 → turned key 16 ≡ key
+
+-- so n steps are those of n modulo 16
+abbrev pub BeginsAnew : Type 0
+BeginsAnew = (key : List ℕ) (n : ℕ) → length key ≡ 16 → turned key n ≡ turned key (n % 16)
+
+-- both forms agree, for every key and block
+pub record SameCipher : Type 0 where
+  pub encrypting : (key b : List ℕ) → encryptRegister key b ≡ encrypt key b
+  pub decrypting : (key b : List ℕ) → length key ≡ 16 → decryptRegister key b ≡ decrypt key b
