@@ -212,6 +212,24 @@ taa1_bytes8 taa1_encrypt(const uint8_t *key, size_t key_length,
 taa1_bytes8 taa1_decrypt(const uint8_t *key, size_t key_length,
                          const uint8_t *block, size_t block_length);
 
+/*
+ * The same with the key schedule in one register of sixteen bytes in place of the
+ * round keys: it starts as the key, and steps from round to round until the key
+ * is back, from where decryption steps back.
+ */
+taa1_bytes8 taa1_encrypt_register(const uint8_t *key, size_t key_length,
+                                  const uint8_t *block, size_t block_length);
+
+taa1_bytes8 taa1_decrypt_register(const uint8_t *key, size_t key_length,
+                                  const uint8_t *block, size_t block_length);
+
+/*
+ * That register after so many steps, 0 for the key [16] itself. Any number is
+ * taken: after each sixteen the register is the key again and the steps begin
+ * anew.
+ */
+taa1_bytes16 taa1_register(const uint8_t *key, size_t key_length, uint64_t steps);
+
 /* ---- TA11, TA21, TA41: a session key from a root [16] and a seed [10] ---- */
 
 /* The session key for TA12. */

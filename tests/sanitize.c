@@ -99,6 +99,10 @@ static void single_calls(bool at_end, int longer)
 
     CHECK(taa1_encrypt(S(root), S(block)).refusal == wanted);
     CHECK(taa1_decrypt(S(root), S(block)).refusal == wanted);
+    CHECK(taa1_encrypt_register(S(root), S(block)).refusal == wanted);
+    CHECK(taa1_decrypt_register(S(root), S(block)).refusal == wanted);
+    CHECK(taa1_register(S(root), 3).refusal == wanted);
+    CHECK(taa1_register(S(root), UINT64_MAX).refusal == wanted);
     CHECK(taa1_ta11(S(root), S(key)).refusal == wanted);
     CHECK(taa1_ta21(S(root), S(key)).refusal == wanted);
     CHECK(taa1_ta41(S(root), S(key)).refusal == wanted);
@@ -347,6 +351,8 @@ static void nulls(void)
     string ring = input(TAA1_RING_BYTES, true);
     string session_key = input(16, true);
     CHECK(taa1_encrypt(NULL, 0, NULL, 0).refusal == TAA1_WRONG_LENGTH);
+    CHECK(taa1_decrypt_register(NULL, 0, NULL, 0).refusal == TAA1_WRONG_LENGTH);
+    CHECK(taa1_register(NULL, 0, 0).refusal == TAA1_WRONG_LENGTH);
     CHECK(is(taa1_check_plain(NULL, 0), TAA1_ACCEPTED, 0, 0));
     CHECK(is(taa1_seal_book(S(ring), NULL, 0, NULL, 0), TAA1_ACCEPTED, 0, 0));
     CHECK(is(taa1_open_book(S(ring), NULL, 0, NULL, 0), TAA1_ACCEPTED, 0, 0));

@@ -261,6 +261,9 @@ _MASKS = (c_uint16, c_uint16)
 _CALLS: dict[str, tuple[type[ctypes.Structure], tuple[Any, ...]]] = {
     "encrypt": (_BYTES8, (bytes, bytes)),
     "decrypt": (_BYTES8, (bytes, bytes)),
+    "encrypt_register": (_BYTES8, (bytes, bytes)),
+    "decrypt_register": (_BYTES8, (bytes, bytes)),
+    "register": (_BYTES16, (bytes, c_uint64)),
     "ta11": (_BYTES16, (bytes, bytes)),
     "ta21": (_BYTES16, (bytes, bytes)),
     "ta41": (_BYTES16, (bytes, bytes)),
@@ -353,6 +356,18 @@ class Engine:
     def decrypt(self, key: Bytes, block: Bytes) -> bytes:
         """Undoes `encrypt` under the same key."""
         return self._call("decrypt", key, block)
+
+    def encrypt_register(self, key: Bytes, block: Bytes) -> bytes:
+        """As `encrypt`, with the key schedule in one register of 16 bytes."""
+        return self._call("encrypt_register", key, block)
+
+    def decrypt_register(self, key: Bytes, block: Bytes) -> bytes:
+        """As `decrypt`, with that register, which steps back from the key."""
+        return self._call("decrypt_register", key, block)
+
+    def register(self, key: Bytes, steps: int) -> bytes:
+        """That register after so many steps; after each sixteen it is the key again."""
+        return self._call("register", key, steps)
 
     def ta11(self, root: Bytes, seed: Bytes) -> bytes:
         """The session key for `ta12`, from a root of 16 bytes and a seed of 10."""

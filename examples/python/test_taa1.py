@@ -99,6 +99,9 @@ SHEET = [given(ROOT), given(KEY), derived(1, 0, 1), derived(4, 1, 1)]
 ACCEPTED: dict[str, tuple[Any, ...]] = {
     "encrypt": (ROOT, BLOCK),
     "decrypt": (ROOT, BLOCK),
+    "encrypt_register": (ROOT, BLOCK),
+    "decrypt_register": (ROOT, BLOCK),
+    "register": (ROOT, 1),
     "ta11": (ROOT, KEY),
     "ta21": (ROOT, KEY),
     "ta41": (ROOT, KEY),
@@ -171,6 +174,21 @@ class Results(unittest.TestCase):
         encrypted = bytes.fromhex("d184108a86befa5a")
         self.assertEqual(ENGINE.encrypt(upward(16), BLOCK), encrypted)
         self.assertEqual(ENGINE.decrypt(upward(16), encrypted), BLOCK)
+
+    def test_one_register(self) -> None:
+        encrypted = ENGINE.encrypt(upward(16), BLOCK)
+        self.assertEqual(ENGINE.encrypt_register(upward(16), BLOCK), encrypted)
+        self.assertEqual(ENGINE.decrypt_register(upward(16), encrypted), BLOCK)
+
+    def test_steps(self) -> None:
+        """Each step rotates the register and adds D, until the key is back."""
+        d = bytes.fromhex("3ca7ec257957dfc0380a331ef38cf4f7")
+        wanted = ROOT
+        for step, rotation in enumerate((5, 5, 5, 5, 3, 7, 5, 5, 5, 5, 7, 3, 5, 5, 5, 5)):
+            for turns in (0, 1, (1 << 60) - 1):
+                self.assertEqual(ENGINE.register(ROOT, 16 * turns + step), wanted)
+            wanted = xor(wanted[rotation:] + wanted[:rotation], d)
+        self.assertEqual(wanted, ROOT)
 
     def test_session_keys(self) -> None:
         key = bl1(ROOT, EXP2)
@@ -447,7 +465,7 @@ class Values(unittest.TestCase):
         """ACCEPTED, which the tests below go by, has each call, and each accepts it."""
         public = {name for name in vars(taa1.Engine) if not name.startswith("_")}
         self.assertEqual(set(ACCEPTED), public)
-        self.assertEqual(len(public), 32)
+        self.assertEqual(len(public), 35)
         for name, values in ACCEPTED.items():
             with self.subTest(name):
                 call(name, *values)
@@ -481,18 +499,16 @@ class Values(unittest.TestCase):
                     self.assertEqual(call(name, *made), wanted)
 
     def test_wide_integers(self) -> None:
-        """The widest that fits goes to the engine, which refuses it."""
+        """The widest that fits goes to the engine, which refuses it; but not as steps."""
         for name, values in ACCEPTED.items():
             for at, value in enumerate(values):
                 if not isinstance(value, int):
                     continue
                 bits = 16 if value in (RESPONSE_MASK, KEY_MASK) else 64
-                for wide, error in (
-                    ((1 << bits) - 1, Refused),
-                    (1 << bits, OverflowError),
-                    (1 << 20000, OverflowError),
-                    (-1, OverflowError),
-                ):
+                wrong = [(wide, OverflowError) for wide in (1 << bits, 1 << 20000, -1)]
+                if name != "register":
+                    wrong.append(((1 << bits) - 1, Refused))
+                for wide, error in wrong:
                     with self.subTest(call=name, argument=at + 1), self.assertRaises(error):
                         call(name, *values[:at], wide, *values[at + 1 :])
 

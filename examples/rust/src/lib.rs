@@ -145,6 +145,21 @@ pub fn decrypt(key: &[u8], block: &[u8]) -> Result<[u8; 8], Refusal> {
     bytes(call!(decrypt([key], [block])))
 }
 
+/// As [`encrypt`], with the key schedule in one register of 16 bytes.
+pub fn encrypt_register(key: &[u8], block: &[u8]) -> Result<[u8; 8], Refusal> {
+    bytes(call!(encrypt_register([key], [block])))
+}
+
+/// As [`decrypt`], with that register, which steps back from the key.
+pub fn decrypt_register(key: &[u8], block: &[u8]) -> Result<[u8; 8], Refusal> {
+    bytes(call!(decrypt_register([key], [block])))
+}
+
+/// That register after so many steps; after each sixteen it is the key again.
+pub fn register(key: &[u8], steps: u64) -> Result<[u8; 16], Refusal> {
+    bytes(call!(register([key], steps)))
+}
+
 /// The session key for [`ta12`], from a root of 16 bytes and a seed of 10.
 pub fn ta11(root: &[u8], seed: &[u8]) -> Result<[u8; 16], Refusal> {
     bytes(call!(ta11([root], [seed])))

@@ -68,6 +68,9 @@ macro_rules! calls {
         $macro! {
             encrypt([key], [block]) -> Bytes<8>;
             decrypt([key], [block]) -> Bytes<8>;
+            encrypt_register([key], [block]) -> Bytes<8>;
+            decrypt_register([key], [block]) -> Bytes<8>;
+            register([key], steps: u64) -> Bytes<16>;
             ta11([root], [seed]) -> Bytes<16>;
             ta21([root], [seed]) -> Bytes<16>;
             ta41([root], [seed]) -> Bytes<16>;

@@ -91,6 +91,33 @@ fn decryption_undoes_encryption() {
 }
 
 #[test]
+fn one_register_does_as_well() {
+    let (key, block) = (upward::<16>(), upward::<8>());
+    let encrypted = taa1::encrypt(&key, &block).unwrap();
+    assert_eq!(taa1::encrypt_register(&key, &block), Ok(encrypted));
+    assert_eq!(taa1::decrypt_register(&key, &encrypted), Ok(block));
+    let refused = Err(Refusal::WrongLength);
+    assert_eq!(taa1::encrypt_register(&key, &key), refused);
+    assert_eq!(taa1::decrypt_register(&block, &block), refused);
+}
+
+#[test]
+fn the_register_turns_until_the_key_is_back() {
+    const A: [usize; 16] = [5, 5, 5, 5, 3, 7, 5, 5, 5, 5, 7, 3, 5, 5, 5, 5];
+    const D: [u8; 16] = *b"\x3c\xa7\xec\x25\x79\x57\xdf\xc0\x38\x0a\x33\x1e\xf3\x8c\xf4\xf7";
+    let mut wanted = ROOT;
+    for (step, rotation) in (0..).zip(A) {
+        for turns in [0, 1, u64::MAX / 16] {
+            assert_eq!(taa1::register(&ROOT, 16 * turns + step), Ok(wanted));
+        }
+        wanted.rotate_left(rotation);
+        wanted = xor(wanted, D);
+    }
+    assert_eq!(wanted, ROOT);
+    assert_eq!(taa1::register(&KEY, 0), Err(Refusal::WrongLength));
+}
+
+#[test]
 fn session_keys_are_made() {
     let mut seed = upward::<10>();
     let key = Ok(bl1(ROOT, EXP2));
