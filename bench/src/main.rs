@@ -14,8 +14,9 @@ use interface::{SHEET_RECORD_BYTES, SHEET_VALUE_BYTES};
 use std::time::{Duration, Instant};
 
 #[rustfmt::skip]
-const ROWS: [&str; 18] = [
+const ROWS: [&str; 21] = [
     "schedule", "block, keys laid out", "schedule and block",
+    "register and block", "schedule, decrypted", "register, decrypted",
     "TA11", "TA31", "TA32", "TA51", "TA52", "TA81", "TA82", "TA91", "TA92",
     "record sealed", "record opened",
     "TA12, one by one", "TA12, in a class",
@@ -245,6 +246,10 @@ fn main() {
             shown(ratio(c), 2),
         );
         times[i] = a;
+    }
+    if let [_, _, Some(laid), Some(turned), Some(laid_back), Some(turned_back), ..] = times {
+        let (on, back) = (turned / laid, turned_back / laid_back);
+        println!("ours: one register takes {on:.2} times the round keys, decrypting {back:.2}");
     }
     let [.., challenge, class, derivation, sheet] = times;
     for (list, parts, all, one_by_one) in [

@@ -10,17 +10,24 @@ pub fn rounds(inputs: &Inputs) -> Rounds<'_> {
     let mut laid_out = RoundKeys::default();
     laid_out.set(&inputs.keys[0]);
     let mut keys = RoundKeys::default();
-    let mut call_keys = RoundKeys::default();
+    // It has round keys only, so both forms are the same here.
+    let call = |run: fn(&mut RoundKeys, &mut [u8; 8])| {
+        let mut keys = RoundKeys::default();
+        inputs.calls(move |key, block| {
+            keys.set(key);
+            run(&mut keys, block);
+        })
+    };
     let cipher = [
         inputs.schedules(move |key| {
             keys.set(key);
             black_box(&keys);
         }),
         inputs.blocks(move |block| laid_out.encrypt(block)),
-        inputs.calls(move |key, block| {
-            call_keys.set(key);
-            call_keys.encrypt(block);
-        }),
+        call(RoundKeys::encrypt),
+        call(RoundKeys::encrypt),
+        call(RoundKeys::decrypt),
+        call(RoundKeys::decrypt),
     ];
     let calls = cipher.into_iter().chain(texts(inputs));
     // It has no call for a class, so both rows are its challenges one by one.

@@ -7,8 +7,14 @@ use interface::SHEET_VALUE_BYTES;
 
 pub fn rounds(inputs: &Inputs) -> Rounds<'_> {
     let [schedule, block] = steps(inputs);
-    let call = inputs.calls(|key, block| *block = engine::encrypt(key, block).bytes);
-    let cipher = [schedule, block, call];
+    let cipher = [
+        schedule,
+        block,
+        inputs.calls(|key, block| *block = engine::encrypt(key, block).bytes),
+        inputs.calls(|key, block| *block = engine::encrypt_register(key, block).bytes),
+        inputs.calls(|key, block| *block = engine::decrypt(key, block).bytes),
+        inputs.calls(|key, block| *block = engine::decrypt_register(key, block).bytes),
+    ];
     let session_key = &inputs.keys[0];
     let lists = [
         inputs.book(SEALED, |out| {

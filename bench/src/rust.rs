@@ -13,7 +13,11 @@ pub fn rounds(inputs: &Inputs) -> Rounds<'_> {
             black_box(&keys);
         }),
         inputs.blocks(move |block| *block = hurdle::encrypt_with(&keys, block)),
+        // It has round keys only, so both forms are the same here.
         inputs.calls(|key, block| *block = hurdle::encrypt(key, block)),
+        inputs.calls(|key, block| *block = hurdle::encrypt(key, block)),
+        inputs.calls(|key, block| *block = hurdle::decrypt(key, block)),
+        inputs.calls(|key, block| *block = hurdle::decrypt(key, block)),
     ];
     let session_key = &inputs.keys[0];
     let lists = [
