@@ -3,6 +3,8 @@
 //! A block or key as an array holds the leftmost byte first: byte 7 of a
 //! block, or byte 15 of a key, stands at index 0.
 
+use std::array::from_fn;
+
 /// Table 1: the byte permutation S.
 #[rustfmt::skip]
 pub const S: [u8; 256] = [
@@ -71,23 +73,33 @@ pub fn inverse_s() -> [u8; 256] {
 #[derive(Clone)]
 pub struct Schedule([[u8; 12]; 16]);
 
+/// Clause 6.5: from Q of a round, counted from 0, to the next.
+fn step(q: u128, round: usize) -> u128 {
+    q.rotate_left(8 * A[round]) ^ D
+}
+
+/// The step undone.
+fn step_back(q: u128, round: usize) -> u128 {
+    (q ^ D).rotate_right(8 * A[round])
+}
+
 /// Clause 6.5: the values Q^1 to Q^17.
 fn q_values(key: &[u8; 16]) -> [u128; 17] {
     let mut q = [u128::from_be_bytes(*key); 17];
     for i in 1..17 {
-        q[i] = q[i - 1].rotate_left(8 * A[i - 1]) ^ D;
+        q[i] = step(q[i - 1], i - 1);
     }
     q
 }
 
-/// Clause 6.5: each round key is the low twelve bytes of its Q.
+/// Clause 6.5: the round key is the low twelve bytes of Q.
+fn round_key(q: u128) -> [u8; 12] {
+    from_fn(|j| (q >> (8 * j)) as u8)
+}
+
 pub fn schedule(key: &[u8; 16]) -> Schedule {
     let q = q_values(key);
-    let mut keys = [[0; 12]; 16];
-    for (k, q) in keys.iter_mut().zip(q) {
-        k.copy_from_slice(&q.to_le_bytes()[..12]);
-    }
-    Schedule(keys)
+    Schedule(from_fn(|i| round_key(q[i])))
 }
 
 /// Clause 6.4: the function f.
@@ -105,23 +117,23 @@ fn f(x: u32, key: &[u8; 12]) -> u32 {
 }
 
 /// Clause 6.2: sixteen rounds, then the swap of the halves.
-fn rounds<'a>(keys: impl Iterator<Item = &'a [u8; 12]>, block: &[u8; 8]) -> [u8; 8] {
+fn rounds(keys: impl Iterator<Item = [u8; 12]>, block: &[u8; 8]) -> [u8; 8] {
     let block = u64::from_be_bytes(*block);
     let (mut l, mut r) = ((block >> 32) as u32, block as u32);
     for key in keys {
-        (l, r) = (r, l ^ f(r, key));
+        (l, r) = (r, l ^ f(r, &key));
     }
     (u64::from(r) << 32 | u64::from(l)).to_be_bytes()
 }
 
 /// Clause 6.2, with round keys made before.
 pub fn encrypt_with(schedule: &Schedule, block: &[u8; 8]) -> [u8; 8] {
-    rounds(schedule.0.iter(), block)
+    rounds(schedule.0.iter().copied(), block)
 }
 
 /// Clause 6.3, with round keys made before: the same rounds, keys backwards.
 pub fn decrypt_with(schedule: &Schedule, block: &[u8; 8]) -> [u8; 8] {
-    rounds(schedule.0.iter().rev(), block)
+    rounds(schedule.0.iter().rev().copied(), block)
 }
 
 /// Clause 6.2.
@@ -132,6 +144,35 @@ pub fn encrypt(key: &[u8; 16], block: &[u8; 8]) -> [u8; 8] {
 /// Clause 6.3.
 pub fn decrypt(key: &[u8; 16], block: &[u8; 8]) -> [u8; 8] {
     decrypt_with(&schedule(key), block)
+}
+
+/// Encryption with one register (02, 7), which steps after each round.
+pub fn encrypt_register(key: &[u8; 16], block: &[u8; 8]) -> [u8; 8] {
+    let mut q = u128::from_be_bytes(*key);
+    let keys = (0..16).map(|round| {
+        let key = round_key(q);
+        q = step(q, round);
+        key
+    });
+    rounds(keys, block)
+}
+
+/// Decryption with one register (02, 7): it starts from the key, to which sixteen
+/// steps lead, and steps back before each round.
+pub fn decrypt_register(key: &[u8; 16], block: &[u8; 8]) -> [u8; 8] {
+    let mut q = u128::from_be_bytes(*key);
+    let keys = (0..16).rev().map(|round| {
+        q = step_back(q, round);
+        round_key(q)
+    });
+    rounds(keys, block)
+}
+
+/// The register after so many steps (02, 7), which begin anew after each sixteen.
+pub fn register(key: &[u8; 16], steps: u64) -> [u8; 16] {
+    let steps = (steps % 16) as usize;
+    let q = (0..steps).fold(u128::from_be_bytes(*key), step);
+    q.to_be_bytes()
 }
 
 #[cfg(test)]
@@ -190,6 +231,40 @@ mod tests {
             assert_ne!(cipher, block);
             assert_eq!(decrypt(&key, &cipher), block);
             assert_eq!(encrypt(&key, &decrypt(&key, &block)), block);
+        }
+    }
+
+    #[test]
+    fn register_turns() {
+        let mut random = Random::new(11);
+        for _ in 0..100 {
+            let (key, block) = (random.bytes(), random.bytes());
+            let mut q = u128::from_be_bytes(key);
+            for steps in 0..200 {
+                assert_eq!(register(&key, steps), q.to_be_bytes());
+                let round = (steps % 16) as usize;
+                let next = step(q, round);
+                assert_eq!(step_back(next, round), q);
+                assert_eq!(step(step_back(q, round), round), q);
+                q = next;
+            }
+            assert_eq!(register(&key, u64::MAX - 15), key);
+            assert_eq!(encrypt_register(&key, &block), encrypt(&key, &block));
+            assert_eq!(decrypt_register(&key, &block), decrypt(&key, &block));
+        }
+    }
+
+    /// Byte j of Q moves to j + a, byte 0 being the rightmost.
+    #[test]
+    fn steps_by_bytes() {
+        let key: [u8; 16] = from_fn(|i| i as u8);
+        let d = D.to_be_bytes();
+        for (round, a) in A.into_iter().enumerate() {
+            let next = step(u128::from_be_bytes(key), round).to_be_bytes();
+            for j in 0..16 {
+                let to = (j + a as usize) % 16;
+                assert_eq!(next[15 - to], key[15 - j] ^ d[15 - to]);
+            }
         }
     }
 }

@@ -287,6 +287,21 @@ pub fn decrypt(key: &[u8], block: &[u8]) -> Bytes8 {
     answer(|| accepted(hurdle::decrypt(&exact(key)?, &exact(block)?)))
 }
 
+/// HURDLE-II encryption with one register (02, 7).
+pub fn encrypt_register(key: &[u8], block: &[u8]) -> Bytes8 {
+    answer(|| accepted(hurdle::encrypt_register(&exact(key)?, &exact(block)?)))
+}
+
+/// HURDLE-II decryption with one register (02, 7).
+pub fn decrypt_register(key: &[u8], block: &[u8]) -> Bytes8 {
+    answer(|| accepted(hurdle::decrypt_register(&exact(key)?, &exact(block)?)))
+}
+
+/// The register itself (02, 7).
+pub fn register(key: &[u8], steps: u64) -> Bytes16 {
+    answer(|| accepted(hurdle::register(&exact(key)?, steps)))
+}
+
 /// TA11 (5.6.1).
 pub fn ta11(root: &[u8], seed: &[u8]) -> Bytes16 {
     answer(|| accepted(bl1(&exact(root)?, &exp2(&exact(seed)?))))

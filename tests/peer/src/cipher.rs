@@ -13,6 +13,7 @@ pub fn run(tally: &mut Tally, random: &mut Random) {
             let (key, block) = (random.bytes(), random.bytes());
             let wanted = accepted(osmo::encrypt(&key, &block));
             compare_three!(group, encrypt([key], [block]), wanted);
+            compare_three!(group, encrypt_register([key], [block]), wanted);
         }
     });
     tally.group("decrypt beside osmo-tetra", |group| {
@@ -20,6 +21,7 @@ pub fn run(tally: &mut Tally, random: &mut Random) {
             let (key, block) = (random.bytes(), random.bytes());
             let wanted = accepted(osmo::decrypt(&key, &block));
             compare_three!(group, decrypt([key], [block]), wanted);
+            compare_three!(group, decrypt_register([key], [block]), wanted);
         }
     });
 }

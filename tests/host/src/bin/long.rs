@@ -62,6 +62,10 @@ fn cipher(group: &mut Group, random: &mut Random) {
     let (key, block, seed) = (string(random, 16), string(random, 8), string(random, 10));
     compare!(group, encrypt([key], [block]));
     compare!(group, decrypt([key], [block]));
+    compare!(group, encrypt_register([key], [block]));
+    compare!(group, decrypt_register([key], [block]));
+    let steps = random.number() >> random.below(64);
+    compare!(group, register([key], steps));
     compare!(group, ta11([key], [seed]));
     compare!(group, ta21([key], [seed]));
     compare!(group, ta41([key], [seed]));
