@@ -1,20 +1,39 @@
 -- The cases of a book call, as its code comes to them.
 -- Assumes nothing.
 use mathlib.Core.List.{List, _++_}
-use mathlib.Core.Path.{_≡_, refl, sym, _∙_}
-use Prim.Native.Nat.{ℕ, _*_, _/_, _≤_}
+use mathlib.Core.Path.{_≡_, refl, sym, ap₂, _∙_}
+use Prim.Native.Nat.{ℕ, _+_, _*_, _/_, _<_, _≤_}
 use native.Mathlib.Omega.{arith}
 use lib.ListN.{length, drop}
 use borrow.Author.Tests.{eq-eqb, ne-eqb, leb-true}
 use Rattle.lists.proofs.CallLaws.{call-refused, call-stopped, call-done}
 use Rattle.lists.specs.Walks.{Clean, Stopped}
+use Rattle.standard.proofs.AnswerLaws.{no-fault}
 use Rattle.standard.proofs.FirstLaws.{all-pass}
-use Rattle.standard.specs.Books.{bookCall}
+use Rattle.standard.specs.Books.{counted, bookCall}
 use Rattle.standard.specs.Lists.{each, listTests, refused}
 use Rattle.standard.specs.Refusals.{wrongLength, first}
+use Rattle.standard.specs.Runs.{firstPass, secondPass, callRuns}
 use Rattle.standard.specs.Sizes.{ringSize}
-use Rattle.books.specs.Steps.{sizeOf, toOf, recordOf, wayOf, faultAt}
+use Rattle.books.specs.Steps.{sizeOf, toOf, recordOf, wayOf, faultAt, lookAt}
 use Rattle.books.specs.declared.walk.Way.{Way}
+
+-- ---- the cipher runs
+
+module _ (head n : ℕ) (g l : ℕ → ℕ) where
+  runs-refused : (head ≡ 0 → ⊥) → 0 ≡ callRuns head n g l
+  runs-refused z = rw (ne-eqb head 0 z)
+
+  runs-stopped : head ≡ 0 → (number index : ℕ) → Stopped n g number index → (number ≡ 0 → ⊥) → firstPass n g l ≡ callRuns head n g l
+  runs-stopped z number index s f =
+      let h : index < n = s .some f .0 in
+      let other : index ≡ n → ⊥ = λ e. omega arith in
+      rw (z, ← s .at, ne-eqb index n other) (omega arith)
+
+  runs-done : head ≡ 0 → Clean g n → firstPass n g l + secondPass n ≡ callRuns head n g l
+  runs-done z none = rw (z, eq-eqb _ _ (no-fault n g none))
+
+-- ---- the answer, the output and the runs
 
 module _ (r : List ℕ) (w : Way) (xs out : List ℕ) where
   abbrev n : ℕ
@@ -26,24 +45,34 @@ module _ (r : List ℕ) (w : Way) (xs out : List ℕ) where
   abbrev made : List ℕ
   made = each n (sizeOf w) (recordOf r w) xs
 
-  pub ring-refused : (length r ≡ ringSize → ⊥) → (refused wrongLength 0, out) ≡ bookCall (wayOf r w) r xs out
+  pub ring-refused : (length r ≡ ringSize → ⊥) → counted (refused wrongLength 0, out) 0 ≡ bookCall (wayOf r w) r xs out
   unfolding bookCall
-  ring-refused h = rw (ne-eqb _ _ h) (call-refused wrongLength n (faultAt r w xs) bytes made out (λ e. omega arith))
+  ring-refused h =
+      rw (ne-eqb _ _ h)
+      (ap₂ counted (call-refused wrongLength n (faultAt r w xs) bytes made out (λ e. omega arith)) (runs-refused wrongLength n (faultAt r w xs) (lookAt w xs) (λ e. omega arith)))
 
   module _ (h : length r ≡ ringSize) (number : ℕ) (e : number ≡ first (listTests (sizeOf w) (toOf w) (length xs) (length out))) where
-    pub lengths-refused : (number ≡ 0 → ⊥) → (refused number 0, out) ≡ bookCall (wayOf r w) r xs out
+    pub lengths-refused : (number ≡ 0 → ⊥) → counted (refused number 0, out) 0 ≡ bookCall (wayOf r w) r xs out
     unfolding bookCall
-    lengths-refused z = rw (eq-eqb _ _ h, ← e) (call-refused number n (faultAt r w xs) bytes made out z)
+    lengths-refused z =
+        rw (eq-eqb _ _ h, ← e)
+        (ap₂ counted (call-refused number n (faultAt r w xs) bytes made out z) (runs-refused number n (faultAt r w xs) (lookAt w xs) z))
 
     module _ (z : number ≡ 0) where
-      pub record-refused : (k i : ℕ) → Stopped n (faultAt r w xs) k i → (k ≡ 0 → ⊥) → (refused k i, out) ≡ bookCall (wayOf r w) r xs out
+      pub record-refused : (k i runs : ℕ) → Stopped n (faultAt r w xs) k i → runs ≡ firstPass n (faultAt r w xs) (lookAt w xs) → (k ≡ 0 → ⊥)
+          → counted (refused k i, out) runs ≡ bookCall (wayOf r w) r xs out
       unfolding bookCall
-      record-refused k i s f = rw (eq-eqb _ _ h, ← e) (call-stopped number n (faultAt r w xs) bytes made out z k i s f)
+      record-refused k i runs s p f =
+          rw (eq-eqb _ _ h, ← e)
+          (ap₂ counted (call-stopped number n (faultAt r w xs) bytes made out z k i s f) (p ∙ runs-stopped number n (faultAt r w xs) (lookAt w xs) z k i s f))
 
       pub all-written : Clean (faultAt r w xs) n → (exit : List ℕ) → exit ≡ made ++ drop bytes out
-          → (record { refusal = 0; index = n; written = bytes }, exit) ≡ bookCall (wayOf r w) r xs out
+          → (looks writes : ℕ) → looks ≡ firstPass n (faultAt r w xs) (lookAt w xs) → writes ≡ secondPass n
+          → (record { refusal = 0; index = n; written = bytes; runs = looks + writes }, exit) ≡ bookCall (wayOf r w) r xs out
       unfolding bookCall
-      all-written none exit k = rw (eq-eqb _ _ h, ← e) (call-done number n (faultAt r w xs) bytes made out z none exit k)
+      all-written none exit k looks writes p q =
+          rw (eq-eqb _ _ h, ← e)
+          (ap₂ counted (call-done number n (faultAt r w xs) bytes made out z none exit k) (ap₂ _+_ p q ∙ runs-done number n (faultAt r w xs) (lookAt w xs) z none))
 
       pub room : bytes ≤ length out
       room = leb-true _ _ (all-pass (listTests (sizeOf w) (toOf w) (length xs) (length out)) refl (sym e ∙ z) 2)

@@ -3,7 +3,7 @@
 use mathlib.Core.List.{List}
 use Prim.Native.Nat.{ℕ}
 use Rattle.records.specs.Steps.{sealedBy, openedBy}
-use Rattle.standard.specs.Books.{plainFault, sealRecord, openFault, openRecord, Way as WayOf}
+use Rattle.standard.specs.Books.{plainFault, sealRecord, openFault, openLook, openRecord, Way as WayOf}
 use Rattle.standard.specs.Lists.{recordAt}
 use Rattle.standard.specs.Sizes.{plainSize, sealedSize}
 use Rattle.books.specs.declared.walk.Way.{Way}
@@ -21,16 +21,24 @@ abbrev pub faultOf : List ℕ → Way → List ℕ → ℕ
 faultOf r Sealing = plainFault
 faultOf r Opening = openFault r
 
+abbrev pub lookOf : Way → List ℕ → ℕ
+lookOf Sealing = λ p. 0
+lookOf Opening = openLook
+
 abbrev pub recordOf : List ℕ → Way → List ℕ → List ℕ
 recordOf r Sealing = sealRecord r
 recordOf r Opening = openRecord r
 
 abbrev pub wayOf : List ℕ → Way → WayOf
-wayOf r w = record { size = sizeOf w; to = toOf w; fault = faultOf r w; convert = recordOf r w }
+wayOf r w = record { size = sizeOf w; to = toOf w; fault = faultOf r w; look = lookOf w; convert = recordOf r w }
 
 -- the fault of record i of a book
 abbrev pub faultAt : List ℕ → Way → List ℕ → ℕ → ℕ
 faultAt r w xs i = faultOf r w (recordAt (sizeOf w) xs i)
+
+-- the cipher runs of a look at it
+abbrev pub lookAt : Way → List ℕ → ℕ → ℕ
+lookAt w xs i = lookOf w (recordAt (sizeOf w) xs i)
 
 -- what a record becomes, from the output b of the cipher run that gives the ring's identity strings
 abbrev pub convertOf : List ℕ → List ℕ → Way → List ℕ → List ℕ

@@ -10,6 +10,7 @@ use lists::lengths_and_output;
 use lists::refused;
 use records::ring_bytes;
 use standard::BookAnswer;
+use standard::CountedAnswer;
 use standard::PLAIN_RECORD;
 use standard::RING;
 use standard::WRONG_LENGTH;
@@ -17,40 +18,53 @@ ghost use mathlib.Core.Path.{_≡_};
 ghost use Rattle.standard.specs.Books.{bookCall, sealBook, openBook, checkPlain};
 ghost use Rattle.books.specs.Steps.{wayOf};
 
+// What a refused book answers, with the block cipher runs by then.
+fn refused_after(number: u32, index: usize, runs: usize) -> CountedAnswer
+    ensures { λ r. ⌜ r ≡ record { refusal = number; index = index; written = 0; runs = runs } ⌝ }
+{
+    CountedAnswer {
+        refusal: number,
+        index,
+        written: 0,
+        runs,
+    }
+}
+
 // Two passes: the first looks for a refusal, the second writes.
-fn book_call(way: Way, ring: &[u8], book: &[u8], out: &mut [u8]) -> BookAnswer
+fn book_call(way: Way, ring: &[u8], book: &[u8], out: &mut [u8]) -> CountedAnswer
     ensures { λ r. ⌜ (r, now (out .exit)) ≡ bookCall (wayOf (now (ring .entry)) way) (now (ring .entry)) (now (book .entry)) (now (out .entry)) ⌝ }
 {
     if ring.len() != RING {
-        return refused(WRONG_LENGTH, 0);
+        return refused_after(WRONG_LENGTH, 0, 0);
     }
     let size = way.size();
     let to = way.to();
     let number = lengths_and_output(size, to, book.len(), out.len());
     if number != 0 {
-        return refused(number, 0);
+        return refused_after(number, 0, 0);
     }
     let keys = ring_bytes(ring);
     let n = book.len() / size as usize;
     let stop = scan(way, &keys, book, n);
     if stop.number != 0 {
-        return refused(stop.number, stop.index);
+        return refused_after(stop.number, stop.index, stop.runs);
     }
-    write(way, &keys, book, n, out);
-    BookAnswer {
+    let runs = write(way, &keys, book, n, out);
+    CountedAnswer {
         refusal: 0,
         index: n,
         written: to as usize * n,
+        runs: stop.runs + runs,
     }
 }
 
-pub fn seal_book(ring: &[u8], plain: &[u8], out: &mut [u8]) -> BookAnswer
+pub fn seal_book(ring: &[u8], plain: &[u8], out: &mut [u8]) -> CountedAnswer
     ensures { λ r. ⌜ (r, now (out .exit)) ≡ sealBook (now (ring .entry)) (now (plain .entry)) (now (out .entry)) ⌝ }
 {
     book_call(Way::Sealing, ring, plain, out)
 }
 
-pub fn open_book(ring: &[u8], sealed: &[u8], out: &mut [u8]) -> BookAnswer
+pub fn open_book(ring: &[u8], sealed: &[u8], out: &mut [u8]) -> CountedAnswer
     ensures { λ r. ⌜ (r, now (out .exit)) ≡ openBook (now (ring .entry)) (now (sealed .entry)) (now (out .entry)) ⌝ }
 {
     book_call(Way::Opening, ring, sealed, out)

@@ -4,18 +4,22 @@ use records::open_record;
 use records::plain_fault;
 use records::seal_record;
 use records::strings_of;
+use standard::IDENTITY_RUNS;
 use standard::PLAIN_RECORD;
 use standard::RingBytes;
 use standard::SEALED_RECORD;
+use standard::TEXT_RUNS;
 ghost use mathlib.Core.List.{_++_};
 ghost use mathlib.Core.Path.{_≡_};
 ghost use Prim.Native.Nat.{_*_, _≤_};
 ghost use lib.ListN.{length, take, drop};
 ghost use Rattle.lists.specs.Walks.{Stopped};
-ghost use Rattle.standard.specs.Books.{plainFault, openFault};
+ghost use Rattle.standard.specs.Books.{plainFault};
 ghost use Rattle.standard.specs.Lists.{recordAt, each};
+ghost use Rattle.standard.specs.Runs.{textRuns, firstPass, secondPass};
 ghost use Rattle.standard.specs.Sizes.{plainSize, sealedSize};
-ghost use Rattle.books.specs.Steps.{sizeOf, toOf, convertOf, recordOf, faultAt};
+ghost use Rattle.books.specs.Steps.{sizeOf, toOf, convertOf, recordOf, faultAt, lookAt};
+ghost use Rattle.books.specs.declared.walk.Way.the-variants.{Opening};
 
 pub enum Way {
     Sealing,
@@ -44,53 +48,68 @@ impl Way {
     }
 }
 
-// Where a scan stopped: at the first record that is refused, or behind the last with 0.
+// Where a scan stopped, at the first record that is refused or behind the last with 0, and the block cipher runs that it took.
 pub struct Stop {
     pub number: u32,
     pub index: usize,
+    pub runs: usize,
 }
 
 pub(crate) fn scan_plain(plain: &[u8], n: usize) -> Stop
     requires { ⌜ plainSize * n ≤ length (now plain) ⌝ }
-    ensures { λ s. ⌜ Stopped n (λ i. plainFault (recordAt plainSize (now (plain .entry)) i)) (s .number) (s .index) ⌝ }
+    ensures { λ s. ⌜ Stopped n (λ i. plainFault (recordAt plainSize (now (plain .entry)) i)) (s .number) (s .index) × (s .runs ≡ 0) ⌝ }
 {
     let mut index = 0;
     while index < n {
         let a = PLAIN_RECORD * index;
         let number = plain_fault(&plain[a..a + PLAIN_RECORD]);
         if number != 0 {
-            return Stop { number, index };
+            return Stop {
+                number,
+                index,
+                runs: 0,
+            };
         }
         index += 1;
     }
     Stop {
         number: 0,
         index: n,
+        runs: 0,
     }
 }
 
 fn scan_sealed(ring: &RingBytes, sealed: &[u8], n: usize) -> Stop
     requires { ⌜ sealedSize * n ≤ length (now sealed) ⌝ }
-    ensures { λ s. ⌜ Stopped n (λ i. openFault (now (ring .entry)) (recordAt sealedSize (now (sealed .entry)) i)) (s .number) (s .index) ⌝ }
+    ensures { λ s. ⌜ Stopped n (faultAt (now (ring .entry)) Opening (now (sealed .entry))) (s .number) (s .index)
+        × (s .runs ≡ firstPass n (faultAt (now (ring .entry)) Opening (now (sealed .entry))) (lookAt Opening (now (sealed .entry)))) ⌝ }
 {
+    let mut runs = 0;
     let mut index = 0;
     while index < n {
         let a = SEALED_RECORD * index;
-        let number = open_fault(ring, &sealed[a..a + SEALED_RECORD]);
-        if number != 0 {
-            return Stop { number, index };
+        let look = open_fault(ring, &sealed[a..a + SEALED_RECORD]);
+        runs += look.runs;
+        if look.number != 0 {
+            return Stop {
+                number: look.number,
+                index,
+                runs,
+            };
         }
         index += 1;
     }
     Stop {
         number: 0,
         index: n,
+        runs,
     }
 }
 
 pub(crate) fn scan(way: Way, ring: &RingBytes, book: &[u8], n: usize) -> Stop
     requires { ⌜ sizeOf way * n ≤ length (now book) ⌝ }
-    ensures { λ s. ⌜ Stopped n (faultAt (now (ring .entry)) way (now (book .entry))) (s .number) (s .index) ⌝ }
+    ensures { λ s. ⌜ Stopped n (faultAt (now (ring .entry)) way (now (book .entry))) (s .number) (s .index)
+        × (s .runs ≡ firstPass n (faultAt (now (ring .entry)) way (now (book .entry))) (lookAt way (now (book .entry)))) ⌝ }
 {
     match way {
         Way::Sealing => scan_plain(book, n),
@@ -108,29 +127,42 @@ fn convert(way: Way, ring: &RingBytes, strings: [u8; 8], rec: &[u8], out: &mut [
     }
 }
 
-// The converted records, each into its own part of the output.
-fn write_with(way: Way, ring: &RingBytes, strings: [u8; 8], book: &[u8], n: usize, out: &mut [u8])
+// The converted records, each into its own part of the output; the block cipher runs that they took.
+fn write_with(
+    way: Way,
+    ring: &RingBytes,
+    strings: [u8; 8],
+    book: &[u8],
+    n: usize,
+    out: &mut [u8],
+) -> usize
     requires { ⌜ (sizeOf way * n ≤ length (now book)) × (toOf way * n ≤ length (now out)) ⌝ }
-    ensures { λ _. ⌜ now (out .exit) ≡ each n (sizeOf way) (convertOf (now (ring .entry)) strings way) (now (book .entry)) ++ drop (toOf way * n) (now (out .entry)) ⌝ }
+    ensures { λ r. ⌜ (now (out .exit) ≡ each n (sizeOf way) (convertOf (now (ring .entry)) strings way) (now (book .entry)) ++ drop (toOf way * n) (now (out .entry)))
+        × (r ≡ textRuns * n) ⌝ }
 {
     let size = way.size() as usize;
     let to = way.to() as usize;
+    let mut runs = 0;
     let mut i = 0;
     while i < n {
         let a = size * i;
         let b = to * i;
         convert(way, ring, strings, &book[a..a + size], &mut out[b..b + to]);
+        runs += TEXT_RUNS;
         i += 1;
     }
+    runs
 }
 
 // The identity strings are made once for a book, and for no empty one.
-pub(crate) fn write(way: Way, ring: &RingBytes, book: &[u8], n: usize, out: &mut [u8])
+pub(crate) fn write(way: Way, ring: &RingBytes, book: &[u8], n: usize, out: &mut [u8]) -> usize
     requires { ⌜ (sizeOf way * n ≤ length (now book)) × (toOf way * n ≤ length (now out)) ⌝ }
-    ensures { λ _. ⌜ now (out .exit) ≡ each n (sizeOf way) (recordOf (now (ring .entry)) way) (now (book .entry)) ++ drop (toOf way * n) (now (out .entry)) ⌝ }
+    ensures { λ r. ⌜ (now (out .exit) ≡ each n (sizeOf way) (recordOf (now (ring .entry)) way) (now (book .entry)) ++ drop (toOf way * n) (now (out .entry)))
+        × (r ≡ secondPass n) ⌝ }
 {
     if n == 0 {
-        return;
+        return 0;
     }
-    write_with(way, ring, strings_of(ring), book, n, out);
+    let strings = strings_of(ring);
+    IDENTITY_RUNS + write_with(way, ring, strings, book, n, out)
 }

@@ -4,7 +4,7 @@ use books::seal_book;
 use libc::STDOUT_FILENO;
 use mixing::tb1;
 use seals::ta51;
-use standard::BookAnswer;
+use standard::CountedAnswer;
 use standard::KeyNumber;
 use standard::RING;
 use standard::RingBytes;
@@ -25,12 +25,13 @@ fn end() {
     io::write_all(STDOUT_FILENO, b"\n");
 }
 
-// A book call's refusal, index and bytes written.
-fn book(words: &[u8], a: BookAnswer) {
+// A book call's refusal, index, bytes written and cipher runs.
+fn book(words: &[u8], a: CountedAnswer) {
     name(words);
     number(a.refusal as u64);
     number(a.index as u64);
     number(a.written as u64);
+    number(a.runs as u64);
     end();
 }
 

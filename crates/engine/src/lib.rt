@@ -6,6 +6,7 @@ use standard::Bytes8;
 use standard::Bytes10;
 use standard::Bytes15;
 use standard::Bytes16;
+use standard::CountedAnswer;
 use standard::Identity;
 use standard::KeyNumber;
 use standard::RingMade;
@@ -295,14 +296,14 @@ pub extern "C" fn taa1_ring(
 }
 
 #[no_mangle]
-pub extern "C" fn taa1_seal_book(ring: &[u8], plain: &[u8], out: &mut [u8]) -> BookAnswer
+pub extern "C" fn taa1_seal_book(ring: &[u8], plain: &[u8], out: &mut [u8]) -> CountedAnswer
     ensures { λ r. ⌜ (r, now (out .exit)) ≡ sealBook (now (ring .entry)) (now (plain .entry)) (now (out .entry)) ⌝ }
 {
     books::seal_book(ring, plain, out)
 }
 
 #[no_mangle]
-pub extern "C" fn taa1_open_book(ring: &[u8], sealed: &[u8], out: &mut [u8]) -> BookAnswer
+pub extern "C" fn taa1_open_book(ring: &[u8], sealed: &[u8], out: &mut [u8]) -> CountedAnswer
     ensures { λ r. ⌜ (r, now (out .exit)) ≡ openBook (now (ring .entry)) (now (sealed .entry)) (now (out .entry)) ⌝ }
 {
     books::open_book(ring, sealed, out)

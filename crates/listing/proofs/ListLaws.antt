@@ -14,10 +14,11 @@ use Rattle.standard.specs.Books.{recordKind, checkPlain}
 use Rattle.standard.specs.Lists.{recordAt}
 use Rattle.standard.specs.Bytes.{_!_, part, choose}
 use Rattle.standard.specs.Listing.{numberText, entryLine, entryLines, entriesLine, refusedLine, listing}
-use Rattle.standard.specs.Programs.{beside, meanings, meaning, meaningLine, wroteLine, answerLine}
+use Rattle.standard.specs.Programs.{beside, meanings, meaning, meaningText, wroteText, answerText, answerLine, countedLine}
 use Rattle.standard.specs.Seals.{keyLength}
 use Rattle.standard.specs.Text.{hex, textCall}
 use Rattle.standard.specs.declared.BookAnswer.{BookAnswer}
+use Rattle.standard.specs.declared.CountedAnswer.{CountedAnswer}
 use Rattle.standard.specs.declared.Algorithm.the-variants.{Ta31, Ta51, Ta81, Ta91}
 use Rattle.standard.specs.declared.Algorithm.{Algorithm}
 use Rattle.text.proofs.LineLaws.{put-length, put-over, put-none, put-next, write-short, write-whole}
@@ -74,14 +75,21 @@ meaning-short : (n : ℕ) → length (meaning n) ≤ 34
 unfolding meaning
 meaning-short n = beside-short n meanings refl
 
-pub meaning-line-short : (number index : ℕ) → length (meaningLine number index) ≤ room
-unfolding meaningLine
-meaning-line-short number index =
-    simp length-append (omega (arith, digits-few 20 number, digits-few 20 index, meaning-short number))
+answer-short : (refusal index written : ℕ) → length (answerText refusal index written) ≤ 89
+unfolding answerText meaningText wroteText
+answer-short refusal index written = go (eqb refusal 0)
+  where
+    go : (b : Bool) → length (choose b (wroteText written) (meaningText refusal index)) ≤ 89
+    go true = simp length-append (omega (arith, digits-few 20 written))
+    go false = simp length-append (omega (arith, digits-few 20 refusal, digits-few 20 index, meaning-short refusal))
 
-pub wrote-short : (n : ℕ) → length (wroteLine n) ≤ room
-unfolding wroteLine
-wrote-short n = simp length-append (omega (arith, digits-few 20 n))
+pub answer-line-short : (a : BookAnswer) → length (answerLine a) ≤ room
+unfolding answerLine
+answer-line-short a = simp length-append (omega (arith, answer-short (a .refusal) (a .index) (a .written)))
+
+pub counted-line-short : (a : CountedAnswer) → length (countedLine a) ≤ room
+unfolding countedLine
+counted-line-short a = simp length-append (omega (arith, answer-short (a .refusal) (a .index) (a .written), digits-few 20 (a .runs)))
 
 -- ---- the lines one behind the other
 
@@ -147,11 +155,11 @@ module _ (p : List ℕ) {a : BookAnswer} (e : a ≡ checkPlain p) where
   unfolding listing
   listing-entries z = rw (← e, eq-eqb _ _ z)
 
-module _ (a : BookAnswer) where
-  pub answer-refused : (a .refusal ≡ 0 → ⊥) → answerLine a ≡ meaningLine (a .refusal) (a .index)
-  unfolding answerLine
+module _ (refusal index written : ℕ) where
+  pub answer-refused : (refusal ≡ 0 → ⊥) → answerText refusal index written ≡ meaningText refusal index
+  unfolding answerText
   answer-refused r = rw (ne-eqb _ _ r)
 
-  pub answer-wrote : a .refusal ≡ 0 → answerLine a ≡ wroteLine (a .written)
-  unfolding answerLine
+  pub answer-wrote : refusal ≡ 0 → answerText refusal index written ≡ wroteText written
+  unfolding answerText
   answer-wrote z = rw (eq-eqb _ _ z)

@@ -1,11 +1,12 @@
-// The line about an answer: the bytes written, or the refusal with its meaning.
+// The line about an answer: the bytes written, or the refusal with its meaning; and the block cipher runs, where they are counted.
 use crate::refused_at;
 use standard::BookAnswer;
+use standard::CountedAnswer;
 use standard::TextAnswer;
 use text::Line;
 ghost use mathlib.Core.Path.{_≡_};
-ghost use Rattle.standard.specs.Programs.{meaning as meaningOf, wroteLine, meaningLine, reportCall};
-ghost use Rattle.text.specs.Lines.{shown, _▸_};
+ghost use Rattle.standard.specs.Programs.{meaning as meaningOf, meaningText, wroteText, answerText, answerLine, countedLine, reportCall, countedReportCall};
+ghost use Rattle.text.specs.Lines.{shown, emptyLine, _▸_};
 
 // What a refusal's number means.
 fn meaning(l: Line, refusal: u32) -> Line
@@ -32,28 +33,55 @@ fn meaning(l: Line, refusal: u32) -> Line
     }
 }
 
-fn meaning_line(refusal: u32, index: usize) -> Line
-    ensures { λ r. ⌜ shown r ≡ meaningLine refusal index ⌝ }
+fn meaning_text(refusal: u32, index: usize) -> Line
+    ensures { λ r. ⌜ r ≡ emptyLine ▸ meaningText refusal index ⌝ }
 {
     let at = refused_at(refusal, index).word(b" (");
-    meaning(at, refusal).word(b")\n")
+    meaning(at, refusal).word(b")")
 }
 
-fn wrote_line(n: usize) -> Line
-    ensures { λ r. ⌜ shown r ≡ wroteLine n ⌝ }
+fn wrote_text(n: usize) -> Line
+    ensures { λ r. ⌜ r ≡ emptyLine ▸ wroteText n ⌝ }
 {
     Line::empty()
         .word(b"wrote ")
         .decimal(n as u64)
-        .word(b" bytes\n")
+        .word(b" bytes")
+}
+
+fn answer_text(refusal: u32, index: usize, written: usize) -> Line
+    ensures { λ r. ⌜ r ≡ emptyLine ▸ answerText refusal index written ⌝ }
+{
+    if refusal != 0 {
+        return meaning_text(refusal, index);
+    }
+    wrote_text(written)
+}
+
+fn answer_line(answer: BookAnswer) -> Line
+    ensures { λ r. ⌜ shown r ≡ answerLine answer ⌝ }
+{
+    answer_text(answer.refusal, answer.index, answer.written).word(b"\n")
+}
+
+fn counted_line(answer: CountedAnswer) -> Line
+    ensures { λ r. ⌜ shown r ≡ countedLine answer ⌝ }
+{
+    answer_text(answer.refusal, answer.index, answer.written)
+        .word(b", ")
+        .decimal(answer.runs as u64)
+        .word(b" runs\n")
 }
 
 // The line into the output; 12 if the output is shorter.
 pub fn report(answer: BookAnswer, out: &mut [u8]) -> TextAnswer
     ensures { λ r. ⌜ (r, now (out .exit)) ≡ reportCall answer (now (out .entry)) ⌝ }
 {
-    if answer.refusal != 0 {
-        return meaning_line(answer.refusal, answer.index).write(out);
-    }
-    wrote_line(answer.written).write(out)
+    answer_line(answer).write(out)
+}
+
+pub fn report_counted(answer: CountedAnswer, out: &mut [u8]) -> TextAnswer
+    ensures { λ r. ⌜ (r, now (out .exit)) ≡ countedReportCall answer (now (out .entry)) ⌝ }
+{
+    counted_line(answer).write(out)
 }

@@ -2,6 +2,7 @@
 mod answer;
 
 pub use answer::report;
+pub use answer::report_counted;
 use books::check_plain;
 use records::kind_of;
 use standard::Algorithm;

@@ -4,7 +4,9 @@ use libc::STDERR_FILENO;
 use libc::STDIN_FILENO;
 use libc::STDOUT_FILENO;
 use listing::report;
+use listing::report_counted;
 use standard::BookAnswer;
+use standard::CountedAnswer;
 use standard::RING;
 use standard::RingBytes;
 use text::Line;
@@ -211,12 +213,28 @@ pub fn write_output(program: &[u8], bytes: &[u8], n: usize) -> bool
     written
 }
 
+// The first n bytes of a line about an answer, on standard error. Whether there was no refusal.
+fn told(refusal: u32, line: &[u8], n: usize) -> bool
+    ensures { λ r. ⌜ r ≡ eqb refusal 0 ⌝ }
+{
+    put(STDERR_FILENO, line, n);
+    refusal == 0
+}
+
 // The line about an answer, on standard error. Whether it is no refusal.
 pub fn tell(answer: BookAnswer) -> bool
     ensures { λ r. ⌜ r ≡ eqb (answer .refusal) 0 ⌝ }
 {
     let mut line = [0u8; ROOM];
     let said = report(answer, &mut line);
-    put(STDERR_FILENO, &line, said.written);
-    answer.refusal == 0
+    told(answer.refusal, &line, said.written)
+}
+
+// The same for sealing and opening a book, with the block cipher runs.
+pub fn tell_counted(answer: CountedAnswer) -> bool
+    ensures { λ r. ⌜ r ≡ eqb (answer .refusal) 0 ⌝ }
+{
+    let mut line = [0u8; ROOM];
+    let said = report_counted(answer, &mut line);
+    told(answer.refusal, &line, said.written)
 }

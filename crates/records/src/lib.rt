@@ -29,6 +29,7 @@ use standard::PLAIN_RECORD;
 use standard::RingBytes;
 use standard::RingKey;
 use standard::SEALED_RECORD;
+use standard::TEXT_RUNS;
 use standard::WRONG_KIND;
 use standard::WRONG_NUMBER;
 use texts::flag_of;
@@ -38,7 +39,7 @@ ghost use mathlib.Core.List.{[], _∷_, _++_};
 ghost use mathlib.Core.Path.{_≡_};
 ghost use lib.Dec.{eqb, leb};
 ghost use lib.ListN.{length, take, drop};
-ghost use Rattle.standard.specs.Books.{commonKey, named, plainFault, openFault};
+ghost use Rattle.standard.specs.Books.{commonKey, named, plainFault, openFault, openLook};
 ghost use Rattle.standard.specs.Bytes.{_!_};
 ghost use Rattle.standard.specs.Identity.{bc as bcOf};
 ghost use Rattle.standard.specs.Refusals.{notZero, wrongNumber, first};
@@ -108,20 +109,35 @@ pub fn plain_fault(rec: &[u8]) -> u32
     body_fault(kind, body_part(p))
 }
 
-// The refusal of a sealed record under a ring, or 0.
-pub fn open_fault(ring: &RingBytes, rec: &[u8]) -> u32
-    ensures { λ r. ⌜ r ≡ openFault (now (ring .entry)) (now (rec .entry)) ⌝ }
+// What a look at a sealed record finds: its refusal, or 0, and the block cipher runs that the look took.
+pub struct Look {
+    pub number: u32,
+    pub runs: usize,
+}
+
+// A look at a sealed record under a ring.
+pub fn open_fault(ring: &RingBytes, rec: &[u8]) -> Look
+    ensures { λ l. ⌜ (l .number ≡ openFault (now (ring .entry)) (now (rec .entry))) × (l .runs ≡ openLook (now (rec .entry))) ⌝ }
 {
     let t = array21(rec);
     let Named::Known(kind) = Kind::from_byte(t[0]) else {
-        return WRONG_KIND;
+        return Look {
+            number: WRONG_KIND,
+            runs: 0,
+        };
     };
     let algorithm = kind.algorithm;
     let key = core_key(kind, ring, version_of(sealed_head(t)));
     if flag_of(algorithm, key, text_part(t)) {
-        return FLAG_SET;
+        return Look {
+            number: FLAG_SET,
+            runs: TEXT_RUNS,
+        };
     }
-    0
+    Look {
+        number: 0,
+        runs: TEXT_RUNS,
+    }
 }
 
 // The kind of a record that was not refused.

@@ -3,9 +3,9 @@
 use mathlib.Core.Bool.{Bool, true, false}
 use mathlib.Core.List.{List, [], _∷_, _++_}
 use mathlib.Core.Logic.{_⊎_, inl, inr}
-use mathlib.Core.Path.{_≡_, refl, sym, ap, _∙_, subst}
+use mathlib.Core.Path.{_≡_, refl, sym, ap, ap₂, _∙_, subst}
 use Prim.Native.Nat.{ℕ, zero, suc, _+_, _*_, _/_, _%_, _<_, _≤_}
-use native.Mathlib.Nat.{eq-or-lt-of-le, le-of-suc-le-suc, div-add-mod, add-zero, mul-mod-right, mul-le-mul-left, div-le-of-le-mul}
+use native.Mathlib.Nat.{eq-or-lt-of-le, le-of-suc-le-suc, div-add-mod, add-zero, add-mul, mul-zero, mul-suc, mul-mod-right, mul-le-mul-left, div-le-of-le-mul}
 use native.Mathlib.Numerals.{add-one}
 use native.Mathlib.Omega.{arith}
 use lib.Dec.{ltb, leb, eqb}
@@ -15,8 +15,8 @@ use Rattle.standard.specs.Books.{Way, bookCall}
 use Rattle.standard.specs.Bytes.{_!_, choose, Bytes}
 use Rattle.standard.specs.Lists.{recordAt, each, firstFault, refused, answer, lengthTests, listTests, written}
 use Rattle.standard.specs.Refusals.{wrongLength, long, first}
+use Rattle.standard.specs.Runs.{firstPass, secondPass, acceptedRuns}
 use Rattle.standard.specs.Sizes.{ringSize, mostRecords}
-use Rattle.standard.specs.declared.BookAnswer.{BookAnswer}
 use Rattle.standard.proofs.BookLaws.{Book}
 use Rattle.standard.proofs.FirstLaws.{testAt, all-pass}
 
@@ -63,8 +63,43 @@ first-one {n} {g} {a} {b} p q = go (ltb a b) refl (ltb b a) refl
     go false es true eu = absurd (q .stop (omega (arith, ltb-true b a eu, p .within)) (p .below b (ltb-true b a eu)))
     go false es false eu = omega (arith, ltb-false a b es, ltb-false b a eu)
 
-no-fault : (n : ℕ) (g : ℕ → ℕ) → ((j : ℕ) → j < n → g j ≡ 0) → firstFault n g ≡ n
+pub no-fault : (n : ℕ) (g : ℕ → ℕ) → ((j : ℕ) → j < n → g j ≡ 0) → firstFault n g ≡ n
 no-fault n g h = first-one (first-fault n g) (record { within = omega arith; below = h; stop = λ l e. omega arith })
+
+-- ---- the cipher runs (02, 8)
+
+module _ (g l : ℕ → ℕ) where
+  -- a record behind some without a fault is looked at
+  pub pass-more : (n : ℕ) → ((j : ℕ) → j < n → g j ≡ 0) → firstPass (suc n) g l ≡ firstPass n g l + l n
+  pass-more n none = rw (eq-eqb _ _ (no-fault n g none))
+
+  -- a record behind one with a fault is not
+  pub pass-stopped : (n i : ℕ) → i < n → ((j : ℕ) → j < i → g j ≡ 0) → (g i ≡ 0 → ⊥) → firstPass n g l ≡ firstPass i g l + l i
+  pass-stopped zero i h none f = absurd (omega arith)
+  pass-stopped (suc n) i h none f = go (eq-or-lt-of-le (le-of-suc-le-suc h)) (λ k. pass-stopped n i k none f)
+    where
+      go : (i ≡ n) ⊎ (i < n) → (i < n → firstPass n g l ≡ firstPass i g l + l i) → firstPass (suc n) g l ≡ firstPass i g l + l i
+      go (inl e) ih = ap (λ (k : ℕ). firstPass (suc k) g l) (sym e) ∙ pass-more i none
+      go (inr k) ih = rw (ne-eqb (firstFault n g) n (λ e. f (first-fault n g .below i (omega (arith, e, k)))), add-zero) (ih k)
+
+  pub pass-clean : (k n : ℕ) → ((j : ℕ) → j < n → g j ≡ 0) → ((j : ℕ) → j < n → l j ≡ k) → firstPass n g l ≡ k * n
+  pass-clean k zero none e = sym (mul-zero k)
+  pass-clean k (suc n) none e =
+      pass-more n (λ j h. none j (omega arith))
+      ∙ ap₂ _+_ (pass-clean k n (λ j h. none j (omega arith)) (λ j h. e j (omega arith))) (e n (omega arith)) ∙ sym (mul-suc k n)
+
+  pub pass-most : (k n : ℕ) → ((j : ℕ) → l j ≤ k) → firstPass n g l ≤ k * n
+  pass-most k zero e = omega arith
+  pass-most k (suc n) e = go (eqb (firstFault n g) n) (pass-most k n e)
+    where
+      go : (t : Bool) → firstPass n g l ≤ k * n → firstPass n g l + choose t (l n) 0 ≤ k * suc n
+      go true h = rw mul-suc (omega (arith, h, e n))
+      go false h = rw mul-suc (omega (arith, h))
+
+-- both passes of an accepted book in which a look takes k runs
+pub passes : (k n : ℕ) → k * n + secondPass n ≡ acceptedRuns (k + 2) n
+passes k zero = rw mul-zero
+passes k (suc n) = rw (ne-eqb (suc n) 0 (λ e. omega arith), add-mul) (omega arith)
 
 -- ---- an answer is 0 exactly if no refusal applies
 
@@ -132,13 +167,16 @@ module _ (w : ℕ) (fault : List ℕ → ℕ) (xs : List ℕ) where
 -- ---- the calls, in one direction
 
 module _ (W : Way) (r xs out : List ℕ) where
-  abbrev n : ℕ
+  abbrev pub n : ℕ
   n = length xs / W .size
 
-  abbrev g : ℕ → ℕ
+  abbrev pub g : ℕ → ℕ
   g i = W .fault (recordAt (W .size) xs i)
 
-  abbrev tests : List (Bool × ℕ)
+  abbrev pub l : ℕ → ℕ
+  l i = W .look (recordAt (W .size) xs i)
+
+  abbrev pub tests : List (Bool × ℕ)
   tests = (long ringSize r, wrongLength) ∷ listTests (W .size) (W .to) (length xs) (length out)
 
   -- an accepted call had no test that failed, and no record with a fault
@@ -169,10 +207,13 @@ module _ (W : Way) (r xs out : List ℕ) where
         let t = call-tests e in
         book-of (W .size) (W .fault) xs b (leb-true _ _ (t .0 1)) (eqb-true _ _ (t .0 2)) (t .1)
 
-    pub call-accepts : length r ≡ ringSize → W .to * n ≤ length out → Good xs
-        → bookCall W r xs out ≡ (record { refusal = 0; index = n; written = W .to * n }, each n (W .size) (W .convert) xs ++ drop (W .to * n) out)
+    -- where a look at a record without a fault takes c runs
+    pub call-accepts : (c : ℕ) → ((x : List ℕ) → W .fault x ≡ 0 → W .look x ≡ c) → length r ≡ ringSize → W .to * n ≤ length out → Good xs
+        → bookCall W r xs out
+        ≡ (record { refusal = 0; index = n; written = W .to * n; runs = acceptedRuns (c + 2) n }, each n (W .size) (W .convert) xs ++ drop (W .to * n) out)
     unfolding bookCall written
-    call-accepts hr room k =
+    call-accepts c look hr room k =
         let head : first tests ≡ 0 =
         rw (eq-eqb _ _ hr, le-leb _ _ (few-of (W .size) (W .fault) xs k), eq-eqb _ _ (whole-of (W .size) (W .fault) xs k), le-leb _ _ room) in
-        rw (accepted (first tests) n g (W .to * n) head (good-of (W .size) (W .fault) xs k))
+        let good = good-of (W .size) (W .fault) xs k in
+        rw (accepted (first tests) n g (W .to * n) head good, head, eq-eqb _ _ (no-fault n g good), pass-clean g l c n good (λ i h. look _ (good i h)), passes c n)

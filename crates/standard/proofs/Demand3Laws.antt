@@ -14,12 +14,15 @@ use Rattle.standard.specs.Bytes.{_!_, Bytes}
 use Rattle.standard.specs.Demand3.{IsSealedForm, Demand3, Demand3Holds}
 use Rattle.standard.specs.Lists.{each, lengthTests}
 use Rattle.standard.specs.Refusals.{first}
+use Rattle.standard.specs.Runs.{acceptedRuns}
 use Rattle.standard.specs.Sizes.{ringSize, plainSize, sealedSize}
 use Rattle.standard.specs.declared.BookAnswer.{BookAnswer}
+use Rattle.standard.specs.declared.CountedAnswer.{CountedAnswer}
 use Rattle.standard.proofs.AnswerLaws.{is-accepted, accepted, lengths-fine, book-of, few-of, whole-of, good-of, call-lengths, call-book, call-accepts, call-refuses}
 use Rattle.standard.proofs.BookLaws.{Book, books, mapped-length}
 use Rattle.standard.proofs.InverseLaws.{Inverse, is-image, of-one, reversed}
 use Rattle.standard.proofs.RecordLaws.{record-law}
+use Rattle.standard.proofs.RunLaws.{look-clear}
 
 abbrev PlainBook : List ℕ → Type 0
 PlainBook = Book plainSize (λ p. eqb (plainFault p) 0)
@@ -28,10 +31,10 @@ abbrev SealedBook : List ℕ → List ℕ → Type 0
 SealedBook r = Book sealedSize (λ t. eqb (openFault r t) 0)
 
 -- a well-formed plain book, in the terms of the laws
-book : {p : List ℕ} → WellFormed p → PlainBook p
+pub book : {p : List ℕ} → WellFormed p → PlainBook p
 book {p} w = book-of plainSize plainFault p (w .bytes) (w .short) (w .whole) (w .legal)
 
-well-formed : {p : List ℕ} → PlainBook p → WellFormed p
+pub well-formed : {p : List ℕ} → PlainBook p → WellFormed p
 well-formed {p} b = record {
   bytes = b .bytes .bound;
   short = few-of plainSize plainFault p b;
@@ -45,7 +48,7 @@ opening-lengths r s plain e = call-lengths (opening r) r s plain e
 
 module _ (r : List ℕ) (hr : Bytes ringSize r) where
   -- the sealed form and what opening writes are inverse
-  book-law : Inverse PlainBook (SealedBook r) (λ p. each (length p / plainSize) plainSize (sealRecord r) p) (λ s. each (length s / sealedSize) sealedSize (openRecord r) s)
+  pub book-law : Inverse PlainBook (SealedBook r) (λ p. each (length p / plainSize) plainSize (sealRecord r) p) (λ s. each (length s / sealedSize) sealedSize (openRecord r) s)
   book-law = books (omega arith) (omega arith) (record-law r hr)
 
   module _ (s : List ℕ) (bs : (i : ℕ) → s ! i < 256) where
@@ -71,29 +74,33 @@ module _ (r : List ℕ) (hr : Bytes ringSize r) where
 
     module _ (out : List ℕ) (room : plainSize * (length s / sealedSize) ≤ length out) where
       accepts : SealedBook r s
-          → openBook r s out ≡ (record { refusal = 0; index = length s / sealedSize; written = plainSize * (length s / sealedSize) }, each (length s / sealedSize) sealedSize (openRecord r) s ++ drop (plainSize * (length s / sealedSize)) out)
+          → openBook r s out
+          ≡ (record { refusal = 0; index = length s / sealedSize; written = plainSize * (length s / sealedSize); runs = acceptedRuns 4 (length s / sealedSize) }, each (length s / sealedSize) sealedSize (openRecord r) s ++ drop (plainSize * (length s / sealedSize)) out)
       unfolding openBook
-      accepts b = call-accepts (opening r) r s out bs (hr .len) room b
+      accepts b = call-accepts (opening r) r s out bs 2 (look-clear r) (hr .len) room b
 
       opens : (openBook r s out .0 .refusal ≡ 0) ↔ ((p : List ℕ) × IsSealedForm r p s)
       unfolding openBook
       opens = (
         λ e. from-sealed (call-book (opening r) r s out bs e),
-        λ q. ap (λ (a : BookAnswer × List ℕ). a .0 .refusal) (accepts (sealed-book (q .0) (q .1))),
+        λ q. ap (λ (a : CountedAnswer × List ℕ). a .0 .refusal) (accepts (sealed-book (q .0) (q .1))),
       )
 
-      writes : (p : List ℕ) → IsSealedForm r p s → openBook r s out ≡ (record { refusal = 0; index = length p / plainSize; written = length p }, p ++ drop (length p) out)
+      writes : (p : List ℕ) → IsSealedForm r p s
+          → openBook r s out
+          ≡ (record { refusal = 0; index = length p / plainSize; written = length p; runs = acceptedRuns 4 (length p / plainSize) }, p ++ drop (length p) out)
       writes p q =
           let l = plain-length p q in
           let n : length p / plainSize ≡ length s / sealedSize = omega arith in
           rw (n, l) (accepts (sealed-book p q) ∙ rw (← opened p q))
 
       back : (p : List ℕ) → IsSealedForm r p s → (out′ : List ℕ) → sealedSize * (length p / plainSize) ≤ length out′
-          → sealBook r p out′ ≡ (record { refusal = 0; index = length p / plainSize; written = length s }, s ++ drop (length s) out′)
+          → sealBook r p out′
+          ≡ (record { refusal = 0; index = length p / plainSize; written = length s; runs = acceptedRuns 2 (length p / plainSize) }, s ++ drop (length s) out′)
       unfolding sealBook sealedForm
       back p q out′ h =
           let l = sealed-length p q in
-          call-accepts (sealing r) r p out′ (q .formed .bytes) (hr .len) h (book (q .formed)) ∙ rw (q .is, ← l)
+          call-accepts (sealing r) r p out′ (q .formed .bytes) 0 (λ x e. refl) (hr .len) h (book (q .formed)) ∙ rw (q .is, ← l)
 
       refuses : (((p : List ℕ) × IsSealedForm r p s) → ⊥)
           → (openBook r s out .0 .refusal ≡ 0 → ⊥) × (openBook r s out .0 .written ≡ 0) × (openBook r s out .1 ≡ out)
@@ -147,5 +154,5 @@ pub seals-exactly : (r p out : List ℕ) → length r ≡ ringSize → ((i : ℕ
 unfolding sealBook
 seals-exactly r p out hr b room = (
   λ e. well-formed (call-book (sealing r) r p out b e),
-  λ w. ap (λ (a : BookAnswer × List ℕ). a .0 .refusal) (call-accepts (sealing r) r p out b hr room (book w)),
+  λ w. ap (λ (a : CountedAnswer × List ℕ). a .0 .refusal) (call-accepts (sealing r) r p out b 0 (λ x e. refl) hr room (book w)),
 )

@@ -10,7 +10,7 @@ use lib.Bits.{xor-zero-r}
 use lib.Dec.{eqb}
 use lib.ListN.{length}
 use borrow.Author.Tests.{eqb-true, eqb-false, eq-eqb, ne-eqb}
-use Rattle.standard.specs.Books.{recordKind, sealingKey, openRecord, openFault, bookCall, openBook}
+use Rattle.standard.specs.Books.{recordKind, sealingKey, openRecord, openFault, openLook, bookCall, openBook}
 use Rattle.standard.specs.Bytes.{_!_, bit, part, xors, zeros, choose}
 use Rattle.standard.specs.Cores.{bl1With, bl1}
 use Rattle.standard.specs.Derivation.{core, ta11, ta21, chosen, ta12Call, sidesTest, ring, long7, ringCall}
@@ -151,5 +151,5 @@ same-fault r t = rw (flag-same (recordKind t .algorithm) (opened (form (recordKi
 pub same-books : SameBooks
 unfolding openBook
 same-books r s out =
-    ap (λ (g : List ℕ → ℕ). bookCall (record { size = sealedSize; to = plainSize; fault = g; convert = openRecord r }) r s out)
+    ap (λ (g : List ℕ → ℕ). bookCall (record { size = sealedSize; to = plainSize; fault = g; look = openLook; convert = openRecord r }) r s out)
     (fun-ext (same-fault r))

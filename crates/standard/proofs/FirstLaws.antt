@@ -3,7 +3,7 @@
 -- Assumes nothing.
 use mathlib.Core.Bool.{Bool, true, false, _&&_, not}
 use mathlib.Core.List.{List, [], _∷_, _++_}
-use mathlib.Core.Path.{_≡_, refl, ap, _∙_}
+use mathlib.Core.Path.{_≡_, refl, sym, ap, _∙_}
 use Prim.Native.Nat.{ℕ, zero, suc}
 use lib.Dec.{eqb}
 use borrow.Author.Tests.{not-true, eqb-false}
@@ -32,6 +32,22 @@ all-pass (t ∷ ts) n e zero = passed (t .0) (t .1) (first ts) (and-split _ (num
 all-pass (t ∷ ts) n e (suc i) =
     let s = and-split (not (eqb (t .1) 0)) (numbered ts) n in
     all-pass ts (s .1) (passed (t .0) (t .1) (first ts) (s .0) e .1) i
+
+-- no test has the number k
+abbrev pub lacks : ℕ → List (Bool × ℕ) → Bool
+lacks k [] = not (eqb k 0)
+lacks k (t ∷ ts) = not (eqb (t .1) k) && lacks k ts
+
+pub not-first : (k : ℕ) (ts : List (Bool × ℕ)) → lacks k ts ≡ true → first ts ≡ k → ⊥
+not-first k [] h e = eqb-false k 0 (not-true _ h) (sym e)
+not-first k (t ∷ ts) h e = go (t .0) (not-first k ts (s .1)) e
+  where
+    s : (not (eqb (t .1) k) ≡ true) × (lacks k ts ≡ true)
+    s = and-split _ (lacks k ts) h
+
+    go : (b : Bool) → (first ts ≡ k → ⊥) → choose b (first ts) (t .1) ≡ k → ⊥
+    go true ih e = ih e
+    go false ih e = eqb-false (t .1) k (not-true _ (s .0)) e
 
 pub none-fails : (ts : List (Bool × ℕ)) → ((i : ℕ) → testAt ts i ≡ true) → first ts ≡ 0
 none-fails [] h = refl

@@ -17,6 +17,7 @@ pub mod CallLaws
 pub mod RecordLaws
 pub mod BookLaws
 pub mod AnswerLaws
+pub mod RunLaws
 pub mod Demand3Laws
 pub mod ListingLaws
 pub mod FactLaws

@@ -1,4 +1,4 @@
--- The listing of 01's example, two lines about answers, and the count that a call for a text answers.
+-- The listing of 01's example, lines about answers, and the count that a call for a text answers.
 -- Assumes nothing.
 use mathlib.Core.Bool.{Bool, true, false}
 use mathlib.Core.List.{List, [], _∷_, _++_}
@@ -11,7 +11,7 @@ use Rattle.standard.specs.Books.{plainFault, checkPlain}
 use Rattle.standard.specs.Lists.{refused as refusedBook, answer}
 use Rattle.standard.specs.Bytes.{choose}
 use Rattle.standard.specs.Listing.{entryLine, entryLines, entriesLine, refusedLine, listing}
-use Rattle.standard.specs.Programs.{meaning, meaningLine, wroteLine, answerLine}
+use Rattle.standard.specs.Programs.{meaning, meaningText, wroteText, answerText, answerLine, countedLine}
 use Rattle.standard.specs.Refusals.{outputShort}
 use Rattle.standard.specs.Seals.{kindOf}
 use Rattle.standard.specs.Text.{ascii, digits, hexDigit, hex, textCall}
@@ -29,14 +29,17 @@ pub listings : Listings
 unfolding digits hexDigit hex entryLine entryLines entriesLine refusedLine listing checkPlain answer plainFault kindOf
 listings = record { one = refl; refused = refl; none = refl }
 
--- the line about a book that was written, and about one that was refused
+-- the line about a book that was written, and about one that was refused; both with their cipher runs (02, 8)
 pub record Reports : Type 0 where
   pub wrote : answerLine (record { refusal = 0; index = 6; written = 126 }) ≡ ascii "wrote 126 bytes\n"
   pub refused : answerLine (refusedBook 6 3) ≡ ascii "refused 6 at 3 (flag set while opening a book)\n"
+  pub counted : countedLine (record { refusal = 0; index = 6; written = 126; runs = 13 }) ≡ ascii "wrote 126 bytes, 13 runs\n"
+  pub refused-counted : countedLine (record { refusal = 6; index = 3; written = 0; runs = 8 })
+      ≡ ascii "refused 6 at 3 (flag set while opening a book), 8 runs\n"
 
 pub reports : Reports
-unfolding digits answerLine wroteLine meaningLine meaning
-reports = record { wrote = refl; refused = refl }
+unfolding digits answerLine countedLine answerText wroteText meaningText meaning
+reports = record { wrote = refl; refused = refl; counted = refl; refused-counted = refl }
 
 -- what a call that writes a text answers counts bytes of the output
 abbrev Within : TextAnswer × List ℕ → Type 0

@@ -10,10 +10,12 @@ use Rattle.standard.specs.Bytes.{_!_, part, choose}
 use Rattle.standard.specs.Identity.{ta61, ta61⁻¹}
 use Rattle.standard.specs.Lists.{recordAt, each, lengthTests, listTests, answer, written}
 use Rattle.standard.specs.Refusals.{wrongKind, flagSet, wrongLength, long, first}
+use Rattle.standard.specs.Runs.{textRuns, callRuns}
 use Rattle.standard.specs.Seals.{kindOf, form, seal, unseal, clears}
 use Rattle.standard.specs.Sizes.{ringSize, plainSize, sealedSize, mostRecords}
 use Rattle.standard.specs.declared.Algorithm.the-variants.{Ta91}
 use Rattle.standard.specs.declared.BookAnswer.{BookAnswer}
+use Rattle.standard.specs.declared.CountedAnswer.{CountedAnswer}
 use Rattle.standard.specs.declared.Kind.{Kind}
 use Rattle.standard.specs.declared.Named.{Named}
 use Rattle.standard.specs.declared.Named.the-variants.{Known, Unknown}
@@ -66,6 +68,10 @@ openFault r t =
     ∷ (clears (form (recordKind t)) (sealingKey (recordKind t) r) (part 4 2 t) (part 6 15 t), flagSet) ∷ []
     )
 
+-- the cipher runs of a look at a sealed record (02, 8): its text is unsealed if its kind is known
+unfoldable pub openLook : List ℕ → ℕ
+openLook t = choose (isKnown (kindOf (t ! 0))) textRuns 0
+
 -- kind, the identity recovered, version, and the body that the text unseals to
 unfoldable pub openRecord : List ℕ → List ℕ → List ℕ
 openRecord r t =
@@ -90,28 +96,35 @@ pub record Way : Type 0 where
   pub size : ℕ
   pub to : ℕ
   pub fault : List ℕ → ℕ
+  -- the cipher runs of looking for the fault (02, 8)
+  pub look : List ℕ → ℕ
   pub convert : List ℕ → List ℕ
 
 abbrev pub sealing : List ℕ → Way
-sealing r = record { size = plainSize; to = sealedSize; fault = plainFault; convert = sealRecord r }
+sealing r = record { size = plainSize; to = sealedSize; fault = plainFault; look = λ p. 0; convert = sealRecord r }
 
 abbrev pub opening : List ℕ → Way
-opening r = record { size = sealedSize; to = plainSize; fault = openFault r; convert = openRecord r }
+opening r = record { size = sealedSize; to = plainSize; fault = openFault r; look = openLook; convert = openRecord r }
+
+-- an answer with the cipher runs that it took (02, 8), and the output at exit
+abbrev pub counted : BookAnswer × List ℕ → ℕ → CountedAnswer × List ℕ
+counted a runs = (record { refusal = a .0 .refusal; index = a .0 .index; written = a .0 .written; runs = runs }, a .1)
 
 -- the lengths in the order 11, 1, 2, 12, and then the records; every record is converted
-unfoldable pub bookCall : Way → List ℕ → List ℕ → List ℕ → BookAnswer × List ℕ
+unfoldable pub bookCall : Way → List ℕ → List ℕ → List ℕ → CountedAnswer × List ℕ
 bookCall W r xs out =
     let n = length xs / W .size in
-    written
-    (answer (first ((long ringSize r, wrongLength) ∷ listTests (W .size) (W .to) (length xs) (length out))) n (λ i. W .fault (recordAt (W .size) xs i)) (W .to * n))
-    (each n (W .size) (W .convert) xs) out
+    let head = first ((long ringSize r, wrongLength) ∷ listTests (W .size) (W .to) (length xs) (length out)) in
+    let fault : ℕ → ℕ = λ i. W .fault (recordAt (W .size) xs i) in
+    let look : ℕ → ℕ = λ i. W .look (recordAt (W .size) xs i) in
+    counted (written (answer head n fault (W .to * n)) (each n (W .size) (W .convert) xs) out) (callRuns head n fault look)
 
 -- ---- the calls
 
-unfoldable pub sealBook : List ℕ → List ℕ → List ℕ → BookAnswer × List ℕ
+unfoldable pub sealBook : List ℕ → List ℕ → List ℕ → CountedAnswer × List ℕ
 sealBook r p out = bookCall (sealing r) r p out
 
-unfoldable pub openBook : List ℕ → List ℕ → List ℕ → BookAnswer × List ℕ
+unfoldable pub openBook : List ℕ → List ℕ → List ℕ → CountedAnswer × List ℕ
 openBook r s out = bookCall (opening r) r s out
 
 -- the checks of sealing without 11 and 12; nothing is written
@@ -119,9 +132,9 @@ unfoldable pub checkPlain : List ℕ → BookAnswer
 checkPlain p =
     answer (first (lengthTests plainSize (length p))) (length p / plainSize) (λ i. plainFault (recordAt plainSize p i)) 0
 
--- a book opened, and what was written sealed again: the answer and both outputs at exit
-unfoldable pub reseal : (r s plain out : List ℕ) → BookAnswer × List ℕ × List ℕ
+-- a book opened, and what was written sealed again: the last call's answer and both outputs at exit
+unfoldable pub reseal : (r s plain out : List ℕ) → CountedAnswer × List ℕ × List ℕ
 reseal r s plain out =
-    let o : BookAnswer × List ℕ = openBook r s plain in
-    let q : BookAnswer × List ℕ = sealBook r (take (o .0 .written) (o .1)) out in
+    let o : CountedAnswer × List ℕ = openBook r s plain in
+    let q : CountedAnswer × List ℕ = sealBook r (take (o .0 .written) (o .1)) out in
     choose (eqb (o .0 .refusal) 0) (q .0, o .1, q .1) (o .0, o .1, out)

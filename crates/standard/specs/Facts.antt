@@ -7,7 +7,7 @@ use mathlib.Core.Path.{_≡_}
 use Prim.Native.Nat.{ℕ, _/_, _^_, _<_}
 use lib.Dec.{eqb}
 use lib.ListN.{length}
-use Rattle.standard.specs.Books.{isKnown, recordKind, sealingKey, openRecord, bookCall, openBook}
+use Rattle.standard.specs.Books.{isKnown, recordKind, sealingKey, openRecord, openLook, bookCall, openBook}
 use Rattle.standard.specs.Bytes.{_!_, bit, part, zeros, same}
 use Rattle.standard.specs.Derivation.{ta11, ta21, ta41, ta12Call, ta22Call, long7, ringCall}
 use Rattle.standard.specs.Expansions.{inserted, expected, exp1Groups, exp3Groups, x16Groups}
@@ -85,4 +85,4 @@ flagFault r t =
 -- a book is refused in the same cases, with the same number and index, as by 01's flag
 abbrev pub SameBooks : Type 0
 SameBooks = (r s out : List ℕ)
-    → openBook r s out ≡ bookCall (record { size = sealedSize; to = plainSize; fault = flagFault r; convert = openRecord r }) r s out
+    → openBook r s out ≡ bookCall (record { size = sealedSize; to = plainSize; fault = flagFault r; look = openLook; convert = openRecord r }) r s out

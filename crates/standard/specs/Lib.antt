@@ -6,6 +6,7 @@ pub mod Expansions
 pub mod Seals
 pub mod Identity
 pub mod Lists
+pub mod Runs
 pub mod Books
 pub mod Text
 pub mod Listing
@@ -17,4 +18,5 @@ pub mod Lineage
 pub mod Register
 pub mod Refusals
 pub mod Facts
+pub mod RunFacts
 pub mod Programs

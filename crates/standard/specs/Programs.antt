@@ -10,6 +10,7 @@ use Rattle.standard.specs.Refusals.{bookTooLong, bookNotWhole, wrongKind
 use Rattle.standard.specs.Sizes.{sittingSize}
 use Rattle.standard.specs.Text.{ascii, decimal, textCall}
 use Rattle.standard.specs.declared.BookAnswer.{BookAnswer}
+use Rattle.standard.specs.declared.CountedAnswer.{CountedAnswer}
 use Rattle.standard.specs.declared.RingMade.{RingMade}
 use Rattle.standard.specs.declared.TextAnswer.{TextAnswer}
 
@@ -57,16 +58,26 @@ meaning n = beside n meanings
 -- ---- the line about an answer
 
 -- "refused N at I (its meaning)"
-unfoldable pub meaningLine : ℕ → ℕ → List ℕ
-meaningLine number index = refusedAt number index ++ ascii " (" ++ meaning number ++ ascii ")\n"
+unfoldable pub meaningText : ℕ → ℕ → List ℕ
+meaningText number index = refusedAt number index ++ ascii " (" ++ meaning number ++ ascii ")"
 
 -- "wrote N bytes"
-unfoldable pub wroteLine : ℕ → List ℕ
-wroteLine n = ascii "wrote " ++ decimal n ++ ascii " bytes\n"
+unfoldable pub wroteText : ℕ → List ℕ
+wroteText n = ascii "wrote " ++ decimal n ++ ascii " bytes"
+
+unfoldable pub answerText : (refusal index written : ℕ) → List ℕ
+answerText refusal index written = choose (eqb refusal 0) (wroteText written) (meaningText refusal index)
 
 unfoldable pub answerLine : BookAnswer → List ℕ
-answerLine a = choose (eqb (a .refusal) 0) (wroteLine (a .written)) (meaningLine (a .refusal) (a .index))
+answerLine a = answerText (a .refusal) (a .index) (a .written) ++ ascii "\n"
 
--- the call: the line into an output
+-- and the cipher runs, ", R runs" (02, 8)
+unfoldable pub countedLine : CountedAnswer → List ℕ
+countedLine a = answerText (a .refusal) (a .index) (a .written) ++ ascii ", " ++ decimal (a .runs) ++ ascii " runs\n"
+
+-- the calls: the line into an output
 abbrev pub reportCall : BookAnswer → List ℕ → TextAnswer × List ℕ
 reportCall a out = textCall (answerLine a) out
+
+abbrev pub countedReportCall : CountedAnswer → List ℕ → TextAnswer × List ℕ
+countedReportCall a out = textCall (countedLine a) out

@@ -27,6 +27,11 @@ pub const SHEET_VALUE: usize = 16;
 
 pub const MOST_RECORDS: usize = 1024;
 
+// Block cipher runs: of sealing or unsealing a text, and of making the identity strings of a ring.
+pub const TEXT_RUNS: usize = 2;
+
+pub const IDENTITY_RUNS: usize = 1;
+
 // The refusals: the candidate's, the setter's, the host's.
 pub const BOOK_TOO_LONG: u32 = 1;
 
@@ -165,6 +170,15 @@ pub struct BookAnswer {
     pub refusal: u32,
     pub index: usize,
     pub written: usize,
+}
+
+// What sealing and opening a book answer: also how many block cipher runs they took.
+#[repr(C)]
+pub struct CountedAnswer {
+    pub refusal: u32,
+    pub index: usize,
+    pub written: usize,
+    pub runs: usize,
 }
 
 // What a call that writes a text answers.

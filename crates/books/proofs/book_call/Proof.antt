@@ -7,7 +7,7 @@ use lib.ListN.{length}
 use denote.Ref.{now}
 use borrow.Author.Needs.{needs}
 use Rattle.books.proofs.CallLaws.{ring-refused, lengths-refused, record-refused, all-written, room}
-use Rattle.books.proofs.WayLaws.{sizes}
+use Rattle.books.proofs.WayLaws.{sizes, both-fit}
 use Rattle.books.specs.Steps.{sizeOf}
 use Rattle.lists.proofs.LengthLaws.{records-within}
 use Rattle.standard.proofs.BytesLaws.{spelled}
@@ -15,13 +15,13 @@ use Rattle.standard.specs.Sizes.{ringSize}
 use Rattle.books.proofs.book_call.Statement.{statement}
 use Rattle.books.proofs.book_call.Tie as tie
 
-refused-requires : tie.Need-refused-requires
-refused-requires c κs = search needs
+refused-after-requires : tie.Need-refused-after-requires
+refused-after-requires c κs = search needs
 
 returns : tie.Need-returns
 returns c =
     let x = c .before .before .before .before .before .args in
-    rw (c .refused .ensures) (ring-refused (now (x .ring)) (x .way) (now (x .book)) (now (x .out)) (c .before .if1 .taken))
+    rw (c .refused-after .ensures) (ring-refused (now (x .ring)) (x .way) (now (x .book)) (now (x .out)) (c .before .if1 .taken))
 
 size-requires : tie.Need-size-requires
 size-requires c κs = search needs
@@ -32,8 +32,8 @@ to-requires c κs = search needs
 lengths-and-output-requires : tie.Need-lengths-and-output-requires
 lengths-and-output-requires c κs = search needs
 
-refused-requires-2 : tie.Need-refused-requires-2
-refused-requires-2 c κs = search needs
+refused-after-requires-2 : tie.Need-refused-after-requires-2
+refused-after-requires-2 c κs = search needs
 
 returns-2 : tie.Need-returns-2
 returns-2 c =
@@ -41,7 +41,7 @@ returns-2 c =
     let size = lens .before .before in
     let x = size .before .before .before .before .before .args in
     let e = rw (size .size .ensures, lens .before .to .ensures) at (lens .lengths-and-output .ensures) in
-    rw (c .refused2 .ensures) (lengths-refused (now (x .ring)) (x .way) (now (x .book)) (now (x .out)) (size .before .if1 .left) _ e (c .before .if2 .taken))
+    rw (c .refused-after2 .ensures) (lengths-refused (now (x .ring)) (x .way) (now (x .book)) (now (x .out)) (size .before .if1 .left) _ e (c .before .if2 .taken))
 
 ring-bytes-requires : tie.Need-ring-bytes-requires
 ring-bytes-requires c κs = search needs
@@ -60,8 +60,8 @@ scan-requires c κs =
     let x = size .before .before .before .before .before .args in
     rw (size .size .ensures) (records-within (sizeOf (x .way)) (length (now (x .book))))
 
-refused-requires-3 : tie.Need-refused-requires-3
-refused-requires-3 c κs = search needs
+refused-after-requires-3 : tie.Need-refused-after-requires-3
+refused-after-requires-3 c κs = search needs
 
 returns-3 : tie.Need-returns-3
 returns-3 c =
@@ -73,8 +73,9 @@ returns-3 c =
     let h : length (now (x .ring)) ≡ ringSize = size .before .if1 .left in
     let e = rw (size .size .ensures, lens .before .to .ensures) at (lens .lengths-and-output .ensures) in
     let keys = ring .ring-bytes .ensures ∙ spelled ringSize (now (x .ring)) h in
-    rw (c .refused3 .ensures)
-    (record-refused (now (x .ring)) (x .way) (now (x .book)) (now (x .out)) h _ e (ring .before .if2 .left) _ _ (rw (keys, size .size .ensures) at (found .scan .ensures)) (c .before .if3 .taken))
+    let stopped = rw (keys, size .size .ensures) at (found .scan .ensures) in
+    rw (c .refused-after3 .ensures)
+    (record-refused (now (x .ring)) (x .way) (now (x .book)) (now (x .out)) h _ e (ring .before .if2 .left) _ _ _ (stopped .0) (stopped .1) (c .before .if3 .taken))
 
 write-requires : tie.Need-write-requires
 write-requires c κs =
@@ -85,11 +86,11 @@ write-requires c κs =
     rw (size .size .ensures)
     (records-within (sizeOf (x .way)) (length (now (x .book))), room (now (x .ring)) (x .way) (now (x .book)) (now (x .out)) (size .before .if1 .left) _ e (c .before .before .before .before .before .before .before .if2 .left))
 
-cast-t11 : tie.Need-cast-t11
-cast-t11 c = search needs
+cast-t12 : tie.Need-cast-t12
+cast-t12 c = search needs
 
-mul-t13 : tie.Need-mul-t13
-mul-t13 c =
+mul-t14 : tie.Need-mul-t14
+mul-t14 c =
     let lens = c .before .before .before .before .before .before .before .before .before .before .before in
     let size = lens .before .before in
     let start = size .before .before .before .before .before in
@@ -99,12 +100,23 @@ mul-t13 c =
     let fits : lens .before .to .result * (length (now (x .book)) / size .size .result) ≤ length (now (x .out)) = rw (lens .before .to .ensures, size .size .ensures) r in
     omega (arith, fits, start .good)
 
+add-t20 : tie.Need-add-t20
+add-t20 c =
+    let found = c .before .before .before .before .before .before .before .before in
+    let size = found .before .before .before .before .before .before in
+    let start = size .before .before .before .before .before in
+    let x = start .args in
+    let within : sizeOf (x .way) * (length (now (x .book)) / size .size .result) ≤ length (now (x .book)) =
+    rw (size .size .ensures) (records-within (sizeOf (x .way)) (length (now (x .book)))) in
+    rw (found .scan .ensures .1, c .before .before .before .write .ensures .1)
+    (omega (arith, both-fit (found .before .before .ring-bytes .result) (x .way) (now (x .book)) (length (now (x .book)) / size .size .result) (length (now (x .book))) within, start .good))
+
 same-length : tie.Need-same-length
 same-length c = search needs
 
 returns-4 : tie.Need-returns-4
 returns-4 c =
-    let found = c .before .before .before .before .before .before .before in
+    let found = c .before .before .before .before .before .before .before .before in
     let ring = found .before .before in
     let lens = ring .before .before in
     let size = lens .before .before in
@@ -113,29 +125,30 @@ returns-4 c =
     let e = rw (size .size .ensures, lens .before .to .ensures) at (lens .lengths-and-output .ensures) in
     let keys = ring .ring-bytes .ensures ∙ spelled ringSize (now (x .ring)) h in
     let stopped = rw (keys, size .size .ensures) at (found .scan .ensures) in
-    let written = rw (keys, size .size .ensures) at (c .before .before .write .ensures) in
+    let written = rw (keys, size .size .ensures) at (c .before .before .before .write .ensures) in
     rw (lens .before .to .ensures, size .size .ensures)
-    (all-written (now (x .ring)) (x .way) (now (x .book)) (now (x .out)) h _ e (ring .before .if2 .left) (stopped .none (c .before .before .before .before .before .if3 .left)) _ written)
+    (all-written (now (x .ring)) (x .way) (now (x .book)) (now (x .out)) h _ e (ring .before .if2 .left) (stopped .0 .none (c .before .before .before .before .before .before .if3 .left)) _ (written .0) _ _ (stopped .1) (written .1))
 
 pub book-call-spec : {M : Type 1} → statement M
 book-call-spec =
     tie.close
     (tie.spec
-    refused-requires
+    refused-after-requires
     returns
     size-requires
     to-requires
     lengths-and-output-requires
-    refused-requires-2
+    refused-after-requires-2
     returns-2
     ring-bytes-requires
     cast-n
     div-n
     scan-requires
-    refused-requires-3
+    refused-after-requires-3
     returns-3
     write-requires
-    cast-t11
-    mul-t13
+    cast-t12
+    mul-t14
+    add-t20
     same-length
     returns-4)

@@ -6,7 +6,7 @@ use mathlib.Core.Path.{_≡_, sym, ap, _∙_}
 use Prim.Native.Nat.{ℕ}
 use denote.Ref.{now}
 use borrow.Author.Needs.{needs}
-use Rattle.records.proofs.StepLaws.{named-by, open-unknown, open-set, open-clear}
+use Rattle.records.proofs.StepLaws.{named-by, open-unknown, open-set, open-clear, look-unknown, look-known}
 use Rattle.standard.specs.Books.{sealingKey}
 use Rattle.standard.specs.Bytes.{_!_, part}
 use Rattle.standard.specs.Seals.{clear, form, opened}
@@ -34,8 +34,8 @@ returns c =
     let copy = found .before in
     let x = copy .before .before .args in
     let t = now (x .rec) in
-    open-unknown (now (x .ring)) t
-    (named-by t (copy .array21 .result) (ap (λ (y : List ℕ). y ! 0) (copy .array21 .ensures)) (found .from-byte .ensures) ∙ c .enum-told .given .1)
+    let e = named-by t (copy .array21 .result) (ap (λ (y : List ℕ). y ! 0) (copy .array21 .ensures)) (found .from-byte .ensures) ∙ c .enum-told .given .1 in
+    (open-unknown (now (x .ring)) t e, look-unknown t e)
 
 sealed-head-requires : tie.Need-sealed-head-requires
 sealed-head-requires c κs = search needs
@@ -67,7 +67,7 @@ returns-2 c =
     core .core-key .ensures ∙ rw (core .before .version-of .ensures, core .before .before .sealed-head .ensures, copy .array21 .ensures) in
     let f : not (clear (form k) (opened (core .core-key .result) (part 6 15 t))) ≡ true =
     sym (rw (flag .before .text-part .ensures, copy .array21 .ensures) at (flag .flag-of .ensures)) ∙ c .if1 .taken in
-    open-set (now (x .ring)) t k e (core .core-key .result) q f
+    (open-set (now (x .ring)) t k e (core .core-key .result) q f, look-known t k e)
 
 returns-3 : tie.Need-returns-3
 returns-3 c =
@@ -84,7 +84,7 @@ returns-3 c =
     core .core-key .ensures ∙ rw (core .before .version-of .ensures, core .before .before .sealed-head .ensures, copy .array21 .ensures) in
     let f : not (clear (form k) (opened (core .core-key .result) (part 6 15 t))) ≡ false =
     sym (rw (flag .before .text-part .ensures, copy .array21 .ensures) at (flag .flag-of .ensures)) ∙ c .if1 .left in
-    open-clear (now (x .ring)) t k e (core .core-key .result) q f
+    (open-clear (now (x .ring)) t k e (core .core-key .result) q f, look-known t k e)
 
 pub open-fault-spec : {M : Type 1} → statement M
 open-fault-spec =

@@ -6,7 +6,6 @@ use native.Mathlib.Omega.{arith}
 use denote.Ref.{now}
 use borrow.Author.Needs.{needs}
 use Rattle.reseal.proofs.ResealLaws.{stays, fits, resealed, back}
-use Rattle.standard.specs.declared.BookAnswer.{BookAnswer}
 use Rattle.reseal.proofs.reseal.Statement.{statement}
 use Rattle.reseal.proofs.reseal.Tie as tie
 

@@ -1,7 +1,7 @@
 -- `books::walk::scan_plain` meets its contract: the records passed have no fault.
 -- Assumes nothing.
 use mathlib.Core.List.{List}
-use mathlib.Core.Path.{_≡_, sym, ap, _∙_}
+use mathlib.Core.Path.{_≡_, refl, sym, ap, _∙_}
 use Prim.Native.Nat.{ℕ, _+_, _*_, _-_, _<_, _≤_, zero-le}
 use native.Mathlib.Omega.{arith}
 use lib.ListN.{length}
@@ -52,7 +52,7 @@ plain-fault-requires c κs = search needs
 returns : tie.Need-returns Inv-loop μ-loop
 returns c =
     let turn = c .before .before .before in
-    stopped-at _ _ (turn .before .loop .index) _ (turn .loop-test .taken) (turn .before .loop .inv .1) (at (c .before)) (c .if1 .taken)
+    (stopped-at _ _ (turn .before .loop .index) _ (turn .loop-test .taken) (turn .before .loop .inv .1) (at (c .before)) (c .if1 .taken), refl)
 
 add-index : tie.Need-add-index Inv-loop μ-loop
 add-index c = search needs
@@ -66,7 +66,7 @@ loop-again c =
     (omega arith, clean-more _ (turn .loop .index) (turn .loop .inv .1) (sym (at (c .before)) ∙ c .if1 .left))
 
 returns-2 : tie.Need-returns-2 Inv-loop μ-loop
-returns-2 c = stopped-not _ _ (λ j h. c .before .loop .inv .1 j (omega arith))
+returns-2 c = (stopped-not _ _ (λ j h. c .before .loop .inv .1 j (omega arith)), refl)
 
 pub scan-plain-spec : {M : Type 1} → statement M
 scan-plain-spec =

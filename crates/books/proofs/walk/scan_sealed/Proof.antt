@@ -1,35 +1,51 @@
 -- `books::walk::scan_sealed` meets its contract: the records passed have no fault.
 -- Assumes nothing.
 use mathlib.Core.List.{List}
-use mathlib.Core.Path.{_≡_, sym, ap, _∙_}
-use Prim.Native.Nat.{ℕ, _+_, _*_, _-_, _<_, _≤_, zero-le}
+use mathlib.Core.Path.{_≡_, refl, sym, ap, ap₂, _∙_}
+use Prim.Native.Nat.{ℕ, suc, _+_, _*_, _-_, _<_, _≤_, zero-le}
+use native.Mathlib.Numerals.{add-one}
 use native.Mathlib.Omega.{arith}
-use lib.ListN.{length}
+use lib.ListN.{take, drop}
 use denote.Ref.{now}
 use borrow.Author.Needs.{needs}
 use Rattle.lists.proofs.WalkLaws.{lent, clean-none, clean-more, stopped-at, stopped-not}
 use Rattle.lists.specs.Walks.{Clean}
-use Rattle.standard.specs.Books.{openFault}
+use Rattle.books.proofs.WayLaws.{looks-few, looks-most, runs-fit}
+use Rattle.books.specs.Steps.{faultAt, lookAt}
+use Rattle.books.specs.declared.walk.Way.the-variants.{Opening}
+use Rattle.standard.proofs.AnswerLaws.{pass-more, pass-stopped}
+use Rattle.standard.specs.Books.{openFault, openLook}
 use Rattle.standard.specs.Lists.{recordAt}
+use Rattle.standard.specs.Runs.{firstPass}
 use Rattle.standard.specs.Sizes.{sealedSize}
 use Rattle.books.proofs.walk.scan_sealed.Statement.{statement}
 use Rattle.books.proofs.walk.scan_sealed.Tie as tie
 
 abbrev Inv-loop : tie.InvT-loop
-Inv-loop ring sealed n i₀ i = (i ≤ n) × Clean (λ j. openFault ring (recordAt sealedSize sealed j)) i
+Inv-loop ring sealed n runs₀ i₀ runs i =
+    (i ≤ n) × Clean (faultAt ring Opening sealed) i × (runs ≡ firstPass i (faultAt ring Opening sealed) (lookAt Opening sealed))
 
 abbrev μ-loop : tie.MeasureT-loop
-μ-loop ring sealed n i₀ i = n - i
+μ-loop ring sealed n runs₀ i₀ runs i = n - i
 
--- the fault of the turn's record is what the check answered
+-- the part that the turn lends is its record
+part-is : (c : tie.After-open-fault Inv-loop μ-loop)
+    → let i = c .before .before .before .loop .index in
+    let sealed = now (c .before .before .before .before .before .args .sealed) in
+    take (sealedSize * i + sealedSize - sealedSize * i) (drop (sealedSize * i) sealed) ≡ recordAt sealedSize sealed i
+part-is c = lent sealedSize (c .before .before .before .loop .index) (now (c .before .before .before .before .before .args .sealed)) (search needs)
+
+-- so its fault and the runs of the look at it are what the look answered
 at : (c : tie.After-open-fault Inv-loop μ-loop)
-    → c .open-fault .result ≡ openFault (now (c .before .before .before .before .before .args .ring)) (recordAt sealedSize (now (c .before .before .before .before .before .args .sealed)) (c .before .before .before .loop .index))
-at c =
-    let x = c .before .before .before .before .before .args in
-    c .open-fault .ensures ∙ ap (openFault (now (x .ring))) (lent sealedSize (c .before .before .before .loop .index) (now (x .sealed)) (search needs))
+    → c .open-fault .result .number ≡ faultAt (now (c .before .before .before .before .before .args .ring)) Opening (now (c .before .before .before .before .before .args .sealed)) (c .before .before .before .loop .index)
+at c = c .open-fault .ensures .0 ∙ ap (openFault (now (c .before .before .before .before .before .args .ring))) (part-is c)
+
+took : (c : tie.After-open-fault Inv-loop μ-loop)
+    → c .open-fault .result .runs ≡ lookAt Opening (now (c .before .before .before .before .before .args .sealed)) (c .before .before .before .loop .index)
+took c = c .open-fault .ensures .1 ∙ ap openLook (part-is c)
 
 loop-holds : tie.Need-loop-holds Inv-loop μ-loop
-loop-holds c = (zero-le, clean-none _)
+loop-holds c = (zero-le, clean-none _, refl)
 
 mul-a : tie.Need-mul-a Inv-loop μ-loop
 mul-a c = search needs
@@ -49,10 +65,25 @@ part-open-fault-end c = search needs
 open-fault-requires : tie.Need-open-fault-requires Inv-loop μ-loop
 open-fault-requires c κs = search needs
 
+add-runs : tie.Need-add-runs Inv-loop μ-loop
+add-runs c =
+    let i = c .before .before .before .before .loop in
+    let start = c .before .before .before .before .before .before in
+    let x = start .args in
+    omega (arith, i .inv .2, took (c .before), looks-few (now (x .ring)) Opening (now (x .sealed)) (i .index), looks-most Opening (recordAt sealedSize (now (x .sealed)) (i .index)), runs-fit Opening (x .n) _ (start .pre), c .before .before .before .loop-test .taken, start .good)
+
 returns : tie.Need-returns Inv-loop μ-loop
 returns c =
-    let turn = c .before .before .before in
-    stopped-at _ _ (turn .before .loop .index) _ (turn .loop-test .taken) (turn .before .loop .inv .1) (at (c .before)) (c .if1 .taken)
+    let look = c .before .before .before in
+    let turn = look .before .before in
+    let i = turn .before .loop in
+    let x = turn .before .before .before .args in
+    let g = faultAt (now (x .ring)) Opening (now (x .sealed)) in
+    let l = lookAt Opening (now (x .sealed)) in
+    let h = turn .loop-test .taken in (
+      stopped-at _ _ (i .index) _ h (i .inv .1) (at look) (c .if1 .taken),
+      ap₂ _+_ (i .inv .2) (took look) ∙ sym (pass-stopped g l (x .n) (i .index) h (i .inv .1) (λ z. c .if1 .taken (at look ∙ z))),
+    )
 
 add-index : tie.Need-add-index Inv-loop μ-loop
 add-index c = search needs
@@ -62,11 +93,24 @@ loop-less c = search needs
 
 loop-again : tie.Need-loop-again Inv-loop μ-loop
 loop-again c =
-    let turn = c .before .before .before .before in
-    (omega arith, clean-more _ (turn .loop .index) (turn .loop .inv .1) (sym (at (c .before)) ∙ c .if1 .left))
+    let look = c .before .before .before in
+    let i = look .before .before .before .loop in
+    let x = look .before .before .before .before .before .args in
+    let g = faultAt (now (x .ring)) Opening (now (x .sealed)) in
+    let l = lookAt Opening (now (x .sealed)) in (
+      omega arith,
+      clean-more _ (i .index) (i .inv .1) (sym (at look) ∙ c .if1 .left),
+      ap₂ _+_ (i .inv .2) (took look) ∙ sym (pass-more g l (i .index) (i .inv .1)) ∙ ap (λ (k : ℕ). firstPass k g l) (sym (add-one (i .index))),
+    )
 
 returns-2 : tie.Need-returns-2 Inv-loop μ-loop
-returns-2 c = stopped-not _ _ (λ j h. c .before .loop .inv .1 j (omega arith))
+returns-2 c =
+    let i = c .before .loop in
+    let x = c .before .before .before .args in
+    let e : i .index ≡ x .n = omega arith in (
+      stopped-not _ _ (λ j h. i .inv .1 j (omega arith)),
+      i .inv .2 ∙ ap (λ (k : ℕ). firstPass k (faultAt (now (x .ring)) Opening (now (x .sealed))) (lookAt Opening (now (x .sealed)))) e,
+    )
 
 pub scan-sealed-spec : {M : Type 1} → statement M
 scan-sealed-spec =
@@ -81,6 +125,7 @@ scan-sealed-spec =
     part-open-fault-start
     part-open-fault-end
     open-fault-requires
+    add-runs
     returns
     add-index
     loop-less

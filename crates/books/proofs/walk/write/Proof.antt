@@ -1,20 +1,22 @@
 -- `books::walk::write` meets its contract.
 -- Assumes nothing.
 use mathlib.Core.List.{List, _++_}
-use mathlib.Core.Path.{_≡_, ap, _∙_}
+use mathlib.Core.Path.{_≡_, refl, ap, _∙_}
 use Prim.Native.Nat.{ℕ, _*_}
 use native.Mathlib.Nat.{mul-zero}
+use native.Mathlib.Omega.{arith}
 use lib.ListN.{drop}
 use denote.Ref.{now}
 use borrow.Author.Needs.{needs}
-use Rattle.books.proofs.WayLaws.{converted-is}
+use borrow.Author.Tests.{ne-eqb}
+use Rattle.books.proofs.WayLaws.{converted-is, runs-fit}
 use Rattle.books.specs.Steps.{sizeOf, toOf, convertOf}
 use Rattle.standard.specs.Lists.{each}
 use Rattle.books.proofs.walk.write.Statement.{statement}
 use Rattle.books.proofs.walk.write.Tie as tie
 
 returns : tie.Need-returns
-returns c = rw (c .if1 .taken, mul-zero)
+returns c = rw (c .if1 .taken, mul-zero) (refl, refl)
 
 strings-of-requires : tie.Need-strings-of-requires
 strings-of-requires c κs = search needs
@@ -22,17 +24,25 @@ strings-of-requires c κs = search needs
 write-with-requires : tie.Need-write-with-requires
 write-with-requires c κs = c .before .before .before .before .before .pre
 
+add-result : tie.Need-add-result
+add-result c =
+    let start = c .before .before .before .before .before .before .before .before in
+    omega (arith, c .before .before .write-with .ensures .1, runs-fit (start .args .way) (start .args .n) _ (start .pre .0), start .good)
+
 same-length : tie.Need-same-length
 same-length c = search needs
 
 returns-2 : tie.Need-returns-2
 returns-2 c =
     let x = c .before .before .before .before .before .before .before .before .args in
-    c .before .before .write-with .ensures
-    ∙ ap (λ (l : List ℕ). l ++ drop (toOf (x .way) * x .n) (now (x .out)))
-    (ap (λ (b : List ℕ). each (x .n) (sizeOf (x .way)) (convertOf (now (x .ring)) b (x .way)) (now (x .book))) (c .before .before .before .before .strings-of .ensures)
-    ∙ converted-is (now (x .ring)) (x .way) (x .n) (now (x .book)))
+    let wrote = c .before .before .write-with .ensures in (
+      wrote .0
+          ∙ ap (λ (l : List ℕ). l ++ drop (toOf (x .way) * x .n) (now (x .out)))
+          (ap (λ (b : List ℕ). each (x .n) (sizeOf (x .way)) (convertOf (now (x .ring)) b (x .way)) (now (x .book))) (c .before .before .before .before .strings-of .ensures)
+          ∙ converted-is (now (x .ring)) (x .way) (x .n) (now (x .book))),
+      rw (ne-eqb _ _ (c .before .before .before .before .before .if1 .left)) (omega (arith, wrote .1)),
+    )
 
 pub write-spec : {M : Type 1} → statement M
 write-spec =
-    tie.close (tie.spec returns strings-of-requires write-with-requires same-length returns-2)
+    tie.close (tie.spec returns strings-of-requires write-with-requires add-result same-length returns-2)

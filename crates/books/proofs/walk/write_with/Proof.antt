@@ -1,23 +1,25 @@
 -- `books::walk::write_with` meets its contract: the first i parts of the output are the first i records, converted.
 -- Assumes nothing.
 use mathlib.Core.List.{List}
-use mathlib.Core.Path.{_≡_, sym, ap, _∙_}
+use mathlib.Core.Path.{_≡_, refl, sym, ap, _∙_}
 use Prim.Native.Nat.{ℕ, _+_, _*_, _-_, _<_, _≤_, zero-le}
 use native.Mathlib.Omega.{arith}
 use lib.ListN.{length}
 use denote.Ref.{now}
 use borrow.Author.Needs.{needs}
 use Rattle.lists.proofs.WalkLaws.{ends, lent, Wrote, wrote-none, wrote-more}
-use Rattle.books.proofs.WayLaws.{converted-length}
+use Rattle.books.proofs.WayLaws.{converted-length, runs-fit}
 use Rattle.books.specs.Steps.{toOf, convertOf}
+use Rattle.standard.specs.Runs.{textRuns}
 use Rattle.books.proofs.walk.write_with.Statement.{statement}
 use Rattle.books.proofs.walk.write_with.Tie as tie
 
 abbrev Inv-loop : tie.InvT-loop
-Inv-loop way ring strings book n out₀ size to i₀ out i = (i ≤ n) × Wrote size to (convertOf ring strings way) book out₀ i out
+Inv-loop way ring strings book n out₀ size to runs₀ i₀ out runs i =
+    (i ≤ n) × Wrote size to (convertOf ring strings way) book out₀ i out × (runs ≡ textRuns * i)
 
 abbrev μ-loop : tie.MeasureT-loop
-μ-loop way ring strings book n out₀ size to i₀ out i = n - i
+μ-loop way ring strings book n out₀ size to runs₀ i₀ out runs i = n - i
 
 size-requires : tie.Need-size-requires Inv-loop μ-loop
 size-requires c κs = search needs
@@ -51,7 +53,7 @@ loop-holds c =
     let x = c .before .before .before .before .args in
     let made = convertOf (now (x .ring)) (x .strings) (x .way) in
     let long : (y : List ℕ) → length (made y) ≡ c .to .result = λ y. converted-length (now (x .ring)) (x .strings) (x .way) y ∙ sym (c .to .ensures) in
-    (zero-le, wrote-none (c .before .size .result) (c .to .result) made long (now (x .book)) (now (x .out)))
+    (zero-le, wrote-none (c .before .size .result) (c .to .result) made long (now (x .book)) (now (x .out)), refl)
 
 mul-a : tie.Need-mul-a Inv-loop μ-loop
 mul-a c = omega (arith, room-in c)
@@ -86,6 +88,12 @@ part-convert-end-2 c = omega (arith, room-out (c .before), c .before .before .lo
 convert-requires : tie.Need-convert-requires Inv-loop μ-loop
 convert-requires c κs = search needs
 
+add-runs : tie.Need-add-runs Inv-loop μ-loop
+add-runs c =
+    let turn = c .before .before .before .before .before in
+    let start = turn .before .before .before .before .before .before in
+    omega (arith, turn .before .loop .inv .2, turn .loop-test .taken, runs-fit (start .args .way) (start .args .n) _ (start .pre .0), start .good)
+
 add-i : tie.Need-add-i Inv-loop μ-loop
 add-i c = search needs
 
@@ -104,6 +112,7 @@ loop-again c =
       omega arith,
       wrote-more (size .result) (to .result) f long (now (x .book)) (now (x .out)) (at .i) (at .out) (at .inv .1) (room-out turn) _ _
           (lent (size .result) (at .i) (now (x .book)) (room-in turn)) (rw (← to .ensures) at (c .before .before .convert .ensures)),
+      omega (arith, at .inv .2),
     )
 
 same-length : tie.Need-same-length Inv-loop μ-loop
@@ -114,7 +123,7 @@ returns c =
     let at = c .before .loop in
     let x = c .before .before .before .before .before .before .args in
     let e : at .i ≡ x .n = omega arith in
-    rw (e, c .before .before .to .ensures, c .before .before .before .size .ensures) at (at .inv .1 .bytes)
+    (rw (e, c .before .before .to .ensures, c .before .before .before .size .ensures) at (at .inv .1 .bytes), omega (arith, at .inv .2, e))
 
 pub write-with-spec : {M : Type 1} → statement M
 write-with-spec =
@@ -138,6 +147,7 @@ write-with-spec =
     part-convert-start-2
     part-convert-end-2
     convert-requires
+    add-runs
     add-i
     loop-less
     loop-again

@@ -1,0 +1,24 @@
+-- `listing::answer::answer_line` meets its contract.
+-- Assumes nothing.
+use borrow.Author.Needs.{needs}
+use Rattle.listing.proofs.ListLaws.{answer-line-short}
+use Rattle.standard.specs.Programs.{answerLine}
+use Rattle.text.proofs.LineLaws.{append, uncut}
+use Rattle.listing.proofs.answer.answer_line.Statement.{statement}
+use Rattle.listing.proofs.answer.answer_line.Tie as tie
+
+returns : tie.Need-returns
+unfolding answerLine
+returns c =
+    uncut (answerLine _) {l = c .word .result}
+    (simp append (rw (c .word .ensures, c .before .before .answer-text .ensures)))
+    (answer-line-short _)
+
+pub answer-line-spec : {M : Type 1} → statement M
+answer-line-spec =
+    tie.close
+    (tie.spec
+    (λ c κs. search needs)
+    (λ c. search needs)
+    (λ c κs. search needs)
+    returns)

@@ -1,0 +1,21 @@
+-- `listing::answer::answer_text` meets its contract.
+-- Assumes nothing.
+use borrow.Author.Needs.{needs}
+use Rattle.listing.proofs.ListLaws.{answer-refused, answer-wrote}
+use Rattle.listing.proofs.answer.answer_text.Statement.{statement}
+use Rattle.listing.proofs.answer.answer_text.Tie as tie
+
+returns : tie.Need-returns
+returns c = rw (answer-refused _ _ _ (c .before .if1 .taken)) (c .meaning-text .ensures)
+
+returns-2 : tie.Need-returns-2
+returns-2 c = rw (answer-wrote _ _ _ (c .before .if1 .left)) (c .wrote-text .ensures)
+
+pub answer-text-spec : {M : Type 1} → statement M
+answer-text-spec =
+    tie.close
+    (tie.spec
+    (λ c κs. search needs)
+    returns
+    (λ c κs. search needs)
+    returns-2)

@@ -1,0 +1,28 @@
+-- `listing::answer::counted_line` meets its contract.
+-- Assumes nothing.
+use borrow.Author.Needs.{needs}
+use Rattle.listing.proofs.ListLaws.{counted-line-short}
+use Rattle.standard.specs.Programs.{countedLine}
+use Rattle.text.proofs.LineLaws.{append, uncut}
+use Rattle.listing.proofs.answer.counted_line.Statement.{statement}
+use Rattle.listing.proofs.answer.counted_line.Tie as tie
+
+returns : tie.Need-returns
+unfolding countedLine
+returns c =
+    let number = c .before .before in
+    uncut (countedLine _) {l = c .word2 .result}
+    (simp append (rw (c .word2 .ensures, number .decimal .ensures, number .before .word .ensures, number .before .before .before .answer-text .ensures)))
+    (counted-line-short _)
+
+pub counted-line-spec : {M : Type 1} → statement M
+counted-line-spec =
+    tie.close
+    (tie.spec
+    (λ c κs. search needs)
+    (λ c. search needs)
+    (λ c κs. search needs)
+    (λ c κs. search needs)
+    (λ c. search needs)
+    (λ c κs. search needs)
+    returns)

@@ -1,0 +1,17 @@
+-- `listing::answer::report_counted` meets its contract.
+-- Assumes nothing.
+use borrow.Author.Needs.{needs}
+use Rattle.listing.proofs.answer.report_counted.Statement.{statement}
+use Rattle.listing.proofs.answer.report_counted.Tie as tie
+
+returns : tie.Need-returns
+returns c = let write = c .before .before in rw (← write .before .before .counted-line .ensures) (write .write .ensures)
+
+pub report-counted-spec : {M : Type 1} → statement M
+report-counted-spec =
+    tie.close
+    (tie.spec
+    (λ c κs. search needs)
+    (λ c κs. search needs)
+    (λ c. search needs)
+    returns)

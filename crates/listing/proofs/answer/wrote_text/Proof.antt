@@ -1,0 +1,25 @@
+-- `listing::answer::wrote_text` meets its contract.
+-- Assumes nothing.
+use borrow.Author.Needs.{needs}
+use Rattle.standard.specs.Programs.{wroteText}
+use Rattle.text.proofs.LineLaws.{append}
+use Rattle.listing.proofs.answer.wrote_text.Statement.{statement}
+use Rattle.listing.proofs.answer.wrote_text.Tie as tie
+
+returns : tie.Need-returns
+unfolding wroteText
+returns c =
+    let number = c .before .before in
+    simp append (rw (c .word2 .ensures, number .decimal .ensures, number .before .word .ensures, number .before .before .before .empty .ensures))
+
+pub wrote-text-spec : {M : Type 1} → statement M
+wrote-text-spec =
+    tie.close
+    (tie.spec
+    (λ c κs. search needs)
+    (λ c. search needs)
+    (λ c κs. search needs)
+    (λ c κs. search needs)
+    (λ c. search needs)
+    (λ c κs. search needs)
+    returns)

@@ -1,0 +1,33 @@
+-- Counted cipher runs (02, 8): how often a book call runs the block cipher, step by step.
+-- Assumes nothing.
+use Prim.Native.Nat.{ℕ, zero, suc, _+_, _*_}
+use lib.Dec.{eqb}
+use Rattle.standard.specs.Bytes.{choose}
+use Rattle.standard.specs.Lists.{firstFault}
+
+-- sealing a text, by BL1, and unsealing one, by BL2
+abbrev pub textRuns : ℕ
+textRuns = 2
+
+-- making the identity strings of a ring
+abbrev pub identityRuns : ℕ
+identityRuns = 1
+
+-- The first pass, which looks for a fault: record n is looked at if none of those before it has one. A look at record i takes `look i`.
+abbrev pub firstPass : ℕ → (fault look : ℕ → ℕ) → ℕ
+firstPass zero fault look = 0
+firstPass (suc n) fault look = firstPass n fault look + choose (eqb (firstFault n fault) n) (look n) 0
+
+-- The second pass, which writes: the identity strings are made once, but not for an empty book, and each record has its text sealed or
+-- unsealed.
+abbrev pub secondPass : ℕ → ℕ
+secondPass n = choose (eqb n 0) 0 identityRuns + textRuns * n
+
+-- A call on n records: no pass if the tests refuse with `head`, and no second one if a record has a fault.
+abbrev pub callRuns : (head n : ℕ) (fault look : ℕ → ℕ) → ℕ
+callRuns head n fault look =
+    choose (eqb head 0) (firstPass n fault look + choose (eqb (firstFault n fault) n) (secondPass n) 0) 0
+
+-- An accepted book of n records that takes k runs for each of them, and one for the identity strings; the empty book takes none.
+abbrev pub acceptedRuns : (k n : ℕ) → ℕ
+acceptedRuns k n = choose (eqb n 0) 0 (1 + k * n)
