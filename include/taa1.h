@@ -202,6 +202,19 @@ typedef struct {
     size_t written;
 } taa1_book_answer;
 
+/*
+ * Sealing and opening also count their runs of the block cipher: one for an
+ * accepted book that has records, two for each record sealed, two for each that
+ * is unsealed to look at its flag, and two for each that is unsealed to be
+ * written. A refused opening has those by then, any other refusal 0.
+ */
+typedef struct {
+    uint32_t refusal;
+    size_t index;
+    size_t written;
+    size_t runs;
+} taa1_counted_answer;
+
 /* ---- HURDLE-II: a block [8] under a key [16] ---- */
 
 /* The block, encrypted. */
@@ -407,14 +420,14 @@ taa1_ring_made taa1_ring(const uint8_t *root, size_t root_length,
  */
 
 /* Seals a plain book; writes TAA1_SEALED_RECORD_BYTES for each record. */
-taa1_book_answer taa1_seal_book(const uint8_t *ring, size_t ring_length,
-                                const uint8_t *plain, size_t plain_length,
-                                uint8_t *out, size_t out_length);
+taa1_counted_answer taa1_seal_book(const uint8_t *ring, size_t ring_length,
+                                   const uint8_t *plain, size_t plain_length,
+                                   uint8_t *out, size_t out_length);
 
 /* Opens a sealed book, if each record in it does; writes TAA1_PLAIN_RECORD_BYTES for each. */
-taa1_book_answer taa1_open_book(const uint8_t *ring, size_t ring_length,
-                                const uint8_t *sealed, size_t sealed_length,
-                                uint8_t *out, size_t out_length);
+taa1_counted_answer taa1_open_book(const uint8_t *ring, size_t ring_length,
+                                   const uint8_t *sealed, size_t sealed_length,
+                                   uint8_t *out, size_t out_length);
 
 /* The refusals 1 to 5 that taa1_seal_book gives for a plain book; nothing is written. */
 taa1_book_answer taa1_check_plain(const uint8_t *plain, size_t plain_length);

@@ -50,15 +50,15 @@ static void print_hex(const char *name, const uint8_t *bytes, size_t length) {
     putchar('\n');
 }
 
-static void print_refusal(FILE *stream, taa1_book_answer answer) {
-    fprintf(stream, "refused %u at %zu (%s)\n", (unsigned)answer.refusal, answer.index,
-            taa1_refusal_text(answer.refusal));
+static void print_refusal(FILE *stream, taa1_counted_answer answer) {
+    fprintf(stream, "refused %u at %zu (%s), %zu runs\n", (unsigned)answer.refusal, answer.index,
+            taa1_refusal_text(answer.refusal), answer.runs);
 }
 
-/* Ends the program if a sheet or book that the engine must accept is refused. */
-static void must_accept(const char *what, taa1_book_answer answer) {
+/* Ends the program if a book that the engine must accept is refused. */
+static void must_accept(const char *book, taa1_counted_answer answer) {
     if (answer.refusal != TAA1_ACCEPTED) {
-        fprintf(stderr, "sitting: %s: ", what);
+        fprintf(stderr, "sitting: %s: ", book);
         print_refusal(stderr, answer);
         exit(EXIT_FAILURE);
     }
@@ -147,17 +147,22 @@ int main(int argc, char **argv) {
     taa1_ring_made of_one_side = make_ring("one-sided.bin", &one_sided);
     print_ring("one-sided ", &of_one_side);
 
-    taa1_book_answer answer = taa1_lineage(sheet.bytes, sheet.length, values, sizeof values);
-    must_accept("lineage.sheet", answer);
-    printf("lineage %zu records, %zu bytes\n", answer.index, answer.written);
-    for (size_t at = 0; at < answer.written; at += TAA1_SHEET_VALUE_BYTES) {
+    taa1_book_answer worked = taa1_lineage(sheet.bytes, sheet.length, values, sizeof values);
+    if (worked.refusal != TAA1_ACCEPTED) {
+        fprintf(stderr, "sitting: lineage.sheet: refused %u at %zu (%s)\n",
+                (unsigned)worked.refusal, worked.index, taa1_refusal_text(worked.refusal));
+        return EXIT_FAILURE;
+    }
+    printf("lineage %zu records, %zu bytes\n", worked.index, worked.written);
+    for (size_t at = 0; at < worked.written; at += TAA1_SHEET_VALUE_BYTES) {
         print_hex("lineage", values + at, TAA1_SHEET_VALUE_BYTES);
     }
 
-    answer = taa1_seal_book(ring, ring_length, plain.bytes, plain.length, sealed, sizeof sealed);
+    taa1_counted_answer answer =
+        taa1_seal_book(ring, ring_length, plain.bytes, plain.length, sealed, sizeof sealed);
     must_accept("plain.book", answer);
     const size_t sealed_length = answer.written;
-    printf("sealed %zu records, %zu bytes\n", answer.index, sealed_length);
+    printf("sealed %zu records, %zu bytes, %zu runs\n", answer.index, sealed_length, answer.runs);
     for (size_t at = 0; at < sealed_length; at += TAA1_SEALED_RECORD_BYTES) {
         print_hex("sealed", sealed + at, TAA1_SEALED_RECORD_BYTES);
     }
@@ -167,14 +172,16 @@ int main(int argc, char **argv) {
     if (answer.written != plain.length || memcmp(opened, plain.bytes, plain.length) != 0) {
         fail("the opened book", " is not the plain book");
     }
-    printf("opened %zu records, %zu bytes: the plain book\n", answer.index, answer.written);
+    printf("opened %zu records, %zu bytes, %zu runs: the plain book\n", answer.index,
+           answer.written, answer.runs);
 
     answer = taa1_seal_book(ring, ring_length, opened, answer.written, again, sizeof again);
     must_accept("the opened book", answer);
     if (answer.written != sealed_length || memcmp(again, sealed, sealed_length) != 0) {
         fail("the book sealed again", " is another");
     }
-    printf("sealed again %zu records, %zu bytes: the same bytes\n", answer.index, answer.written);
+    printf("sealed again %zu records, %zu bytes, %zu runs: the same bytes\n", answer.index,
+           answer.written, answer.runs);
 
     answer = taa1_open_book(ring, ring_length, candidate.bytes, candidate.length, opened,
                             sizeof opened);
@@ -185,7 +192,8 @@ int main(int argc, char **argv) {
             print_marks(answer.index, checks_of(ring, record));
         }
     } else {
-        printf("accepted %zu records, %zu bytes\n", answer.index, answer.written);
+        printf("accepted %zu records, %zu bytes, %zu runs\n", answer.index, answer.written,
+               answer.runs);
     }
 
     if (fflush(stdout) != 0 || ferror(stdout)) {

@@ -60,6 +60,11 @@ def print_ring(words: str, made: taa1.RingMade) -> None:
     print(f"{words}response 2 {made.response2.hex()}")
 
 
+def size(book: taa1.CountedBook) -> str:
+    """A book's records and bytes, and the cipher runs that it took."""
+    return f"{book.records} records, {len(book.content)} bytes, {book.runs} runs"
+
+
 def print_marks(engine: taa1.Engine, ring: bytes, index: int, record: bytes) -> None:
     """Part marks: which checks of a sealed record's text fail, leftmost first."""
     d, o, g = ring[:10], ring[10:26], ring[36:]
@@ -96,24 +101,24 @@ def play(engine: taa1.Engine, folder: str) -> None:
     for value in values:
         print("lineage", value.hex())
 
-    records, sealed = must("plain.book", engine.seal_book, ring, plain)
-    print(f"sealed {records} records, {len(sealed)} bytes")
+    book = must("plain.book", engine.seal_book, ring, plain)
+    print(f"sealed {size(book)}")
+    sealed = book.content
     for at in range(0, len(sealed), taa1.SEALED_RECORD_BYTES):
         print("sealed", sealed[at : at + taa1.SEALED_RECORD_BYTES].hex())
 
-    records, opened = must("the sealed book", engine.open_book, ring, sealed)
-    if opened != plain:
+    opened = must("the sealed book", engine.open_book, ring, sealed)
+    if opened.content != plain:
         sys.exit("sitting: the opened book is not the plain book")
-    print(f"opened {records} records, {len(opened)} bytes: the plain book")
+    print(f"opened {size(opened)}: the plain book")
 
-    records, again = must("the opened book", engine.seal_book, ring, opened)
-    if again != sealed:
+    again = must("the opened book", engine.seal_book, ring, opened.content)
+    if again.content != sealed:
         sys.exit("sitting: the book sealed again is another")
-    print(f"sealed again {records} records, {len(again)} bytes: the same bytes")
+    print(f"sealed again {size(again)}: the same bytes")
 
     try:
-        records, opened = engine.open_book(ring, candidate)
-        print(f"accepted {records} records, {len(opened)} bytes")
+        print(f"accepted {size(engine.open_book(ring, candidate))}")
     except taa1.Refused as refused:
         print(refused)
         if refused.number == taa1.Refusal.FLAG_SET:

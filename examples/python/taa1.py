@@ -80,19 +80,24 @@ NAMES: dict[int, str] = {
 
 
 class Refused(Exception):
-    """A refusal: its number and name, and the record's index if a book was refused."""
+    """A refusal: its number and name, and the record's index if a book was refused.
 
-    def __init__(self, number: int, index: int | None = None) -> None:
+    Where a book was to be sealed or opened, also the block cipher runs by then.
+    """
+
+    def __init__(self, number: int, index: int | None = None, runs: int | None = None) -> None:
         """Takes one of the numbers in NAMES."""
-        super().__init__(number, index)
+        super().__init__(number, index, runs)
         self.number = number
         self.name = NAMES[number]
         self.index = index
+        self.runs = runs
 
     def __str__(self) -> str:
         """The text that every host prints."""
         place = "" if self.index is None else f" at {self.index}"
-        return f"refused {self.number}{place} ({self.name})"
+        count = "" if self.runs is None else f", {self.runs} runs"
+        return f"refused {self.number}{place} ({self.name}){count}"
 
 
 def _expect(value: Any, *kinds: type) -> Any:
@@ -199,11 +204,27 @@ class Book(NamedTuple):
     content: bytes
 
 
+class CountedBook(NamedTuple):
+    """A book that was sealed or opened, its number of records, and its block cipher runs."""
+
+    records: int
+    content: bytes
+    runs: int
+
+
 class _Written(NamedTuple):
     """The number of a book's records, and the bytes written to the output."""
 
     records: int
     length: int
+
+
+class _Counted(NamedTuple):
+    """The same, and the block cipher runs."""
+
+    records: int
+    length: int
+    runs: int
 
 
 def _unsealed(key: bytes, failed_checks: int) -> Unsealed:
@@ -238,6 +259,7 @@ _RING_MADE = _answer(
     RingMade, ring=c_uint8 * RING_BYTES, response1=c_uint8 * 4, response2=c_uint8 * 4
 )
 _BOOK = _answer(_Written, index=c_size_t, written=c_size_t)
+_COUNTED = _answer(_Counted, index=c_size_t, written=c_size_t, runs=c_size_t)
 
 
 class _Number(ctypes.Structure):
@@ -290,8 +312,8 @@ _CALLS: dict[str, tuple[type[ctypes.Structure], tuple[Any, ...]]] = {
     "tb6": (_BYTES10, (bytes, c_uint64, c_uint64)),
     "tb7": (_BYTES16, (bytes,)),
     "ring": (_RING_MADE, (bytes,) * 7 + (c_uint64, *_MASKS)),
-    "seal_book": (_BOOK, (bytes, bytes, bytearray)),
-    "open_book": (_BOOK, (bytes, bytes, bytearray)),
+    "seal_book": (_COUNTED, (bytes, bytes, bytearray)),
+    "open_book": (_COUNTED, (bytes, bytes, bytearray)),
     "check_plain": (_BOOK, (bytes,)),
     "lineage": (_BOOK, (bytes, bytearray)),
 }
@@ -339,15 +361,26 @@ class Engine:
                 raise TypeError(f"{name}, argument {position}: {error}") from None
         answer = self._calls[name](*passed)
         if answer.refusal:
-            raise Refused(answer.refusal, getattr(answer, "index", None))
+            named = (getattr(answer, field, None) for field in ("index", "runs"))
+            raise Refused(answer.refusal, *named)
         fields = [getattr(answer, field) for field, _ in answer._fields_[1:]]
         return answer.result(*(bytes(f) if isinstance(f, ctypes.Array) else f for f in fields))
 
-    def _book(self, name: str, record: int, *values: Any) -> Book:
-        """What a call writes, with this many bytes for each record."""
+    def _write(self, name: str, record: int, *values: Any) -> tuple[Any, bytes]:
+        """The result of a call and what it writes, with this many bytes for each record."""
         out = bytearray(MOST_RECORDS * record)
         written = self._call(name, *values, out)
-        return Book(written.records, bytes(out[: written.length]))
+        return written, bytes(out[: written.length])
+
+    def _book(self, name: str, record: int, *values: Any) -> Book:
+        """What a call writes."""
+        written, content = self._write(name, record, *values)
+        return Book(written.records, content)
+
+    def _counted(self, name: str, record: int, *values: Any) -> CountedBook:
+        """What a call writes that counts its block cipher runs."""
+        written, content = self._write(name, record, *values)
+        return CountedBook(written.records, content, written.runs)
 
     def encrypt(self, key: Bytes, block: Bytes) -> bytes:
         """HURDLE-II: a block of 8 bytes, encrypted under a key of 16."""
@@ -500,13 +533,13 @@ class Engine:
         """
         return self._call("ring", *_expect(sitting, Sitting))
 
-    def seal_book(self, ring: Bytes, plain: Bytes) -> Book:
+    def seal_book(self, ring: Bytes, plain: Bytes) -> CountedBook:
         """A plain book, sealed under a ring of RING_BYTES."""
-        return self._book("seal_book", SEALED_RECORD_BYTES, ring, plain)
+        return self._counted("seal_book", SEALED_RECORD_BYTES, ring, plain)
 
-    def open_book(self, ring: Bytes, sealed: Bytes) -> Book:
+    def open_book(self, ring: Bytes, sealed: Bytes) -> CountedBook:
         """The plain book of a sealed one."""
-        return self._book("open_book", PLAIN_RECORD_BYTES, ring, sealed)
+        return self._counted("open_book", PLAIN_RECORD_BYTES, ring, sealed)
 
     def check_plain(self, plain: Bytes) -> int:
         """The number of records of a well-formed plain book."""

@@ -343,30 +343,34 @@ class Results(unittest.TestCase):
             bytes([kind]) + identity + b"\x07\x08" + text for kind, text in zip(Kind, texts)
         )
         plain = b"".join(BOOK)
-        self.assertEqual(ENGINE.seal_book(RING, plain), (6, wanted))
-        self.assertEqual(ENGINE.open_book(RING, wanted), (6, plain))
+        self.assertEqual(ENGINE.seal_book(RING, plain), (6, wanted, 13))
+        self.assertEqual(ENGINE.open_book(RING, wanted), (6, plain, 25))
         self.assertEqual(ENGINE.check_plain(plain), 6)
 
     def test_longest_and_empty_books(self) -> None:
-        for plain in (b"", BOOK[3] * MOST_RECORDS):
+        for records, sealing, opening in ((0, 0, 0), (MOST_RECORDS, 2049, 4097)):
+            plain = BOOK[3] * records
             sealed_book = ENGINE.seal_book(RING, plain)
-            records = len(plain) // PLAIN_RECORD_BYTES
-            self.assertEqual(sealed_book.records, records)
-            self.assertEqual(ENGINE.open_book(RING, sealed_book.content).content, plain)
+            self.assertEqual((sealed_book.records, sealed_book.runs), (records, sealing))
+            opened = ENGINE.open_book(RING, sealed_book.content)
+            self.assertEqual((opened.content, opened.runs), (plain, opening))
             self.assertEqual(ENGINE.check_plain(plain), records)
 
 
 class Refusals(unittest.TestCase):
     """What the calls refuse."""
 
-    def refuses(self, number: int, index: int | None, name: str, *values: Any) -> None:
-        """The call is refused so."""
+    def refuses(
+        self, number: int, index: int | None, name: str, *values: Any, runs: int = 0
+    ) -> None:
+        """The call is refused so, after these runs if it counts them."""
         with self.subTest(number=number, call=name):
             with self.assertRaises(Refused) as caught:
                 call(name, *values)
             refused = caught.exception
-            wanted = (number, index, taa1.NAMES[number])
-            self.assertEqual((refused.number, refused.index, refused.name), wanted)
+            counted = runs if name in ("seal_book", "open_book") else None
+            wanted = (number, index, taa1.NAMES[number], counted)
+            self.assertEqual((refused.number, refused.index, refused.name, refused.runs), wanted)
 
     def test_books(self) -> None:
         good = BOOK[3]
@@ -380,7 +384,10 @@ class Refusals(unittest.TestCase):
         for kind in (Kind.TA51, Kind.TA51_G):
             number_32 = record(kind, bytes(11) + b"\x20")
             self.refuses(Refusal.WRONG_NUMBER, 1, "seal_book", RING, good + number_32)
-        self.refuses(Refusal.FLAG_SET, 0, "open_book", RING, b"\x01" * SEALED_RECORD_BYTES)
+        sealed = ENGINE.seal_book(RING, good * 2).content
+        flagged, unknown = (sealed + bytes([kind] * SEALED_RECORD_BYTES) for kind in (1, 0))
+        self.refuses(Refusal.FLAG_SET, 2, "open_book", RING, flagged, runs=6)
+        self.refuses(Refusal.WRONG_KIND, 2, "open_book", RING, unknown, runs=4)
         self.refuses(Refusal.WRONG_LENGTH, 0, "seal_book", RING[1:], good)
 
     def test_classes(self) -> None:
@@ -435,8 +442,10 @@ class Refusals(unittest.TestCase):
     def test_short_output(self) -> None:
         """Only a call with too little room is refused so, and the module makes room."""
         with self.assertRaises(Refused) as caught:
-            ENGINE._book("seal_book", 0, RING, BOOK[0])
-        self.assertEqual(str(caught.exception), "refused 12 at 0 (output shorter than the result)")
+            ENGINE._counted("seal_book", 0, RING, BOOK[0])
+        self.assertEqual(
+            str(caught.exception), "refused 12 at 0 (output shorter than the result), 0 runs"
+        )
 
     def test_names(self) -> None:
         self.assertEqual(list(taa1.NAMES), list(Refusal))
@@ -444,6 +453,7 @@ class Refusals(unittest.TestCase):
     def test_text(self) -> None:
         self.assertEqual(str(Refused(Refusal.WRONG_WIDTH)), "refused 9 (width not 16 to 32)")
         self.assertEqual(str(Refused(Refusal.WRONG_KIND, 0)), "refused 3 at 0 (kind not 1 to 6)")
+        self.assertEqual(str(Refused(3, 7, 14)), "refused 3 at 7 (kind not 1 to 6), 14 runs")
 
     def test_copies(self) -> None:
         again: list[Callable[[Any], Any]] = [
@@ -451,7 +461,7 @@ class Refusals(unittest.TestCase):
             copy.deepcopy,
             lambda refused: pickle.loads(pickle.dumps(refused)),
         ]
-        for refused in (Refused(9), Refused(3, 7)):
+        for refused in (Refused(9), Refused(3, 7), Refused(3, 7, 14)):
             for made in (make(refused) for make in again):
                 self.assertIs(type(made), Refused)
                 self.assertEqual(vars(made), vars(refused))

@@ -10,7 +10,7 @@ mod refusal;
 use std::array::from_fn;
 
 pub use checks::FailedChecks;
-pub use refusal::{BookRefusal, Refusal};
+pub use refusal::{BookRefusal, CountedRefusal, Refusal};
 
 pub const RING_BYTES: usize = 52;
 pub const PLAIN_RECORD_BYTES: usize = 18;
@@ -118,6 +118,15 @@ pub struct UnsealedNumbered {
 pub struct Book {
     pub records: usize,
     pub bytes: Vec<u8>,
+}
+
+/// A book that was sealed or opened, the number of its records, and the block
+/// cipher runs that it took.
+#[derive(Clone, Debug, PartialEq, Eq)]
+pub struct CountedBook {
+    pub records: usize,
+    pub bytes: Vec<u8>,
+    pub runs: usize,
 }
 
 /// Calls the engine: `[name]` is a byte string and `{name}` an output.
@@ -391,17 +400,17 @@ pub fn ring(sitting: &Sitting) -> Result<RingMade, Refusal> {
 }
 
 /// A plain book, sealed under a ring of [`RING_BYTES`].
-pub fn seal_book(ring: &[u8], plain: &[u8]) -> Result<Book, BookRefusal> {
+pub fn seal_book(ring: &[u8], plain: &[u8]) -> Result<CountedBook, CountedRefusal> {
     let mut out = vec![0; plain.len() / PLAIN_RECORD_BYTES * SEALED_RECORD_BYTES];
     let answer = call!(seal_book([ring], [plain], { out }));
-    book(answer, out)
+    counted_book(answer, out)
 }
 
 /// The plain book of a sealed one.
-pub fn open_book(ring: &[u8], sealed: &[u8]) -> Result<Book, BookRefusal> {
+pub fn open_book(ring: &[u8], sealed: &[u8]) -> Result<CountedBook, CountedRefusal> {
     let mut out = vec![0; sealed.len() / SEALED_RECORD_BYTES * PLAIN_RECORD_BYTES];
     let answer = call!(open_book([ring], [sealed], { out }));
-    book(answer, out)
+    counted_book(answer, out)
 }
 
 /// The number of records of a well-formed plain book.
@@ -468,6 +477,24 @@ fn book(answer: raw::BookAnswer, mut bytes: Vec<u8>) -> Result<Book, BookRefusal
     Ok(Book { records, bytes })
 }
 
+fn counted_book(
+    answer: raw::CountedAnswer,
+    mut bytes: Vec<u8>,
+) -> Result<CountedBook, CountedRefusal> {
+    let (index, runs) = (answer.index, answer.runs);
+    Refusal::test(answer.refusal).map_err(|refusal| CountedRefusal {
+        refusal,
+        index,
+        runs,
+    })?;
+    bytes.truncate(answer.written);
+    Ok(CountedBook {
+        records: index,
+        bytes,
+        runs,
+    })
+}
+
 #[cfg(test)]
 mod tests {
     use super::*;
@@ -477,18 +504,23 @@ mod tests {
     fn short_outputs_are_refused() {
         let (ring, plain) = ([0; RING_BYTES], [4; PLAIN_RECORD_BYTES]);
         let mut out = vec![0; SEALED_RECORD_BYTES - 1];
-        let refused = Err(BookRefusal {
-            refusal: Refusal::OutputShort,
-            index: 0,
-        });
+        let (refusal, index) = (Refusal::OutputShort, 0);
         let answer = call!(seal_book([ring], [plain], { out }));
-        assert_eq!(book(answer, out), refused);
+        let refused = CountedRefusal {
+            refusal,
+            index,
+            runs: 0,
+        };
+        assert_eq!(counted_book(answer, out), Err(refused));
         let (key, challenge) = ([0; 16], [0; CHALLENGE_BYTES]);
         let mut out = vec![0; AUTHENTICATION_BYTES - 1];
         let (four, ten) = (0xf000, 0x0ffc);
         let answer = call!(ta12_class([key], [challenge], four, ten, { out }));
-        assert_eq!(book(answer, out), refused);
+        assert_eq!(book(answer, out), Err(BookRefusal { refusal, index }));
         let (sheet, mut out) = ([0; SHEET_RECORD_BYTES], vec![0; SHEET_VALUE_BYTES - 1]);
-        assert_eq!(book(call!(lineage([sheet], { out })), out), refused);
+        assert_eq!(
+            book(call!(lineage([sheet], { out })), out),
+            Err(BookRefusal { refusal, index })
+        );
     }
 }

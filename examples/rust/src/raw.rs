@@ -60,6 +60,15 @@ pub struct BookAnswer {
     pub written: usize,
 }
 
+#[repr(C)]
+#[derive(Clone, Copy, Debug, PartialEq, Eq)]
+pub struct CountedAnswer {
+    pub refusal: u32,
+    pub index: usize,
+    pub written: usize,
+    pub runs: usize,
+}
+
 /// Hands the declarations of all calls to a macro: `[name]` is a byte string and
 /// `{name}` an output, which are a pointer and a length each.
 #[macro_export]
@@ -102,8 +111,8 @@ macro_rules! calls {
                 [root], [rs], [rso], [rand1], [rand2], [c], [group_key],
                 sides: u64, response_mask: u16, key_mask: u16
             ) -> RingMade;
-            seal_book([ring], [plain], {out}) -> BookAnswer;
-            open_book([ring], [sealed], {out}) -> BookAnswer;
+            seal_book([ring], [plain], {out}) -> CountedAnswer;
+            open_book([ring], [sealed], {out}) -> CountedAnswer;
             check_plain([plain]) -> BookAnswer;
             lineage([sheet], {out}) -> BookAnswer;
         }

@@ -108,3 +108,25 @@ impl fmt::Display for BookRefusal {
 }
 
 impl Error for BookRefusal {}
+
+/// Why the engine refuses to seal or open a book, and the block cipher runs that
+/// it took by then.
+#[derive(Clone, Copy, Debug, PartialEq, Eq)]
+pub struct CountedRefusal {
+    pub refusal: Refusal,
+    pub index: usize,
+    pub runs: usize,
+}
+
+impl fmt::Display for CountedRefusal {
+    fn fmt(&self, f: &mut fmt::Formatter) -> fmt::Result {
+        let CountedRefusal {
+            refusal,
+            index,
+            runs,
+        } = *self;
+        write!(f, "{}, {runs} runs", BookRefusal { refusal, index })
+    }
+}
+
+impl Error for CountedRefusal {}

@@ -4,9 +4,9 @@ use std::array::from_fn;
 use std::thread;
 
 use taa1::{
-    Authentication, Book, BookRefusal, FailedChecks, KeyNumber, Kind, Refusal, RingMade, Sitting,
-    Unsealed, UnsealedNumbered, Version, CHALLENGE_BYTES, MOST_RECORDS, PLAIN_RECORD_BYTES,
-    RING_BYTES, SEALED_RECORD_BYTES, SHEET_RECORD_BYTES, SHEET_VALUE_BYTES,
+    Authentication, BookRefusal, CountedBook, CountedRefusal, FailedChecks, KeyNumber, Kind,
+    Refusal, RingMade, Sitting, Unsealed, UnsealedNumbered, Version, CHALLENGE_BYTES, MOST_RECORDS,
+    PLAIN_RECORD_BYTES, RING_BYTES, SEALED_RECORD_BYTES, SHEET_RECORD_BYTES, SHEET_VALUE_BYTES,
 };
 
 const ROOT: [u8; 16] = *b"a root or key...";
@@ -477,27 +477,28 @@ fn books_are_sealed_and_opened() {
         wanted.extend(text.unwrap());
     }
 
-    let book = |bytes: &[u8]| {
-        Ok(Book {
+    let book = |bytes: &[u8], runs| {
+        Ok(CountedBook {
             records: 6,
             bytes: bytes.into(),
+            runs,
         })
     };
-    assert_eq!(taa1::seal_book(&ring, &plain), book(&wanted));
-    assert_eq!(taa1::open_book(&ring, &wanted), book(&plain));
+    assert_eq!(taa1::seal_book(&ring, &plain), book(&wanted, 13));
+    assert_eq!(taa1::open_book(&ring, &wanted), book(&plain, 25));
     assert_eq!(taa1::check_plain(&plain), Ok(6));
 }
 
 #[test]
 fn longest_and_empty_books_are_sealed_and_opened() {
     let ring = upward::<RING_BYTES>();
-    for records in [0, MOST_RECORDS] {
+    for (records, sealing, opening) in [(0, 0, 0), (MOST_RECORDS, 2049, 4097)] {
         let plain = record(Kind::Ta91, upward()).repeat(records);
         assert_eq!(taa1::check_plain(&plain), Ok(records));
         let sealed = taa1::seal_book(&ring, &plain).unwrap();
-        assert_eq!(sealed.records, records);
+        assert_eq!((sealed.records, sealed.runs), (records, sealing));
         let opened = taa1::open_book(&ring, &sealed.bytes).unwrap();
-        assert_eq!(opened.bytes, plain);
+        assert_eq!((opened.bytes, opened.runs), (plain, opening));
     }
 }
 
@@ -523,29 +524,48 @@ fn threads_do_not_meet() {
 #[test]
 fn books_are_refused() {
     let refused = |refusal, index| Some(BookRefusal { refusal, index });
+    let after = |refusal, index, runs| {
+        Some(CountedRefusal {
+            refusal,
+            index,
+            runs,
+        })
+    };
     let check = |plain: &[u8]| taa1::check_plain(plain).err();
     let seal = |plain: &[u8]| taa1::seal_book(&upward::<RING_BYTES>(), plain).err();
     let open = |sealed: &[u8]| taa1::open_book(&upward::<RING_BYTES>(), sealed).err();
     let good = record(Kind::Ta91, upward());
 
-    let long = refused(Refusal::BookTooLong, 0);
-    assert_eq!(check(&[0; PLAIN_RECORD_BYTES * MOST_RECORDS + 1]), long);
-    assert_eq!(open(&[0; SEALED_RECORD_BYTES * MOST_RECORDS + 1]), long);
-    assert_eq!(seal(&good[1..]), refused(Refusal::BookNotWhole, 0));
+    let long = Refusal::BookTooLong;
+    let bytes = [0; SEALED_RECORD_BYTES * MOST_RECORDS + 1];
+    assert_eq!(
+        check(&bytes[..PLAIN_RECORD_BYTES * MOST_RECORDS + 1]),
+        refused(long, 0)
+    );
+    assert_eq!(open(&bytes), after(long, 0, 0));
+    assert_eq!(seal(&good[1..]), after(Refusal::BookNotWhole, 0, 0));
     let kind = [good, [0; PLAIN_RECORD_BYTES]].concat();
-    assert_eq!(seal(&kind), refused(Refusal::WrongKind, 1));
+    assert_eq!(seal(&kind), after(Refusal::WrongKind, 1, 0));
     let end = [good, good, record(Kind::Ta31, upward())].concat();
     assert_eq!(check(&end), refused(Refusal::NotZero, 2));
     for kind in [Kind::Ta51, Kind::Ta51G] {
         let number = [good, record(kind, body(KEY, [0, 32]))].concat();
-        assert_eq!(seal(&number), refused(Refusal::WrongNumber, 1));
+        assert_eq!(seal(&number), after(Refusal::WrongNumber, 1, 0));
     }
-    assert_eq!(
-        open(&[1; SEALED_RECORD_BYTES]),
-        refused(Refusal::FlagSet, 0)
-    );
     let short = taa1::seal_book(&upward::<{ RING_BYTES - 1 }>(), &good).err();
-    assert_eq!(short, refused(Refusal::WrongLength, 0));
+    assert_eq!(short, after(Refusal::WrongLength, 0, 0));
+
+    // A refused opening counts the records that were unsealed by then.
+    let sealed = taa1::seal_book(&upward::<RING_BYTES>(), &good.repeat(2));
+    let third = |kind: u8| {
+        [
+            sealed.clone().unwrap().bytes,
+            vec![kind; SEALED_RECORD_BYTES],
+        ]
+        .concat()
+    };
+    assert_eq!(open(&third(1)), after(Refusal::FlagSet, 2, 6));
+    assert_eq!(open(&third(0)), after(Refusal::WrongKind, 2, 4));
 }
 
 #[test]
@@ -580,4 +600,10 @@ fn refusals_have_their_texts() {
     assert_eq!(refusal.to_string(), "refused 3 (kind not 1 to 6)");
     let refused = BookRefusal { refusal, index: 7 };
     assert_eq!(refused.to_string(), "refused 3 at 7 (kind not 1 to 6)");
+    let counted = CountedRefusal {
+        refusal,
+        index: 7,
+        runs: 14,
+    };
+    assert_eq!(counted.to_string(), format!("{refused}, 14 runs"));
 }

@@ -11,8 +11,8 @@ use std::process::ExitCode;
 use std::{env, fs};
 
 use taa1::{
-    FailedChecks, Kind, Refusal, RingMade, Sitting, Version, RING_BYTES, SEALED_RECORD_BYTES,
-    SITTING_BYTES, TA32_CHECKS, TA52_CHECKS, TA82_CHECKS, TA92_CHECKS,
+    CountedBook, FailedChecks, Kind, Refusal, RingMade, Sitting, Version, RING_BYTES,
+    SEALED_RECORD_BYTES, SITTING_BYTES, TA32_CHECKS, TA52_CHECKS, TA82_CHECKS, TA92_CHECKS,
 };
 
 fn read(folder: &OsStr, name: &str) -> Result<Vec<u8>, String> {
@@ -86,6 +86,12 @@ fn marks_line(index: usize, (failed, count): (FailedChecks, usize)) -> String {
     format!("record {index}, of {count} checks failed:{places}")
 }
 
+/// A book's records and bytes, and the cipher runs that it took.
+fn size(book: &CountedBook) -> String {
+    let (records, length, runs) = (book.records, book.bytes.len(), book.runs);
+    format!("{records} records, {length} bytes, {runs} runs")
+}
+
 /// The lines of a sitting, as far as it goes, into `lines`.
 fn play(folder: &OsStr, lines: &mut Vec<String>) -> Result<(), String> {
     let sitting = read(folder, "sitting.bin")?;
@@ -107,8 +113,7 @@ fn play(folder: &OsStr, lines: &mut Vec<String>) -> Result<(), String> {
     }
 
     let sealed = taa1::seal_book(&made.ring, &plain).map_err(|e| format!("plain.book: {e}"))?;
-    let (records, length) = (sealed.records, sealed.bytes.len());
-    lines.push(format!("sealed {records} records, {length} bytes"));
+    lines.push(format!("sealed {}", size(&sealed)));
     for record in sealed.bytes.chunks(SEALED_RECORD_BYTES) {
         lines.push(format!("sealed {}", hex(record)));
     }
@@ -118,27 +123,17 @@ fn play(folder: &OsStr, lines: &mut Vec<String>) -> Result<(), String> {
     if opened.bytes != plain {
         return Err("the opened book is not the plain book".into());
     }
-    let (records, length) = (opened.records, opened.bytes.len());
-    lines.push(format!(
-        "opened {records} records, {length} bytes: the plain book"
-    ));
+    lines.push(format!("opened {}: the plain book", size(&opened)));
 
     let again =
         taa1::seal_book(&made.ring, &opened.bytes).map_err(|e| format!("the opened book: {e}"))?;
     if again != sealed {
         return Err("the book sealed again is another".into());
     }
-    let (records, length) = (again.records, again.bytes.len());
-    lines.push(format!(
-        "sealed again {records} records, {length} bytes: the same bytes"
-    ));
+    lines.push(format!("sealed again {}: the same bytes", size(&again)));
 
     match taa1::open_book(&made.ring, &candidate) {
-        Ok(book) => lines.push(format!(
-            "accepted {} records, {} bytes",
-            book.records,
-            book.bytes.len()
-        )),
+        Ok(book) => lines.push(format!("accepted {}", size(&book))),
         Err(refused) => {
             lines.push(refused.to_string());
             if refused.refusal == Refusal::FlagSet {
