@@ -96,7 +96,7 @@ pub fn run(tally: &mut Tally, random: &mut Random) {
         }
     });
     tally.group("books (numbers of records and outputs)", |group| {
-        for records in [0, 1, 2, 17, MOST - 1, MOST, MOST + 1] {
+        for records in [0, 1, 2, 3, 4, 5, 17, MOST - 1, MOST, MOST + 1] {
             let book = Book::random(random, records);
             for (call, bytes) in book.forms() {
                 for room in rooms(call.room(bytes)) {
@@ -115,8 +115,11 @@ pub fn run(tally: &mut Tally, random: &mut Random) {
         let book = Book::of_each_kind(random);
         for length in (0..RING).chain(RING + 1..=2 * RING) {
             for (call, records) in book.forms() {
-                call.want_refused(group, &bytes[..length], records, 11);
-                call.want_refused(group, &bytes[..length], &[], 11);
+                for records in [records, &[]] {
+                    let room = call.room(records);
+                    call.want_refused(group, &bytes[..length], records, room, (11, 0, 0));
+                    call.want_refused(group, &bytes[..length], records, 0, (11, 0, 0));
+                }
             }
         }
     });
@@ -126,6 +129,11 @@ pub fn run(tally: &mut Tally, random: &mut Random) {
     tally.group("books (faults in a long book)", |group| {
         for _ in 0..2 {
             long_faults(group, random);
+        }
+    });
+    tally.group("books (runs of refused ones, at every index)", |group| {
+        for records in [1, 2, 3, 4, 5, 40, MOST] {
+            runs(group, &Book::random(random, records));
         }
     });
     record_groups(tally, random);
@@ -329,6 +337,39 @@ fn long_faults(group: &mut Group, random: &mut Random) {
             bytes[SEALED * second] = 9;
             OPEN.there_and_back(group, &book.ring, &bytes);
         }
+    }
+}
+
+/// Faults in every record from an index on. The record whose flag is set counts, one
+/// of a wrong kind does not, nor do those behind it; what is not sealed counts nothing.
+fn runs(group: &mut Group, book: &Book) {
+    let Book {
+        ring,
+        plain,
+        sealed,
+    } = book;
+    let wrong = plain.chunks_exact(PLAIN).flat_map(|record| {
+        let record = from_fn(|i| record[i]);
+        let (key, bytes) = expanded(ring, &record);
+        resealed(&record, &key, flipped(bytes, 8 * 15 - 1))
+    });
+    let wrong: Vec<u8> = wrong.collect();
+    let (room, plain_room) = (SEAL.room(plain), OPEN.room(sealed));
+    for index in 0..plain.len() / PLAIN {
+        let mut bytes = plain.clone();
+        bytes[PLAIN * index..].fill(2);
+        SEAL.want_refused(group, ring, &bytes, room, (4, index, 0));
+        bytes[PLAIN * index + 16..][..2].copy_from_slice(&[0, 32]);
+        SEAL.want_refused(group, ring, &bytes, room, (5, index, 0));
+        bytes[PLAIN * index] = 0;
+        SEAL.want_refused(group, ring, &bytes, room, (3, index, 0));
+
+        let mut bytes = [&sealed[..SEALED * index], &wrong[SEALED * index..]].concat();
+        let runs = 2 * index;
+        OPEN.want_refused(group, ring, &bytes, plain_room, (6, index, runs + 2));
+        bytes[SEALED * index] = 7;
+        OPEN.want_refused(group, ring, &bytes, plain_room, (3, index, runs));
+        OPEN.want_refused(group, ring, &bytes, plain_room - 1, (12, 0, 0));
     }
 }
 

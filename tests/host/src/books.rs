@@ -1,7 +1,8 @@
 //! Books of sealed keys and their listing, from document 01 and, for the group key
-//! and its kinds, 02, 4.
+//! and its kinds and for the count of cipher runs, 02, 4 and 8.
 
-use crate::taa1::{self, RING};
+use crate::hurdle;
+use crate::taa1::{self, exact, k_strings, KStrings, RING};
 use std::fmt::Write;
 
 /// Most records in a book.
@@ -18,6 +19,15 @@ pub struct BookAnswer {
     pub refusal: u32,
     pub index: usize,
     pub written: usize,
+}
+
+/// The same of sealing and opening, with the runs of the cipher.
+#[derive(Debug, Clone, Copy, PartialEq, Eq)]
+pub struct CountedAnswer {
+    pub refusal: u32,
+    pub index: usize,
+    pub written: usize,
+    pub runs: usize,
 }
 
 /// A refusal number and a record's index.
@@ -40,6 +50,11 @@ impl<'a> Ring<'a> {
         let (o, rest) = rest.split_at(16);
         let (c, g) = rest.split_at(10);
         Ok(Ring { d, o, c, g })
+    }
+
+    /// What hides identities, by one run of the cipher.
+    fn strings(&self) -> KStrings {
+        k_strings(&exact(self.c).expect("ten bytes"))
     }
 
     /// The key that seals a kind.
@@ -100,7 +115,7 @@ impl Record {
     }
 
     /// The sealed record of a record without fault.
-    fn seal(&self, ring: &Ring) -> Vec<u8> {
+    fn seal(&self, ring: &Ring, strings: &KStrings) -> Vec<u8> {
         let (key, sealing_key) = (self.key(), ring.sealing_key(self.kind));
         let text = match self.kind {
             1 => taa1::ta31(key, self.version, sealing_key),
@@ -108,14 +123,14 @@ impl Record {
             3 | 6 => taa1::ta81(key, self.version, sealing_key, self.number()),
             _ => taa1::ta91(key, self.version, sealing_key),
         };
-        let identity = taa1::ta61(ring.c, self.identity).identity;
-        joined(self.kind, identity.into(), self.version, &text.bytes)
+        let identity = strings.hide(self.identity).into();
+        joined(self.kind, identity, self.version, &text.bytes)
     }
 
-    /// Opens a sealed record; refusals 3 and 6.
-    fn open(sealed: &[u8], ring: &Ring) -> Result<Record, u32> {
+    /// Unseals a sealed record; refusals 3 and 6. The identity stays hidden.
+    fn unseal(sealed: &[u8], ring: &Ring) -> Result<Record, u32> {
         let kind = sealed[0];
-        let (hidden, version) = head(sealed);
+        let (identity, version) = head(sealed);
         let (text, sealing_key) = (&sealed[6..], ring.sealing_key(kind));
         let (key, number, failed_checks) = match kind {
             1 => {
@@ -147,7 +162,6 @@ impl Record {
         if failed_checks != 0 {
             return Err(6);
         }
-        let identity = taa1::ta61_inverse(ring.c, hidden).identity.into();
         let mut body = [0; 12];
         body.copy_from_slice(&[key, number].concat());
         Ok(Record {
@@ -198,25 +212,6 @@ pub(crate) fn room(records: usize, size: usize, out: &[u8]) -> Result<usize, Ref
     }
 }
 
-/// Turns each record over and puts the new book into `out`, or refuses
-/// and leaves `out` alone. Refusal 12 is given before any record is read.
-fn turn(
-    book: &[u8],
-    from: usize,
-    to: usize,
-    out: &mut [u8],
-    record: impl Fn(&[u8]) -> Result<Vec<u8>, u32>,
-) -> Result<(usize, usize), Refusal> {
-    let records = count(book.len(), from)?;
-    let written = room(records, to, out)?;
-    let mut made = Vec::new();
-    for (index, bytes) in book.chunks_exact(from).enumerate() {
-        made.extend(record(bytes).map_err(|refusal| (refusal, index))?);
-    }
-    out[..written].copy_from_slice(&made);
-    Ok((records, written))
-}
-
 pub(crate) fn answer(outcome: Result<(usize, usize), Refusal>) -> BookAnswer {
     match outcome {
         Ok((index, written)) => BookAnswer {
@@ -232,6 +227,22 @@ pub(crate) fn answer(outcome: Result<(usize, usize), Refusal>) -> BookAnswer {
     }
 }
 
+/// An answer with the runs of the cipher that the call took.
+fn counted(call: impl FnOnce() -> Result<(usize, usize), Refusal>) -> CountedAnswer {
+    let before = hurdle::runs();
+    let BookAnswer {
+        refusal,
+        index,
+        written,
+    } = answer(call());
+    CountedAnswer {
+        refusal,
+        index,
+        written,
+        runs: hurdle::runs() - before,
+    }
+}
+
 /// The records of a well-formed plain book.
 fn records(plain: &[u8]) -> Result<Vec<Record>, Refusal> {
     count(plain.len(), PLAIN)?;
@@ -244,23 +255,45 @@ fn records(plain: &[u8]) -> Result<Vec<Record>, Refusal> {
 }
 
 /// Seals a plain book.
-pub fn seal_book(ring: &[u8], plain: &[u8], out: &mut [u8]) -> BookAnswer {
-    answer(Ring::of(ring).and_then(|ring| {
-        turn(plain, PLAIN, SEALED, out, |bytes| {
-            let record = Record::read(bytes);
-            record.check()?;
-            Ok(record.seal(&ring))
-        })
-    }))
+pub fn seal_book(ring: &[u8], plain: &[u8], out: &mut [u8]) -> CountedAnswer {
+    counted(|| {
+        let ring = Ring::of(ring)?;
+        let count = count(plain.len(), PLAIN)?;
+        let written = room(count, SEALED, out)?;
+        let records = records(plain)?;
+        if count > 0 {
+            let strings = ring.strings();
+            for (record, place) in records.iter().zip(out.chunks_exact_mut(SEALED)) {
+                place.copy_from_slice(&record.seal(&ring, &strings));
+            }
+        }
+        Ok((count, written))
+    })
 }
 
-/// Opens a sealed book.
-pub fn open_book(ring: &[u8], sealed: &[u8], out: &mut [u8]) -> BookAnswer {
-    answer(Ring::of(ring).and_then(|ring| {
-        turn(sealed, SEALED, PLAIN, out, |bytes| {
-            Ok(Record::open(bytes, &ring)?.write())
-        })
-    }))
+/// Opens a sealed book: a first pass looks for what is wrong, a second writes.
+pub fn open_book(ring: &[u8], sealed: &[u8], out: &mut [u8]) -> CountedAnswer {
+    counted(|| {
+        let ring = Ring::of(ring)?;
+        let count = count(sealed.len(), SEALED)?;
+        let written = room(count, PLAIN, out)?;
+        let unsealed = |index: usize| {
+            let record = Record::unseal(&sealed[SEALED * index..][..SEALED], &ring);
+            record.map_err(|refusal| (refusal, index))
+        };
+        for index in 0..count {
+            unsealed(index)?;
+        }
+        if count > 0 {
+            let strings = ring.strings();
+            for (index, place) in out[..written].chunks_exact_mut(PLAIN).enumerate() {
+                let mut record = unsealed(index)?;
+                record.identity = strings.show(record.identity).into();
+                place.copy_from_slice(&record.write());
+            }
+        }
+        Ok((count, written))
+    })
 }
 
 /// The refusals 1 to 5 of a plain book.
@@ -312,6 +345,27 @@ mod tests {
         }
     }
 
+    fn accepted(index: usize, written: usize, runs: usize) -> CountedAnswer {
+        CountedAnswer {
+            refusal: 0,
+            index,
+            written,
+            runs,
+        }
+    }
+
+    /// The refusal that stands in an answer, whose runs are those of the rules.
+    fn refusal(answer: CountedAnswer, sealing: bool) -> BookAnswer {
+        let CountedAnswer { refusal, index, .. } = answer;
+        let runs = match refusal {
+            3 if !sealing => 2 * index,
+            6 => 2 * (index + 1),
+            _ => 0,
+        };
+        assert_eq!((answer.written, answer.runs), (0, runs));
+        refused(refusal, index)
+    }
+
     #[test]
     fn sealed_books_open() {
         let mut random = Random::new(7);
@@ -325,20 +379,13 @@ mod tests {
                     written: 0
                 }
             );
+            let strings = usize::from(records > 0);
             let mut sealed = vec![0x55; SEALED * records + 3];
-            let answer = BookAnswer {
-                refusal: 0,
-                index: records,
-                written: SEALED * records,
-            };
+            let answer = accepted(records, SEALED * records, strings + 2 * records);
             assert_eq!(seal_book(&ring, &plain, &mut sealed), answer);
             assert_eq!(sealed[SEALED * records..], [0x55; 3]);
             let mut opened = vec![0x55; PLAIN * records + 3];
-            let answer = BookAnswer {
-                refusal: 0,
-                index: records,
-                written: PLAIN * records,
-            };
+            let answer = accepted(records, PLAIN * records, strings + 4 * records);
             assert_eq!(
                 open_book(&ring, &sealed[..SEALED * records], &mut opened),
                 answer
@@ -379,7 +426,7 @@ mod tests {
         let mut seal = |ring: &[u8], plain: &[u8], room: usize| {
             let answer = seal_book(ring, plain, &mut out[..room]);
             assert_eq!(out, [0x77; 6 * SEALED]);
-            answer
+            refusal(answer, true)
         };
         let long = vec![9; PLAIN * MOST + 1];
         assert_eq!(seal(&ring[1..], &long, 0), refused(11, 0));
@@ -408,7 +455,7 @@ mod tests {
         let mut open = |ring: &[u8], sealed: &[u8], room: usize| {
             let answer = open_book(ring, sealed, &mut out[..room]);
             assert_eq!(out, [0x77; 6 * PLAIN]);
-            answer
+            refusal(answer, false)
         };
         let long = vec![9; SEALED * MOST + 1];
         assert_eq!(open(&[0; 36], &long, 0), refused(11, 0));
@@ -429,23 +476,16 @@ mod tests {
         let mut random = Random::new(9);
         let (ring, plain) = (random.vec(RING), random.plain_book(MOST + 1));
         let mut sealed = vec![0; SEALED * (MOST + 1)];
-        assert_eq!(seal_book(&ring, &plain, &mut sealed), refused(1, 0));
+        let answer = seal_book(&ring, &plain, &mut sealed);
+        assert_eq!(refusal(answer, true), refused(1, 0));
         assert_eq!(check_plain(&plain), refused(1, 0));
         assert_eq!(listing(&plain), b"refused 1 at 0\n");
         let plain = &plain[..PLAIN * MOST];
         let sealed = &mut sealed[..SEALED * MOST];
-        let answer = BookAnswer {
-            refusal: 0,
-            index: MOST,
-            written: SEALED * MOST,
-        };
+        let answer = accepted(MOST, SEALED * MOST, 1 + 2 * MOST);
         assert_eq!(seal_book(&ring, plain, sealed), answer);
         let mut opened = vec![0; PLAIN * MOST];
-        let answer = BookAnswer {
-            refusal: 0,
-            index: MOST,
-            written: PLAIN * MOST,
-        };
+        let answer = accepted(MOST, PLAIN * MOST, 1 + 4 * MOST);
         assert_eq!(open_book(&ring, sealed, &mut opened), answer);
         assert_eq!(opened, plain);
         let last = "\nentries 1024\n".as_bytes();

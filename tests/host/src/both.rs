@@ -2,7 +2,7 @@
 //! implementation.
 
 use crate::books;
-use crate::engine::{self, null_out, BookAnswer};
+use crate::engine::{self, null_out, CountedAnswer};
 use crate::tally::Group;
 pub use interface::{
     AUTHENTICATION_BYTES as AUTHENTICATION, CHALLENGE_BYTES as CHALLENGE, MOST_RECORDS as MOST,
@@ -16,11 +16,13 @@ const MARGIN: usize = 64;
 /// Sealing or opening.
 pub struct Call {
     name: &'static str,
-    engine: fn(&[u8], &[u8], &mut [u8]) -> BookAnswer,
-    other: fn(&[u8], &[u8], &mut [u8]) -> books::BookAnswer,
+    engine: fn(&[u8], &[u8], &mut [u8]) -> CountedAnswer,
+    other: fn(&[u8], &[u8], &mut [u8]) -> books::CountedAnswer,
     /// Bytes of a record handed in, and of a record written.
     pub from: usize,
     pub to: usize,
+    /// How often each record goes through the cipher.
+    passes: usize,
     back: &'static Call,
 }
 
@@ -30,6 +32,7 @@ pub static SEAL: Call = Call {
     other: books::seal_book,
     from: PLAIN,
     to: SEALED,
+    passes: 1,
     back: &OPEN,
 };
 
@@ -39,6 +42,7 @@ pub static OPEN: Call = Call {
     other: books::open_book,
     from: SEALED,
     to: PLAIN,
+    passes: 2,
     back: &SEAL,
 };
 
@@ -61,29 +65,37 @@ impl Call {
         }
     }
 
-    /// Wants the book accepted and these bytes written, whatever the independent
-    /// implementation does.
+    /// Wants the book accepted, these bytes written and the runs of the rules,
+    /// whatever the independent implementation does.
     pub fn want(&self, group: &mut Group, ring: &[u8], book: &[u8], wanted: &[u8]) {
         self.same(group, ring, book, wanted.len(), |out| {
             out.copy_from_slice(wanted);
-            BookAnswer {
+            let index = book.len() / self.from;
+            CountedAnswer {
                 refusal: 0,
-                index: book.len() / self.from,
+                index,
                 written: wanted.len(),
+                runs: usize::from(index > 0) + 2 * self.passes * index,
             }
         });
     }
 
-    /// Wants the book refused whatever the output, the index 0 and the output as it was.
-    pub fn want_refused(&self, group: &mut Group, ring: &[u8], book: &[u8], refusal: u32) {
-        for room in [0, self.room(book)] {
-            if group.turn() {
-                self.same(group, ring, book, room, |_| BookAnswer {
-                    refusal,
-                    index: 0,
-                    written: 0,
-                });
-            }
+    /// Wants the book refused and the output as it was.
+    pub fn want_refused(
+        &self,
+        group: &mut Group,
+        ring: &[u8],
+        book: &[u8],
+        room: usize,
+        (refusal, index, runs): (u32, usize, usize),
+    ) {
+        if group.turn() {
+            self.same(group, ring, book, room, |_| CountedAnswer {
+                refusal,
+                index,
+                written: 0,
+                runs,
+            });
         }
     }
 
@@ -119,7 +131,7 @@ impl Call {
         ring: &[u8],
         book: &[u8],
         room: usize,
-        wanted: impl FnOnce(&mut [u8]) -> BookAnswer,
+        wanted: impl FnOnce(&mut [u8]) -> CountedAnswer,
     ) {
         same_output(
             group,
@@ -133,13 +145,13 @@ impl Call {
 }
 
 /// Compares the answer, and the whole output with the bytes around it.
-pub fn same_output(
+pub fn same_output<A: PartialEq + Debug>(
     group: &mut Group,
     call: &str,
     inputs: &[(&str, &dyn Debug)],
     room: usize,
-    got: impl FnOnce(&mut [u8]) -> BookAnswer,
-    wanted: impl FnOnce(&mut [u8]) -> BookAnswer,
+    got: impl FnOnce(&mut [u8]) -> A,
+    wanted: impl FnOnce(&mut [u8]) -> A,
 ) {
     let (answer, got) = lent(room, got);
     let (wanted_answer, wanted) = lent(room, wanted);
@@ -161,7 +173,7 @@ struct Difference {
 }
 
 /// A call with an output in the middle of bytes that stay as they are.
-fn lent(room: usize, call: impl FnOnce(&mut [u8]) -> BookAnswer) -> (BookAnswer, Vec<u8>) {
+fn lent<A>(room: usize, call: impl FnOnce(&mut [u8]) -> A) -> (A, Vec<u8>) {
     let mut bytes: Vec<u8> = (1..=MARGIN + room + MARGIN)
         .map(|i| (i * 77) as u8)
         .collect();

@@ -2,7 +2,8 @@
 
 use crate::{books, taa1};
 pub use interface::raw::{
-    Authentication, BookAnswer, Bytes, Identity, RingMade, Unsealed, UnsealedNumbered,
+    Authentication, BookAnswer, Bytes, CountedAnswer, Identity, RingMade, Unsealed,
+    UnsealedNumbered,
 };
 pub use interface::{KeyNumber, Version};
 
@@ -28,6 +29,7 @@ answers! {
     taa1::UnsealedNumbered -> UnsealedNumbered { key, number, failed_checks }
     taa1::RingMade -> RingMade { ring, response1, response2 }
     books::BookAnswer -> BookAnswer { index, written }
+    books::CountedAnswer -> CountedAnswer { index, written, runs }
 }
 
 /// The answer that has these bytes.

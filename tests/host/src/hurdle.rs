@@ -4,6 +4,7 @@
 //! block, or byte 15 of a key, stands at index 0.
 
 use std::array::from_fn;
+use std::cell::Cell;
 
 /// Table 1: the byte permutation S.
 #[rustfmt::skip]
@@ -116,8 +117,18 @@ fn f(x: u32, key: &[u8; 12]) -> u32 {
     y
 }
 
+thread_local! {
+    static RUNS: Cell<usize> = const { Cell::new(0) };
+}
+
+/// How many blocks this thread has encrypted and decrypted so far.
+pub fn runs() -> usize {
+    RUNS.get()
+}
+
 /// Clause 6.2: sixteen rounds, then the swap of the halves.
 fn rounds(keys: impl Iterator<Item = [u8; 12]>, block: &[u8; 8]) -> [u8; 8] {
+    RUNS.set(RUNS.get() + 1);
     let block = u64::from_be_bytes(*block);
     let (mut l, mut r) = ((block >> 32) as u32, block as u32);
     for key in keys {

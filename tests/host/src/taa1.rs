@@ -554,22 +554,38 @@ fn solve(sums: [u8; 3]) -> [u8; 3] {
 }
 
 /// K1, K2 and K3 (5.12.1 to 5.12.3).
-fn k_strings(a: &[u8; 10]) -> [[u8; 3]; 3] {
+pub(crate) struct KStrings([[u8; 3]; 3]);
+
+pub(crate) fn k_strings(a: &[u8; 10]) -> KStrings {
     let data = from_fn(|i| a[i] ^ a[i + 2]);
     let b = hurdle::encrypt(&exp4(a), &data);
-    [[7, 4, 1], [6, 3, 0], [5, 2, 7]].map(|numbers| pick(&b, 7, numbers))
+    KStrings([[7, 4, 1], [6, 3, 0], [5, 2, 7]].map(|numbers| pick(&b, 7, numbers)))
 }
 
 fn three_bytes(identity: u64) -> [u8; 3] {
     pick(&identity.to_be_bytes(), 7, [2, 1, 0])
 }
 
-fn identity_of(b: [u8; 3]) -> Result<Identity, u32> {
-    let identity = u32::from_be_bytes([0, b[0], b[1], b[2]]);
-    Ok(Identity {
-        refusal: 0,
-        identity,
-    })
+fn identity_of([b2, b1, b0]: [u8; 3]) -> u32 {
+    u32::from_be_bytes([0, b2, b1, b0])
+}
+
+impl KStrings {
+    /// TA61 of an identity of 24 bits.
+    pub(crate) fn hide(&self, identity: u64) -> u32 {
+        let KStrings([k1, k2, k3]) = self;
+        let step1 = p(xor(&three_bytes(identity), k1));
+        let step2 = p(xor(&step1, k2));
+        identity_of(xor(&step2, k3))
+    }
+
+    /// TA61 backwards.
+    pub(crate) fn show(&self, hidden: u64) -> u32 {
+        let KStrings([k1, k2, k3]) = self;
+        let step2 = p_inverse(xor(&three_bytes(hidden), k3));
+        let step1 = p_inverse(xor(&step2, k2));
+        identity_of(xor(&step1, k1))
+    }
 }
 
 /// TA61 (5.12).
@@ -577,10 +593,10 @@ pub fn ta61(common_key: &[u8], identity: u64) -> Identity {
     answer(|| {
         let common_key = exact(common_key)?;
         check_field(identity, 24)?;
-        let [k1, k2, k3] = k_strings(&common_key);
-        let step1 = p(xor(&three_bytes(identity), &k1));
-        let step2 = p(xor(&step1, &k2));
-        identity_of(xor(&step2, &k3))
+        Ok(Identity {
+            refusal: 0,
+            identity: k_strings(&common_key).hide(identity),
+        })
     })
 }
 
@@ -589,10 +605,10 @@ pub fn ta61_inverse(common_key: &[u8], encrypted_identity: u64) -> Identity {
     answer(|| {
         let common_key = exact(common_key)?;
         check_field(encrypted_identity, 24)?;
-        let [k1, k2, k3] = k_strings(&common_key);
-        let step2 = p_inverse(xor(&three_bytes(encrypted_identity), &k3));
-        let step1 = p_inverse(xor(&step2, &k2));
-        identity_of(xor(&step1, &k1))
+        Ok(Identity {
+            refusal: 0,
+            identity: k_strings(&common_key).show(encrypted_identity),
+        })
     })
 }
 

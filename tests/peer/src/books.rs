@@ -2,7 +2,7 @@
 //! TA61, so the identities are left out.
 
 use host::both::{PLAIN, RING, SEALED};
-use host::engine::{self, BookAnswer};
+use host::engine::{self, CountedAnswer};
 use host::random::Random;
 use host::tally::{Group, Tally};
 use host::{books, taa1};
@@ -13,7 +13,7 @@ use std::fmt::Debug;
 const TIMES: usize = 5_000;
 const TEXT: usize = 15;
 
-type Call = fn(&[u8], &[u8], &mut [u8]) -> BookAnswer;
+type Call = fn(&[u8], &[u8], &mut [u8]) -> CountedAnswer;
 
 /// Sealing and opening.
 const CALLS: [(&str, Call, Call); 2] = [
