@@ -17,6 +17,7 @@ use standard::Version;
 ghost use mathlib.Core.Path.{_≡_};
 ghost use Rattle.standard.specs.Books.{sealBook, openBook, checkPlain};
 ghost use Rattle.standard.specs.Classes.{ta12ClassCall};
+ghost use Rattle.standard.specs.Columns.{toColumns, fromColumns, columnsCall};
 ghost use Rattle.standard.specs.Derivation.{ta11Call, ta21Call, ta41Call, ta12Call, ta22Call, ta71Call, ta101Call, ringCall};
 ghost use Rattle.standard.specs.Hurdle.{encryptCall, decryptCall};
 ghost use Rattle.standard.specs.Identity.{ta61Call, ta61⁻¹Call};
@@ -24,6 +25,7 @@ ghost use Rattle.standard.specs.Lineage.{lineageCall};
 ghost use Rattle.standard.specs.Mixing.{tb1Call, tb2Call, tb3Call, tb4Call, tb5Call, tb6Call, tb7Call};
 ghost use Rattle.standard.specs.Register.{registerCall};
 ghost use Rattle.standard.specs.Seals.{ta31Call, ta32Call, ta51Call, ta52Call, ta81Call, ta82Call, ta91Call, ta92Call};
+ghost use Rattle.standard.specs.Sizes.{plainSize, sealedSize};
 
 #[no_mangle]
 pub extern "C" fn taa1_encrypt(key: &[u8], block: &[u8]) -> Bytes8
@@ -321,4 +323,32 @@ pub extern "C" fn taa1_lineage(sheet: &[u8], out: &mut [u8]) -> BookAnswer
     ensures { λ r. ⌜ (r, now (out .exit)) ≡ lineageCall (now (sheet .entry)) (now (out .entry)) ⌝ }
 {
     lineage::lineage(sheet, out)
+}
+
+#[no_mangle]
+pub extern "C" fn taa1_plain_to_columns(plain: &[u8], out: &mut [u8]) -> BookAnswer
+    ensures { λ r. ⌜ (r, now (out .exit)) ≡ columnsCall plainSize toColumns (now (plain .entry)) (now (out .entry)) ⌝ }
+{
+    columns::plain_to_columns(plain, out)
+}
+
+#[no_mangle]
+pub extern "C" fn taa1_plain_from_columns(columns: &[u8], out: &mut [u8]) -> BookAnswer
+    ensures { λ r. ⌜ (r, now (out .exit)) ≡ columnsCall plainSize fromColumns (now (columns .entry)) (now (out .entry)) ⌝ }
+{
+    columns::plain_from_columns(columns, out)
+}
+
+#[no_mangle]
+pub extern "C" fn taa1_sealed_to_columns(sealed: &[u8], out: &mut [u8]) -> BookAnswer
+    ensures { λ r. ⌜ (r, now (out .exit)) ≡ columnsCall sealedSize toColumns (now (sealed .entry)) (now (out .entry)) ⌝ }
+{
+    columns::sealed_to_columns(sealed, out)
+}
+
+#[no_mangle]
+pub extern "C" fn taa1_sealed_from_columns(columns: &[u8], out: &mut [u8]) -> BookAnswer
+    ensures { λ r. ⌜ (r, now (out .exit)) ≡ columnsCall sealedSize fromColumns (now (columns .entry)) (now (out .entry)) ⌝ }
+{
+    columns::sealed_from_columns(columns, out)
 }

@@ -80,7 +80,7 @@ module _ (v : ℕ) (g : ℕ → List ℕ) (long : (i : ℕ) → length (g i) ≡
     abbrev own : List ℕ
     own = take (v * i + v - v * i) (drop (v * i) out)
 
-    own-length : length own ≡ v
+    pub own-length : length own ≡ v
     own-length = simp (length-take, length-drop) (omega (arith, room, h .kept))
 
     -- a part of v bytes is overwritten whole
@@ -88,16 +88,13 @@ module _ (v : ℕ) (g : ℕ → List ℕ) (long : (i : ℕ) → length (g i) ≡
     overwritten y exit l e =
         e ∙ rw (drop-of-length-le own {i = v} (omega (arith, own-length)), append-nil) (take-all (length own) y (omega (arith, own-length)))
 
-    -- string i put into its own part
-    pub laid-more : (y exit : List ℕ) → y ≡ g i → exit ≡ take (length own) y ++ drop v own
+    -- string i in its own part
+    pub laid-next : (exit : List ℕ) → exit ≡ g i
         → Laid v g out₀ (i + 1) (take (v * i) out ++ (exit ++ drop (v * i + v - v * i) (drop (v * i) out)))
-    laid-more y exit q e = record { bytes = bytes; kept = ap length bytes ∙ lengths }
+    laid-next exit made = record { bytes = bytes; kept = ap length bytes ∙ lengths }
       where
         next : v * i + v ≡ v * (i + 1)
         next = rw add-one (sym (mul-suc v i))
-
-        made : exit ≡ g i
-        made = overwritten y exit (ap length q ∙ long i) e ∙ q
 
         bytes : take (v * i) out ++ (exit ++ drop (v * i + v - v * i) (drop (v * i) out)) ≡ joined (i + 1) g ++ drop (v * (i + 1)) out₀
         bytes =
@@ -106,6 +103,11 @@ module _ (v : ℕ) (g : ℕ → List ℕ) (long : (i : ℕ) → length (g i) ≡
 
         lengths : length (joined (i + 1) g ++ drop (v * (i + 1)) out₀) ≡ length out₀
         lengths = rw (length-append, length-joined (i + 1), length-drop) (omega (arith, room, next))
+
+    -- string i put into its own part
+    pub laid-more : (y exit : List ℕ) → y ≡ g i → exit ≡ take (length own) y ++ drop v own
+        → Laid v g out₀ (i + 1) (take (v * i) out ++ (exit ++ drop (v * i + v - v * i) (drop (v * i) out)))
+    laid-more y exit q e = laid-next exit (overwritten y exit (ap length q ∙ long i) e ∙ q)
 
 -- ---- where f makes the records of v bytes from records of w
 

@@ -20,8 +20,13 @@ pub record Book (w : ℕ) (ok : List ℕ → Bool) (xs : List ℕ) : Type 0 wher
   pub few : length xs / w ≤ mostRecords
   pub pass : (i : ℕ) → i < length xs / w → ok (recordAt w xs i) ≡ true
 
--- ---- strings of v bytes, one after the other
+-- ---- strings one after the other
 
+pub joined-same : (n : ℕ) (g h : ℕ → List ℕ) → ((i : ℕ) → i < n → g i ≡ h i) → joined n g ≡ joined n h
+joined-same zero g h e = refl
+joined-same (suc n) g h e = ap₂ _++_ (joined-same n g h (λ i k. e i (omega arith))) (e n (omega arith))
+
+-- of v bytes each
 module _ (v : ℕ) (g : ℕ → List ℕ) where
   pub joined-length : (n : ℕ) → ((i : ℕ) → i < n → length (g i) ≡ v) → length (joined n g) ≡ v * n
   joined-length zero h = sym (mul-zero v)
@@ -45,8 +50,7 @@ module _ (v : ℕ) (g : ℕ → List ℕ) where
 
 pub each-same : (n w v : ℕ) (f g : List ℕ → List ℕ) (xs ys : List ℕ)
     → ((i : ℕ) → i < n → f (part (w * i) w xs) ≡ g (part (v * i) v ys)) → each n w f xs ≡ each n v g ys
-each-same zero w v f g xs ys h = refl
-each-same (suc n) w v f g xs ys h = ap₂ _++_ (each-same n w v f g xs ys (λ i k. h i (omega arith))) (h n (omega arith))
+each-same n w v f g xs ys h = joined-same n (λ i. f (recordAt w xs i)) (λ i. g (recordAt v ys i)) h
 
 each-table : (n w : ℕ) (xs : List ℕ) → each n w (λ x. x) xs ≡ table (w * n) (λ i. xs ! i)
 each-table zero w xs = rw mul-zero
@@ -55,7 +59,7 @@ each-table (suc n) w xs =
     ∙ sym (table-add (w * n) w (λ i. xs ! i)) ∙ ap (λ (k : ℕ). table k (λ i. xs ! i)) (sym (mul-suc w n))
 
 -- the records of a book, as they are
-each-self : (n w : ℕ) (xs : List ℕ) → length xs ≡ w * n → each n w (λ x. x) xs ≡ xs
+pub each-self : (n w : ℕ) (xs : List ℕ) → length xs ≡ w * n → each n w (λ x. x) xs ≡ xs
 each-self n w xs e = each-table n w xs ∙ spelled (w * n) xs e
 
 module _ (w v : ℕ) (f : List ℕ → List ℕ) (xs : List ℕ) where

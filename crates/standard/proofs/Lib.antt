@@ -22,4 +22,5 @@ pub mod Demand3Laws
 pub mod ListingLaws
 pub mod FactLaws
 pub mod LineageLaws
+pub mod ColumnsLaws
 pub mod Cases

@@ -16,6 +16,7 @@ pub mod Mixing
 pub mod Classes
 pub mod Lineage
 pub mod Register
+pub mod Columns
 pub mod Refusals
 pub mod Facts
 pub mod RunFacts

@@ -1,0 +1,65 @@
+-- A transposition by code, column by column, and the ways in which the call returns.
+-- Assumes nothing.
+use mathlib.Core.List.{List, _++_}
+use mathlib.Core.Path.{_≡_, refl, sym, ap, _∙_}
+use Prim.Native.Nat.{ℕ, _+_, _-_, _*_, _/_, _<_, _≤_}
+use native.Mathlib.Nat.{mul-comm}
+use native.Mathlib.Omega.{arith}
+use lib.ListN.{length, take, drop}
+use borrow.Author.Tests.{leb-true}
+use Rattle.lists.proofs.CallLaws.{call-refused, call-done}
+use Rattle.lists.proofs.WalkLaws.{ends, Laid, laid-none, own-length, laid-next}
+use Rattle.standard.proofs.ColumnsLaws.{column-long}
+use Rattle.standard.proofs.FirstLaws.{all-pass}
+use Rattle.standard.specs.Columns.{column, columnsCall}
+use Rattle.standard.specs.Lists.{listTests, refused}
+use Rattle.standard.specs.Refusals.{first}
+
+-- byte j of row i stands within the rows
+pub in-rows : (width n i j : ℕ) → i < n → j < width → width * i + j < width * n
+in-rows width n i j h k = omega (arith, ends width i n h)
+
+-- ---- the first j columns of n rows are written, and behind them the output is as it was
+
+abbrev pub Filed : (n width : ℕ) (rows out₀ : List ℕ) (j : ℕ) (out : List ℕ) → Type 0
+Filed n width rows out₀ j out = Laid n (column n width rows) out₀ j out
+
+module _ (n width : ℕ) (rows out₀ : List ℕ) where
+  pub filed-none : Filed n width rows out₀ 0 out₀
+  filed-none = laid-none n (column n width rows) (column-long n width rows) out₀
+
+  module _ (j : ℕ) (out : List ℕ) (h : Filed n width rows out₀ j out) (room : n * j + n ≤ length out₀) where
+    abbrev own : List ℕ
+    own = take (n * j + n - n * j) (drop (n * j) out)
+
+    pub own-long : length own ≡ n
+    own-long = own-length n (column n width rows) (column-long n width rows) out₀ j out h room
+
+    -- the rows have a byte for each of the part's
+    pub rows-enough : n * width ≤ length rows → width * length own ≤ length rows
+    rows-enough e = rw (own-long, mul-comm width n) e
+
+    pub filed-more : (exit : List ℕ) → exit ≡ column (length own) width rows j
+        → Filed n width rows out₀ (j + 1) (take (n * j) out ++ (exit ++ drop (n * j + n - n * j) (drop (n * j) out)))
+    filed-more exit e =
+        laid-next n (column n width rows) (column-long n width rows) out₀ j out h room exit
+        (e ∙ ap (λ (k : ℕ). column k width rows j) own-long)
+
+-- ---- the call
+
+module _ (w : ℕ) (f : ℕ → ℕ → List ℕ → List ℕ) (xs out : List ℕ) (number : ℕ) (e : number ≡ first (listTests w w (length xs) (length out))) where
+  abbrev n : ℕ
+  n = length xs / w
+
+  pub lengths-refused : (number ≡ 0 → ⊥) → (refused number 0, out) ≡ columnsCall w f xs out
+  unfolding columnsCall
+  lengths-refused z = rw (← e) (call-refused number n (λ i. 0) (w * n) (f w n xs) out z)
+
+  module _ (z : number ≡ 0) where
+    pub room : w * n ≤ length out
+    room = leb-true _ _ (all-pass (listTests w w (length xs) (length out)) refl (sym e ∙ z) 2)
+
+    pub all-written : (exit : List ℕ) → exit ≡ f w n xs ++ drop (w * n) out
+        → (record { refusal = 0; index = n; written = w * n }, exit) ≡ columnsCall w f xs out
+    unfolding columnsCall
+    all-written exit made = rw (← e) (call-done number n (λ i. 0) (w * n) (f w n xs) out z (λ j l. refl) exit made)

@@ -1,0 +1,62 @@
+-- `columns::rearrange` meets its contract.
+-- Assumes nothing.
+use Prim.Native.Nat.{_*_, _/_}
+use native.Mathlib.Omega.{arith}
+use lib.ListN.{length}
+use denote.Ref.{now}
+use borrow.Author.Needs.{needs}
+use Rattle.lists.proofs.LengthLaws.{records-within}
+use Rattle.standard.specs.Bytes.{choose}
+use Rattle.standard.specs.Columns.{toColumns, fromColumns}
+use Rattle.columns.proofs.FileLaws.{lengths-refused, room, all-written}
+use Rattle.columns.proofs.rearrange.Statement.{statement}
+use Rattle.columns.proofs.rearrange.Tie as tie
+
+lengths-and-output-requires : tie.Need-lengths-and-output-requires
+lengths-and-output-requires c κs = search needs
+
+refused-requires : tie.Need-refused-requires
+refused-requires c κs = search needs
+
+returns : tie.Need-returns
+returns c =
+    let lens = c .before .before in
+    let x = lens .before .before .before .args in
+    rw (c .refused .ensures)
+    (lengths-refused (x .size) (choose (x .back) fromColumns toColumns) (now (x .book)) (now (x .out)) _ (lens .lengths-and-output .ensures) (c .before .if1 .taken))
+
+div-n : tie.Need-div-n
+div-n c = search needs
+
+file-requires : tie.Need-file-requires
+file-requires c κs =
+    let lens = c .before .before in
+    let x = lens .before .before .before .args in
+    (records-within (x .size) (length (now (x .book))), room (x .size) (choose (x .back) fromColumns toColumns) (now (x .book)) (now (x .out)) _ (lens .lengths-and-output .ensures) (c .before .if1 .left))
+
+mul-t9 : tie.Need-mul-t9
+mul-t9 c =
+    let x = c .before .before .before .before .before .before .before .before .args in
+    omega (arith, records-within (x .size) (length (now (x .book))))
+
+same-length : tie.Need-same-length
+same-length c = search needs
+
+returns-2 : tie.Need-returns-2
+returns-2 c =
+    let lens = c .before .before .before .before .before in
+    let x = lens .before .before .before .args in
+    all-written (x .size) (choose (x .back) fromColumns toColumns) (now (x .book)) (now (x .out)) _ (lens .lengths-and-output .ensures) (c .before .before .before .before .if1 .left) _ (c .before .before .file .ensures)
+
+pub rearrange-spec : {M : Type 1} → statement M
+rearrange-spec =
+    tie.close
+    (tie.spec
+    lengths-and-output-requires
+    refused-requires
+    returns
+    div-n
+    file-requires
+    mul-t9
+    same-length
+    returns-2)
