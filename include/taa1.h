@@ -447,6 +447,29 @@ taa1_book_answer taa1_check_plain(const uint8_t *plain, size_t plain_length);
 taa1_book_answer taa1_lineage(const uint8_t *sheet, size_t sheet_length,
                               uint8_t *out, size_t out_length);
 
+/*
+ * ---- Books filed by column: the first byte of every record, then the second of every record, .. ----
+ *
+ * Each call takes up to TAA1_MOST_RECORDS, whose contents are not looked at, and
+ * writes as many bytes as it takes.
+ */
+
+/* The columns of a plain book. */
+taa1_book_answer taa1_plain_to_columns(const uint8_t *plain, size_t plain_length,
+                                       uint8_t *out, size_t out_length);
+
+/* The plain book of its columns: undoes taa1_plain_to_columns. */
+taa1_book_answer taa1_plain_from_columns(const uint8_t *columns, size_t columns_length,
+                                         uint8_t *out, size_t out_length);
+
+/* The columns of a sealed book. */
+taa1_book_answer taa1_sealed_to_columns(const uint8_t *sealed, size_t sealed_length,
+                                        uint8_t *out, size_t out_length);
+
+/* The sealed book of its columns: undoes taa1_sealed_to_columns. */
+taa1_book_answer taa1_sealed_from_columns(const uint8_t *columns, size_t columns_length,
+                                          uint8_t *out, size_t out_length);
+
 #ifdef __cplusplus
 }
 #endif

@@ -335,6 +335,37 @@ static void sheets(bool at_end, size_t records)
     give_back(out);
 }
 
+/* ---- Columns ---- */
+
+typedef taa1_book_answer filing(const uint8_t *, size_t, uint8_t *, size_t);
+
+static void columns(bool at_end, size_t records, size_t size, filing *to, filing *from)
+{
+    string book = input(size * records, at_end);
+    string filed = writable(book.length, at_end);
+    string back = writable(book.length, at_end);
+
+    CHECK(is(to(S(book), S(filed)), TAA1_ACCEPTED, records, book.length));
+    for (size_t i = 0; i < book.length; i++)
+        CHECK(filed.bytes[i % size * records + i / size] == book.bytes[i]);
+    protect(filed, PROT_READ);
+    CHECK(is(from(S(filed), S(back)), TAA1_ACCEPTED, records, book.length));
+    CHECK(memcmp(back.bytes, book.bytes, book.length) == 0);
+
+    if (records > 0) {
+        /* What is refused must not be written, not even where it could be. */
+        protect(back, PROT_READ);
+        CHECK(is(to(S(book), back.bytes, back.length - 1), TAA1_OUTPUT_SHORT, 0, 0));
+        CHECK(is(from(S(filed), back.bytes, back.length - 1), TAA1_OUTPUT_SHORT, 0, 0));
+        CHECK(is(to(book.bytes, book.length - 1, S(back)), TAA1_BOOK_NOT_WHOLE, 0, 0));
+        CHECK(is(from(filed.bytes, filed.length - 1, S(back)), TAA1_BOOK_NOT_WHOLE, 0, 0));
+    }
+
+    give_back(book);
+    give_back(filed);
+    give_back(back);
+}
+
 static void too_long(bool at_end)
 {
     string session_key = input(16, at_end);
@@ -350,6 +381,10 @@ static void too_long(bool at_end)
     string sheet = chain(TAA1_MOST_RECORDS + 1, at_end);
     CHECK(is(taa1_lineage(S(sheet), S(out)), TAA1_BOOK_TOO_LONG, 0, 0));
     give_back(sheet);
+    CHECK(is(taa1_plain_to_columns(S(plain), S(out)), TAA1_BOOK_TOO_LONG, 0, 0));
+    CHECK(is(taa1_plain_from_columns(S(plain), S(out)), TAA1_BOOK_TOO_LONG, 0, 0));
+    CHECK(is(taa1_sealed_to_columns(S(out), S(plain)), TAA1_BOOK_TOO_LONG, 0, 0));
+    CHECK(is(taa1_sealed_from_columns(S(out), S(plain)), TAA1_BOOK_TOO_LONG, 0, 0));
     give_back(session_key);
     give_back(challenges);
     give_back(ring);
@@ -373,6 +408,10 @@ static void nulls(void)
     CHECK(is(taa1_ta12_class(NULL, 0, NULL, 0, 0x9240, 0x6db6, NULL, 0),
              TAA1_WRONG_LENGTH, 0, 0));
     CHECK(is(taa1_lineage(NULL, 0, NULL, 0), TAA1_ACCEPTED, 0, 0));
+    CHECK(is(taa1_plain_to_columns(NULL, 0, NULL, 0), TAA1_ACCEPTED, 0, 0));
+    CHECK(is(taa1_plain_from_columns(NULL, 0, NULL, 0), TAA1_ACCEPTED, 0, 0));
+    CHECK(is(taa1_sealed_to_columns(NULL, 0, NULL, 0), TAA1_ACCEPTED, 0, 0));
+    CHECK(is(taa1_sealed_from_columns(NULL, 0, NULL, 0), TAA1_ACCEPTED, 0, 0));
     give_back(ring);
     give_back(session_key);
 }
@@ -395,6 +434,10 @@ int main(void)
             books(at_end, records[i]);
             classes(at_end, records[i]);
             sheets(at_end, records[i]);
+            columns(at_end, records[i], TAA1_PLAIN_RECORD_BYTES,
+                    taa1_plain_to_columns, taa1_plain_from_columns);
+            columns(at_end, records[i], TAA1_SEALED_RECORD_BYTES,
+                    taa1_sealed_to_columns, taa1_sealed_from_columns);
         }
         too_long(at_end);
     }

@@ -316,6 +316,10 @@ _CALLS: dict[str, tuple[type[ctypes.Structure], tuple[Any, ...]]] = {
     "open_book": (_COUNTED, (bytes, bytes, bytearray)),
     "check_plain": (_BOOK, (bytes,)),
     "lineage": (_BOOK, (bytes, bytearray)),
+    "plain_to_columns": (_BOOK, (bytes, bytearray)),
+    "plain_from_columns": (_BOOK, (bytes, bytearray)),
+    "sealed_to_columns": (_BOOK, (bytes, bytearray)),
+    "sealed_from_columns": (_BOOK, (bytes, bytearray)),
 }
 
 
@@ -550,3 +554,23 @@ class Engine:
         content = self._book("lineage", SHEET_VALUE_BYTES, sheet).content
         starts = range(0, len(content), SHEET_VALUE_BYTES)
         return [content[at : at + SHEET_VALUE_BYTES] for at in starts]
+
+    def plain_to_columns(self, plain: Bytes) -> Book:
+        """A plain book by column, whose contents are not looked at.
+
+        First the first byte of every record, then the second of every record, and
+        so on.
+        """
+        return self._book("plain_to_columns", PLAIN_RECORD_BYTES, plain)
+
+    def plain_from_columns(self, columns: Bytes) -> Book:
+        """Undoes `plain_to_columns`."""
+        return self._book("plain_from_columns", PLAIN_RECORD_BYTES, columns)
+
+    def sealed_to_columns(self, sealed: Bytes) -> Book:
+        """As `plain_to_columns`, for a sealed book."""
+        return self._book("sealed_to_columns", SEALED_RECORD_BYTES, sealed)
+
+    def sealed_from_columns(self, columns: Bytes) -> Book:
+        """Undoes `sealed_to_columns`."""
+        return self._book("sealed_from_columns", SEALED_RECORD_BYTES, columns)

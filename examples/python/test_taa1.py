@@ -132,6 +132,10 @@ ACCEPTED: dict[str, tuple[Any, ...]] = {
     "open_book": (RING, ENGINE.seal_book(RING, BOOK[0]).content),
     "check_plain": (BOOK[0],),
     "lineage": (b"".join(SHEET),),
+    "plain_to_columns": (BOOK[0],),
+    "plain_from_columns": (BOOK[0],),
+    "sealed_to_columns": (upward(SEALED_RECORD_BYTES),),
+    "sealed_from_columns": (upward(SEALED_RECORD_BYTES),),
 }
 
 # For each type of value, what must not be taken for it.
@@ -356,6 +360,16 @@ class Results(unittest.TestCase):
             self.assertEqual((opened.content, opened.runs), (plain, opening))
             self.assertEqual(ENGINE.check_plain(plain), records)
 
+    def test_columns(self) -> None:
+        """Byte j of every record, for each j; and back, also of the longest and the empty book."""
+        for kind, size in (("plain", PLAIN_RECORD_BYTES), ("sealed", SEALED_RECORD_BYTES)):
+            for records in (0, 1, 2, 3, MOST_RECORDS - 1, MOST_RECORDS):
+                with self.subTest(kind, records=records):
+                    book = bytes(i % 251 for i in range(size * records))
+                    columns = b"".join(book[j::size] for j in range(size))
+                    self.assertEqual(call(f"{kind}_to_columns", book), (records, columns))
+                    self.assertEqual(call(f"{kind}_from_columns", columns), (records, book))
+
 
 class Refusals(unittest.TestCase):
     """What the calls refuse."""
@@ -414,6 +428,13 @@ class Refusals(unittest.TestCase):
         self.refuses(Refusal.PARENT_LENGTH, 4, "lineage", good + derived(1, 1, 0) + bad)
         self.refuses(Refusal.PARENT_LENGTH, 4, "lineage", good + derived(4, 3, 2))
 
+    def test_columns(self) -> None:
+        for kind, size in (("plain", PLAIN_RECORD_BYTES), ("sealed", SEALED_RECORD_BYTES)):
+            long = bytes(size * MOST_RECORDS + 1)
+            for name in (f"{kind}_to_columns", f"{kind}_from_columns"):
+                self.refuses(Refusal.BOOK_TOO_LONG, 0, name, long)
+                self.refuses(Refusal.BOOK_NOT_WHOLE, 0, name, long[: size + 1])
+
     def test_single_calls(self) -> None:
         self.refuses(Refusal.WRONG_NUMBER, None, "ta51", KEY, VERSION, ROOT, KeyNumber(32))
         self.refuses(Refusal.WRONG_MASK, None, "ta12", ROOT, KEY, 0x7000, KEY_MASK)
@@ -430,8 +451,13 @@ class Refusals(unittest.TestCase):
 
     def test_lengths(self) -> None:
         """A string of a wrong length, in each place that has a fixed one."""
-        books = (BOOK[0], *(ACCEPTED[name][-1] for name in ("open_book", "lineage")))
-        books += (ACCEPTED["ta12_class"][1],)
+        books = (
+            BOOK[0],
+            ACCEPTED["open_book"][1],
+            ACCEPTED["ta12_class"][1],
+            ACCEPTED["lineage"][0],
+            ACCEPTED["sealed_to_columns"][0],
+        )
         for name, values in ACCEPTED.items():
             for at, value in enumerate(values):
                 if isinstance(value, bytes) and value not in books:
@@ -475,7 +501,7 @@ class Values(unittest.TestCase):
         """ACCEPTED, which the tests below go by, has each call, and each accepts it."""
         public = {name for name in vars(taa1.Engine) if not name.startswith("_")}
         self.assertEqual(set(ACCEPTED), public)
-        self.assertEqual(len(public), 35)
+        self.assertEqual(len(public), 39)
         for name, values in ACCEPTED.items():
             with self.subTest(name):
                 call(name, *values)

@@ -428,6 +428,35 @@ pub fn lineage(sheet: &[u8]) -> Result<Vec<[u8; SHEET_VALUE_BYTES]>, BookRefusal
     Ok(values.chunks_exact(SHEET_VALUE_BYTES).map(one).collect())
 }
 
+/// A plain book by column: the first byte of every record, then the second of
+/// every record, and so on. The contents are not looked at.
+pub fn plain_to_columns(plain: &[u8]) -> Result<Book, BookRefusal> {
+    let mut out = vec![0; plain.len()];
+    let answer = call!(plain_to_columns([plain], { out }));
+    book(answer, out)
+}
+
+/// Undoes [`plain_to_columns`].
+pub fn plain_from_columns(columns: &[u8]) -> Result<Book, BookRefusal> {
+    let mut out = vec![0; columns.len()];
+    let answer = call!(plain_from_columns([columns], { out }));
+    book(answer, out)
+}
+
+/// As [`plain_to_columns`], for a sealed book.
+pub fn sealed_to_columns(sealed: &[u8]) -> Result<Book, BookRefusal> {
+    let mut out = vec![0; sealed.len()];
+    let answer = call!(sealed_to_columns([sealed], { out }));
+    book(answer, out)
+}
+
+/// Undoes [`sealed_to_columns`].
+pub fn sealed_from_columns(columns: &[u8]) -> Result<Book, BookRefusal> {
+    let mut out = vec![0; columns.len()];
+    let answer = call!(sealed_from_columns([columns], { out }));
+    book(answer, out)
+}
+
 fn bytes<const N: usize>(answer: raw::Bytes<N>) -> Result<[u8; N], Refusal> {
     Refusal::test(answer.refusal)?;
     Ok(answer.bytes)
@@ -522,5 +551,8 @@ mod tests {
             book(call!(lineage([sheet], { out })), out),
             Err(BookRefusal { refusal, index })
         );
+        let mut out = vec![0; PLAIN_RECORD_BYTES - 1];
+        let answer = call!(plain_to_columns([plain], { out }));
+        assert_eq!(book(answer, out), Err(BookRefusal { refusal, index }));
     }
 }

@@ -115,6 +115,10 @@ macro_rules! calls {
             open_book([ring], [sealed], {out}) -> CountedAnswer;
             check_plain([plain]) -> BookAnswer;
             lineage([sheet], {out}) -> BookAnswer;
+            plain_to_columns([plain], {out}) -> BookAnswer;
+            plain_from_columns([columns], {out}) -> BookAnswer;
+            sealed_to_columns([sealed], {out}) -> BookAnswer;
+            sealed_from_columns([columns], {out}) -> BookAnswer;
         }
     };
 }

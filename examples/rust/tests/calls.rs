@@ -4,7 +4,7 @@ use std::array::from_fn;
 use std::thread;
 
 use taa1::{
-    Authentication, BookRefusal, CountedBook, CountedRefusal, FailedChecks, KeyNumber, Kind,
+    Authentication, Book, BookRefusal, CountedBook, CountedRefusal, FailedChecks, KeyNumber, Kind,
     Refusal, RingMade, Sitting, Unsealed, UnsealedNumbered, Version, CHALLENGE_BYTES, MOST_RECORDS,
     PLAIN_RECORD_BYTES, RING_BYTES, SEALED_RECORD_BYTES, SHEET_RECORD_BYTES, SHEET_VALUE_BYTES,
 };
@@ -499,6 +499,54 @@ fn longest_and_empty_books_are_sealed_and_opened() {
         assert_eq!((sealed.records, sealed.runs), (records, sealing));
         let opened = taa1::open_book(&ring, &sealed.bytes).unwrap();
         assert_eq!((opened.bytes, opened.runs), (plain, opening));
+    }
+}
+
+type Filing = fn(&[u8]) -> Result<Book, BookRefusal>;
+
+/// The size of a record, and the calls into columns and back.
+const FILINGS: [(usize, Filing, Filing); 2] = [
+    (
+        PLAIN_RECORD_BYTES,
+        taa1::plain_to_columns,
+        taa1::plain_from_columns,
+    ),
+    (
+        SEALED_RECORD_BYTES,
+        taa1::sealed_to_columns,
+        taa1::sealed_from_columns,
+    ),
+];
+
+#[test]
+fn books_are_filed_by_column() {
+    for (size, to, from) in FILINGS {
+        for records in [0, 1, 2, 3, MOST_RECORDS - 1, MOST_RECORDS] {
+            let bytes: Vec<u8> = (0..size * records).map(|i| (i % 251) as u8).collect();
+            let column = |j| bytes.iter().skip(j).step_by(size).copied();
+            let columns: Vec<u8> = (0..size).flat_map(column).collect();
+            let book = |bytes: &[u8]| {
+                Ok(Book {
+                    records,
+                    bytes: bytes.into(),
+                })
+            };
+            assert_eq!(to(&bytes), book(&columns));
+            assert_eq!(from(&columns), book(&bytes));
+        }
+    }
+}
+
+/// All but the short output, which cannot arise here.
+#[test]
+fn filings_are_refused() {
+    let refused = |refusal| Err(BookRefusal { refusal, index: 0 });
+    for (size, to, from) in FILINGS {
+        for call in [to, from] {
+            let long = vec![0; size * MOST_RECORDS + 1];
+            assert_eq!(call(&long), refused(Refusal::BookTooLong));
+            assert_eq!(call(&long[..size + 1]), refused(Refusal::BookNotWhole));
+        }
     }
 }
 
