@@ -11,19 +11,20 @@ mod rust;
 use host::both::{self, AUTHENTICATION, CHALLENGE, MOST, RING};
 use host::random::Random;
 use interface::{SHEET_RECORD_BYTES, SHEET_VALUE_BYTES};
+use std::hint::black_box;
 use std::time::{Duration, Instant};
 
 #[rustfmt::skip]
-const ROWS: [&str; 21] = [
+const ROWS: [&str; 23] = [
     "schedule", "block, keys laid out", "schedule and block",
     "register and block", "schedule, decrypted", "register, decrypted",
     "TA11", "TA31", "TA32", "TA51", "TA52", "TA81", "TA82", "TA91", "TA92",
-    "record sealed", "record opened",
+    "record sealed", "record opened", "record into columns", "record from columns",
     "TA12, one by one", "TA12, in a class",
     "TA11, one by one", "TA11, in a sheet",
 ];
 /// The last rows, whose steps are the records of one book, class or sheet.
-const LIST_ROWS: usize = 6;
+const LIST_ROWS: usize = 8;
 const RECORDS: usize = MOST;
 const STEPS: usize = 2_000;
 const ROUNDS: usize = 300;
@@ -129,6 +130,15 @@ impl Inputs {
                 }
             }
             block
+        }))
+    }
+
+    /// A plain book rearranged. To look at each byte would take as long again.
+    fn rearranged<'a>(&self, mut step: impl FnMut(&mut [u8]) + 'a) -> Round<'a> {
+        let mut out = vec![0; self.plain.len()];
+        Some(Box::new(move || {
+            step(black_box(&mut out));
+            std::array::from_fn(|i| out[i])
         }))
     }
 
@@ -250,6 +260,11 @@ fn main() {
     if let [_, _, Some(laid), Some(turned), Some(laid_back), Some(turned_back), ..] = times {
         let (on, back) = (turned / laid, turned_back / laid_back);
         println!("ours: one register takes {on:.2} times the round keys, decrypting {back:.2}");
+    }
+    let time = |row| times[ROWS.iter().position(|&r| r == row)?];
+    if let (Some(sealed), Some(filed)) = (time("record sealed"), time("record into columns")) {
+        let ratio = shown(Some(sealed / filed), 0);
+        println!("ours: a book of {RECORDS} is filed {ratio} times as fast as it is sealed");
     }
     let [.., challenge, class, derivation, sheet] = times;
     for (list, parts, all, one_by_one) in [

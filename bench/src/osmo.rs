@@ -37,8 +37,10 @@ pub fn rounds(inputs: &Inputs) -> Rounds<'_> {
     // Nor one for a sheet.
     let chain =
         [(); 2].map(|()| inputs.chain(|key, seed| osmo::ta11_ta41(&start(key), &start(seed))));
+    let columns = [None, None];
     calls
         .chain(books(inputs))
+        .chain(columns)
         .chain(class)
         .chain(chain)
         .collect()

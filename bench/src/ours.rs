@@ -23,6 +23,12 @@ pub fn rounds(inputs: &Inputs) -> Rounds<'_> {
         inputs.book(PLAIN, |out| {
             engine::open_book(&inputs.ring, &inputs.sealed, out);
         }),
+        inputs.rearranged(|out| {
+            engine::plain_to_columns(&inputs.plain, out);
+        }),
+        inputs.rearranged(|out| {
+            engine::plain_from_columns(&inputs.plain, out);
+        }),
         inputs.challenges(|challenge| {
             let one = engine::ta12(session_key, challenge, RESPONSE_MASK, KEY_MASK);
             (one.response, one.key)

@@ -27,6 +27,8 @@ pub fn rounds(inputs: &Inputs) -> Rounds<'_> {
         inputs.book(PLAIN, |out| {
             books::open_book(&inputs.ring, &inputs.sealed, out);
         }),
+        None,
+        None,
         inputs.challenges(|challenge| {
             let one = taa1::ta12(session_key, challenge, RESPONSE_MASK, KEY_MASK);
             (one.response, one.key)
