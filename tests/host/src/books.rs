@@ -8,9 +8,9 @@ use std::fmt::Write;
 /// Most records in a book.
 const MOST: usize = 1024;
 /// Bytes of a plain record.
-const PLAIN: usize = 18;
+pub(crate) const PLAIN: usize = 18;
 /// Bytes of a sealed record.
-const SEALED: usize = 21;
+pub(crate) const SEALED: usize = 21;
 
 /// Answer of a book call. `index` is the offending record's on a refusal,
 /// the number of records otherwise.

@@ -5,6 +5,7 @@
 pub mod books;
 pub mod both;
 pub mod class;
+pub mod columns;
 pub mod damaged;
 pub mod engine;
 pub mod hurdle;

@@ -4,6 +4,7 @@
 mod book_calls;
 mod cipher;
 mod class_calls;
+mod column_calls;
 mod derivation;
 mod edges;
 mod identity;
@@ -30,5 +31,6 @@ fn main() -> ExitCode {
     book_calls::run(&mut tally, &mut random);
     class_calls::run(&mut tally, &mut random);
     lineage_calls::run(&mut tally, &mut random);
+    column_calls::run(&mut tally, &mut random);
     tally.finish()
 }
