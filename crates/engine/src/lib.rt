@@ -6,6 +6,8 @@ use standard::Bytes8;
 use standard::Bytes10;
 use standard::Bytes15;
 use standard::Bytes16;
+use standard::CarrierIdentity;
+use standard::Cell;
 use standard::CountedAnswer;
 use standard::Identity;
 use standard::KeyNumber;
@@ -13,6 +15,7 @@ use standard::RingMade;
 use standard::Unsealed;
 use standard::UnsealedGroup;
 use standard::UnsealedNumbered;
+use standard::Value;
 use standard::Version;
 ghost use mathlib.Core.Path.{_≡_};
 ghost use Rattle.standard.specs.Books.{sealBook, openBook, checkPlain};
@@ -21,6 +24,7 @@ ghost use Rattle.standard.specs.Columns.{toColumns, fromColumns, columnsCall};
 ghost use Rattle.standard.specs.Derivation.{ta11Call, ta21Call, ta41Call, ta12Call, ta22Call, ta71Call, ta101Call, ringCall};
 ghost use Rattle.standard.specs.Hurdle.{encryptCall, decryptCall};
 ghost use Rattle.standard.specs.Identity.{ta61Call, ta61⁻¹Call};
+ghost use Rattle.standard.specs.Inverses.{tb1⁻¹Call, tb3⁻¹Call, tb5⁻¹Call, tb6⁻¹Call};
 ghost use Rattle.standard.specs.Lineage.{lineageCall};
 ghost use Rattle.standard.specs.Mixing.{tb1Call, tb2Call, tb3Call, tb4Call, tb5Call, tb6Call, tb7Call};
 ghost use Rattle.standard.specs.Register.{registerCall};
@@ -266,6 +270,34 @@ pub extern "C" fn taa1_tb7(group_key: &[u8]) -> Bytes16
     ensures { λ r. ⌜ r ≡ tb7Call (now («group_key» .entry)) ⌝ }
 {
     mixing::tb7(group_key)
+}
+
+#[no_mangle]
+pub extern "C" fn taa1_tb1_inverse(result: &[u8], width: u64) -> Value
+    ensures { λ r. ⌜ r ≡ tb1⁻¹Call (now (result .entry)) width ⌝ }
+{
+    inverses::tb1_inverse(result, width)
+}
+
+#[no_mangle]
+pub extern "C" fn taa1_tb3_inverse(input: &[u8], result: &[u8], width: u64) -> Value
+    ensures { λ r. ⌜ r ≡ tb3⁻¹Call (now (input .entry)) (now (result .entry)) width ⌝ }
+{
+    inverses::tb3_inverse(input, result, width)
+}
+
+#[no_mangle]
+pub extern "C" fn taa1_tb5_inverse(cipher_key: &[u8], result: &[u8]) -> Cell
+    ensures { λ r. ⌜ r ≡ tb5⁻¹Call (now («cipher_key» .entry)) (now (result .entry)) ⌝ }
+{
+    inverses::tb5_inverse(cipher_key, result)
+}
+
+#[no_mangle]
+pub extern "C" fn taa1_tb6_inverse(cipher_key: &[u8], result: &[u8]) -> CarrierIdentity
+    ensures { λ r. ⌜ r ≡ tb6⁻¹Call (now («cipher_key» .entry)) (now (result .entry)) ⌝ }
+{
+    inverses::tb6_inverse(cipher_key, result)
 }
 
 #[no_mangle]

@@ -29,6 +29,7 @@ fn meaning(l: Line, refusal: u32) -> Line
         14 => l.word(b"operation above 5 or wrong filling"),
         15 => l.word(b"parent not before its record"),
         16 => l.word(b"parent of a wrong length"),
+        17 => l.word(b"no input gives this result"),
         _ => l.word(b"not in the list"),
     }
 }

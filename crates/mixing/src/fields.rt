@@ -16,7 +16,7 @@ pub(crate) fn fits_in(value: u64, width: u64) -> bool
 }
 
 // A width that TB1 takes.
-pub(crate) fn wide(width: u64) -> bool
+pub fn wide(width: u64) -> bool
     ensures { λ r. ⌜ r ≡ wideOf width ⌝ }
 {
     (16 <= width) & (width <= 32)

@@ -3,22 +3,20 @@
 -- Assumes nothing.
 use mathlib.Core.Path.{_≡_, refl, sym, ap, _∙_, subst}
 use mathlib.Core.Logic.{_↔_}
-use mathlib.Core.List.{List}
-use Prim.Native.Nat.{ℕ}
 
-pub record Inverse (P Q : List ℕ → Type 0) (f g : List ℕ → List ℕ) : Type 0 where
-  pub to : (x : List ℕ) → P x → Q (f x)
-  pub from : (y : List ℕ) → Q y → P (g y)
-  pub back : (x : List ℕ) → P x → g (f x) ≡ x
-  pub forth : (y : List ℕ) → Q y → f (g y) ≡ y
+pub record Inverse {A B : Type 0} (P : A → Type 0) (Q : B → Type 0) (f : A → B) (g : B → A) : Type 0 where
+  pub to : (x : A) → P x → Q (f x)
+  pub from : (y : B) → Q y → P (g y)
+  pub back : (x : A) → P x → g (f x) ≡ x
+  pub forth : (y : B) → Q y → f (g y) ≡ y
 
-module _ {P Q : List ℕ → Type 0} {f g : List ℕ → List ℕ} (m : Inverse P Q f g) where
+module _ {A B : Type 0} {P : A → Type 0} {Q : B → Type 0} {f : A → B} {g : B → A} (m : Inverse P Q f g) where
   -- what has Q is the image of something that has P ..
-  pub is-image : (y : List ℕ) → Q y ↔ ((x : List ℕ) × P x × (f x ≡ y))
+  pub is-image : (y : B) → Q y ↔ ((x : A) × P x × (f x ≡ y))
   is-image y = (λ q. (g y, m .from y q, m .forth y q), λ e. subst Q (e .2) (m .to (e .0) (e .1)))
 
   -- .. and of that alone
-  pub of-one : (x y : List ℕ) → P x → f x ≡ y → x ≡ g y
+  pub of-one : (x : A) (y : B) → P x → f x ≡ y → x ≡ g y
   of-one x y p e = sym (m .back x p) ∙ ap g e
 
   -- the other way round

@@ -23,4 +23,5 @@ pub mod ListingLaws
 pub mod FactLaws
 pub mod LineageLaws
 pub mod ColumnsLaws
+pub mod FindLaws
 pub mod Cases

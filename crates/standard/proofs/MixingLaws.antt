@@ -16,7 +16,7 @@ use Rattle.standard.specs.Mixing.{tb1}
 -- ---- digits and bytes
 
 -- n bits from bit s on do not show what stands above them
-below : (a x k s n : ℕ) → n + s ≤ k → (a * 2 ^ k + x) / 2 ^ s % 2 ^ n ≡ x / 2 ^ s % 2 ^ n
+pub below : (a x k s n : ℕ) → n + s ≤ k → (a * 2 ^ k + x) / 2 ^ s % 2 ^ n ≡ x / 2 ^ s % 2 ^ n
 below a x k s n h =
     let e : k ≡ k - (n + s) + (n + s) = omega arith in
     let m : (a * 2 ^ k + x) % 2 ^ (n + s) ≡ x % 2 ^ (n + s) =

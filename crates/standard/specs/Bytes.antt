@@ -62,6 +62,14 @@ bytesOf (suc n) x = x / 2 ^ (8 * n) % 256 ∷ bytesOf n x
 abbrev pub number3 : List ℕ → ℕ
 number3 b = 65536 * b ! 0 + 256 * b ! 1 + b ! 2
 
+-- the number that a string of any length spells (02, 10)
+abbrev pub numberOn : ℕ → List ℕ → ℕ
+numberOn acc [] = acc
+numberOn acc (b ∷ bs) = numberOn (acc * 256 + b) bs
+
+unfoldable pub number : List ℕ → ℕ
+number bs = numberOn 0 bs
+
 -- two strings are the same, as a test: from left to right
 abbrev pub sameOn : Bool → List ℕ → List ℕ → Bool
 sameOn t [] [] = t

@@ -17,6 +17,7 @@ pub mod Classes
 pub mod Lineage
 pub mod Register
 pub mod Columns
+pub mod Inverses
 pub mod Refusals
 pub mod Facts
 pub mod RunFacts

@@ -1,6 +1,6 @@
 -- Refusals (01, Who causes which number): the numbers by name, their tests, and the answers of single calls.
 -- A book is tested for 11, 1, 2 and 12, and then each of its records for 3, and for 4 and 5 when it is sealed or for 6 when it is opened.
--- A single call tests 11, 13, 7, 8, 9, 10, 5. A lineage sheet is tested for 1, 2 and 12, and then each of its records for 14, 15 and 16.
+-- A single call tests 11, 13, 7, 8, 9, 10, 5, 17. A lineage sheet is tested for 1, 2 and 12, and then each of its records for 14, 15 and 16.
 -- Assumes nothing.
 use mathlib.Core.Bool.{Bool, true, false, _&&_}
 use mathlib.Core.List.{List, [], _∷_}
@@ -16,11 +16,14 @@ use Rattle.standard.specs.declared.Bytes10.{Bytes10}
 use Rattle.standard.specs.declared.Bytes15.{Bytes15}
 use Rattle.standard.specs.declared.Bytes16.{Bytes16}
 use Rattle.standard.specs.declared.Bytes8.{Bytes8}
+use Rattle.standard.specs.declared.CarrierIdentity.{CarrierIdentity}
+use Rattle.standard.specs.declared.Cell.{Cell}
 use Rattle.standard.specs.declared.Identity.{Identity}
 use Rattle.standard.specs.declared.RingMade.{RingMade}
 use Rattle.standard.specs.declared.Unsealed.{Unsealed}
 use Rattle.standard.specs.declared.UnsealedGroup.{UnsealedGroup}
 use Rattle.standard.specs.declared.UnsealedNumbered.{UnsealedNumbered}
+use Rattle.standard.specs.declared.Value.{Value}
 
 -- ---- the candidate's
 
@@ -94,6 +97,10 @@ wrongParent = 15
 abbrev pub parentLength : ℕ
 parentLength = 16
 
+-- (02, 10) no input of the stated widths gives the result
+abbrev pub noInput : ℕ
+noInput = 17
+
 -- ---- tests
 
 -- the string has n bytes
@@ -151,3 +158,13 @@ unsealedGroup r k f = record { refusal = r; key = choose (eqb r 0) k (zeros 12);
 abbrev pub ringMade : ℕ → List ℕ → List ℕ → List ℕ → RingMade
 ringMade r k s t =
     record { refusal = r; ring = choose (eqb r 0) k (zeros ringSize); response1 = choose (eqb r 0) s (zeros 4); response2 = choose (eqb r 0) t (zeros 4) }
+
+abbrev pub value : ℕ → ℕ → Value
+value r v = record { refusal = r; value = choose (eqb r 0) v 0 }
+
+abbrev pub cell : ℕ → ℕ → ℕ → ℕ → Cell
+cell r la cn cc =
+    record { refusal = r; «location_area» = choose (eqb r 0) la 0; carrier = choose (eqb r 0) cn 0; «colour_code» = choose (eqb r 0) cc 0 }
+
+abbrev pub carrierIdentity : ℕ → ℕ → ℕ → CarrierIdentity
+carrierIdentity r cn ssi = record { refusal = r; carrier = choose (eqb r 0) cn 0; identity = choose (eqb r 0) ssi 0 }

@@ -1,0 +1,3 @@
+pub mod AgainLaws
+pub mod BitLaws
+pub mod SameLaws

@@ -1,0 +1,58 @@
+-- `inverses::bits::same` meets its contract.
+-- Assumes nothing.
+use mathlib.Core.Path.{_≡_, refl, sym, _∙_}
+use Prim.Native.Nat.{_-_, _≤_, zero-le}
+use native.Mathlib.Omega.{arith}
+use lib.ListN.{length, drop}
+use denote.Ref.{now}
+use Rattle.standard.specs.Bytes.{sameOn, same}
+use Rattle.inverses.proofs.SameLaws.{same-next, same-end}
+use Rattle.inverses.proofs.bits.same.Statement.{statement}
+use Rattle.inverses.proofs.bits.same.Tie as tie
+
+abbrev Inv-loop : tie.InvT-loop
+Inv-loop a b n t₀ i₀ t i = (i ≤ length a) × (same a b ≡ sameOn t (drop i a) (drop i b))
+
+abbrev μ-loop : tie.MeasureT-loop
+μ-loop a b n t₀ i₀ t i = length a - i
+
+loop-holds : tie.Need-loop-holds Inv-loop μ-loop
+loop-holds c = (zero-le, refl)
+
+shared-slice-read-t : tie.Need-shared-slice-read-t Inv-loop μ-loop
+shared-slice-read-t c = omega arith
+
+shared-slice-read-t-2 : tie.Need-shared-slice-read-t-2 Inv-loop μ-loop
+shared-slice-read-t-2 c = omega arith
+
+add-i : tie.Need-add-i Inv-loop μ-loop
+add-i c = omega arith
+
+loop-less : tie.Need-loop-less Inv-loop μ-loop
+loop-less c = omega arith
+
+loop-again : tie.Need-loop-again Inv-loop μ-loop
+loop-again c =
+    let at = c .before .before .before .loop in
+    let x = c .before .before .before .before .args in
+    (omega arith, at .inv .1 ∙ same-next (at .t) (now (x .a)) (now (x .b)) (at .i) (omega arith) (omega arith))
+
+returns : tie.Need-returns Inv-loop μ-loop
+returns c =
+    let at = c .before .loop in
+    let x = c .before .before .args in
+    sym (at .inv .1 ∙ same-end (at .t) (now (x .a)) (now (x .b)) (at .i) (omega arith) (omega arith))
+
+pub same-spec : {M : Type 1} → statement M
+same-spec =
+    tie.close
+    (tie.spec
+    Inv-loop
+    μ-loop
+    loop-holds
+    shared-slice-read-t
+    shared-slice-read-t-2
+    add-i
+    loop-less
+    loop-again
+    returns)

@@ -1,0 +1,95 @@
+-- `inverses::tb6_inverse` meets its contract.
+-- Assumes nothing.
+use mathlib.Core.Bool.{true, _&&_}
+use mathlib.Core.Path.{_≡_}
+use denote.Ref.{now}
+use borrow.Author.Needs.{needs}
+use Rattle.standard.proofs.BytesLaws.{and-split, failed, passed}
+use Rattle.standard.specs.Bytes.{xors}
+use Rattle.standard.specs.Inverses.{tb6⁻¹Call}
+use Rattle.standard.specs.Refusals.{long}
+use Rattle.inverses.proofs.AgainLaws.{result-length, tb6-again}
+use Rattle.inverses.proofs.tb6_inverse.Statement.{statement}
+use Rattle.inverses.proofs.tb6_inverse.Tie as tie
+
+both-long-requires : tie.Need-both-long-requires
+both-long-requires c κs = search needs
+
+refused-pair-requires : tie.Need-refused-pair-requires
+refused-pair-requires c κs = search needs
+
+returns : tie.Need-returns
+unfolding tb6⁻¹Call
+returns c = rw (c .refused-pair .ensures, failed (c .before .before .both-long .ensures) (c .before .if1 .taken))
+
+unmixed-requires : tie.Need-unmixed-requires
+unmixed-requires c κs = search needs
+
+field-requires : tie.Need-field-requires
+field-requires c κs = search needs
+
+field-requires-2 : tie.Need-field-requires-2
+field-requires-2 c κs = search needs
+
+cast-tb6 : tie.Need-cast-tb6
+cast-tb6 c = search needs
+
+cast-tb6-2 : tie.Need-cast-tb6-2
+cast-tb6-2 c = search needs
+
+tb6-requires : tie.Need-tb6-requires
+tb6-requires c κs = search needs
+
+slice-aggregate-same : tie.Need-slice-aggregate-same
+slice-aggregate-same c = search needs
+
+same-requires : tie.Need-same-requires
+same-requires c κs =
+    let tested = c .before .before .before .before .before .before in
+    let x = tested .before .before .before .before .args in
+    let n = result-length 10 10 (now (x .cipher-key)) (now (x .result)) (passed (tested .before .both-long .ensures) (tested .if1 .left)) in
+    search (needs, n)
+
+refused-pair-requires-2 : tie.Need-refused-pair-requires-2
+refused-pair-requires-2 c κs = search needs
+
+returns-2 : tie.Need-returns-2
+unfolding tb6⁻¹Call
+returns-2 c =
+    let made = c .before .before .before .before .before in
+    let tested = made .before .before .before .before in
+    let x = tested .before .before .before .before .args in
+    let l : long 10 (now (x .cipher-key)) && long 10 (now (x .result)) ≡ true = passed (tested .before .both-long .ensures) (tested .if1 .left) in
+    let b = xors 8 (now (x .cipher-key)) (now (x .result)) in
+    let e = rw (made .tb6 .ensures, made .before .field2 .ensures, made .before .before .field .ensures, made .before .before .before .unmixed .ensures, tb6-again (now (x .cipher-key)) b (and-split _ _ l .0)) at (c .before .before .same .ensures) in
+    rw (c .refused-pair2 .ensures, l, failed e (c .before .if2 .taken))
+
+returns-3 : tie.Need-returns-3
+unfolding tb6⁻¹Call
+returns-3 c =
+    let made = c .before .before .before .before in
+    let tested = made .before .before .before .before in
+    let x = tested .before .before .before .before .args in
+    let l : long 10 (now (x .cipher-key)) && long 10 (now (x .result)) ≡ true = passed (tested .before .both-long .ensures) (tested .if1 .left) in
+    let b = xors 8 (now (x .cipher-key)) (now (x .result)) in
+    let e = rw (made .tb6 .ensures, made .before .field2 .ensures, made .before .before .field .ensures, made .before .before .before .unmixed .ensures, tb6-again (now (x .cipher-key)) b (and-split _ _ l .0)) at (c .before .same .ensures) in
+    rw (made .before .field2 .ensures, made .before .before .field .ensures, made .before .before .before .unmixed .ensures, l, passed e (c .if2 .left))
+
+pub tb6-inverse-spec : {M : Type 1} → statement M
+tb6-inverse-spec =
+    tie.close
+    (tie.spec
+    both-long-requires
+    refused-pair-requires
+    returns
+    unmixed-requires
+    field-requires
+    field-requires-2
+    cast-tb6
+    cast-tb6-2
+    tb6-requires
+    slice-aggregate-same
+    same-requires
+    refused-pair-requires-2
+    returns-2
+    returns-3)

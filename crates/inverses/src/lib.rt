@@ -1,0 +1,146 @@
+// Which input gave a result: the inverses of TB1, TB3, TB5 and TB6. The fields are read off the first eight bytes, and answered if they
+// give the whole result again.
+mod bits;
+
+use crate::bits::field;
+use crate::bits::same;
+use crate::bits::unmixed;
+use arrays::array8;
+use arrays::both_long;
+use mixing::tb1;
+use mixing::tb3;
+use mixing::tb5;
+use mixing::tb6;
+use mixing::wide;
+use standard::CarrierIdentity;
+use standard::Cell;
+use standard::NO_INPUT;
+use standard::Value;
+use standard::WRONG_LENGTH;
+use standard::WRONG_WIDTH;
+ghost use mathlib.Core.List.{[], _∷_};
+ghost use mathlib.Core.Path.{_≡_};
+ghost use lib.ListN.{length};
+ghost use Rattle.standard.specs.Bytes.{same as sameOf};
+ghost use Rattle.standard.specs.Inverses.{tb1⁻¹Call, tb3⁻¹Call, tb5⁻¹Call, tb6⁻¹Call};
+ghost use Rattle.standard.specs.Refusals.{noInput, first, value as valueOf};
+
+fn refused_value(number: u32) -> Value
+    ensures { λ r. ⌜ r ≡ record { refusal = number; value = 0 } ⌝ }
+{
+    Value {
+        refusal: number,
+        value: 0,
+    }
+}
+
+fn refused_cell(number: u32) -> Cell
+    ensures { λ r. ⌜ r ≡ record { refusal = number; «location_area» = 0; carrier = 0; «colour_code» = 0 } ⌝ }
+{
+    Cell {
+        refusal: number,
+        location_area: 0,
+        carrier: 0,
+        colour_code: 0,
+    }
+}
+
+fn refused_pair(number: u32) -> CarrierIdentity
+    ensures { λ r. ⌜ r ≡ record { refusal = number; carrier = 0; identity = 0 } ⌝ }
+{
+    CarrierIdentity {
+        refusal: number,
+        carrier: 0,
+        identity: 0,
+    }
+}
+
+// The value, if what was made of it is the result.
+fn confirmed(value: u32, made: [u8; 16], result: &[u8]) -> Value
+    requires { ⌜ length (now result) ≡ 16 ⌝ }
+    ensures { λ r. ⌜ r ≡ valueOf (first ((sameOf made (now (result .entry)), noInput) ∷ [])) value ⌝ }
+{
+    if !same(&made, result) {
+        return refused_value(NO_INPUT);
+    }
+    Value { refusal: 0, value }
+}
+
+pub fn tb1_inverse(result: &[u8], width: u64) -> Value
+    ensures { λ r. ⌜ r ≡ tb1⁻¹Call (now (result .entry)) width ⌝ }
+{
+    if result.len() != 16 {
+        return refused_value(WRONG_LENGTH);
+    }
+    if !wide(width) {
+        return refused_value(WRONG_WIDTH);
+    }
+    let value = field(array8(result), 0, width);
+    let made = tb1(value as u64, width);
+    let bytes = made.bytes;
+    confirmed(value, bytes, result)
+}
+
+pub fn tb3_inverse(input: &[u8], result: &[u8], width: u64) -> Value
+    ensures { λ r. ⌜ r ≡ tb3⁻¹Call (now (input .entry)) (now (result .entry)) width ⌝ }
+{
+    if !both_long(input, 16, result, 16) {
+        return refused_value(WRONG_LENGTH);
+    }
+    if !wide(width) {
+        return refused_value(WRONG_WIDTH);
+    }
+    let value = field(unmixed(input, result), 0, width);
+    let made = tb3(input, value as u64, width);
+    let bytes = made.bytes;
+    confirmed(value, bytes, result)
+}
+
+pub fn tb5_inverse(cipher_key: &[u8], result: &[u8]) -> Cell
+    ensures { λ r. ⌜ r ≡ tb5⁻¹Call (now («cipher_key» .entry)) (now (result .entry)) ⌝ }
+{
+    if !both_long(cipher_key, 10, result, 10) {
+        return refused_cell(WRONG_LENGTH);
+    }
+    let front = unmixed(cipher_key, result);
+    let location_area = field(front, 0, 14);
+    let carrier = field(front, 14, 12);
+    let colour_code = field(front, 26, 6);
+    let made = tb5(
+        cipher_key,
+        location_area as u64,
+        carrier as u64,
+        colour_code as u64,
+    );
+    let bytes = made.bytes;
+    if !same(&bytes, result) {
+        return refused_cell(NO_INPUT);
+    }
+    Cell {
+        refusal: 0,
+        location_area,
+        carrier,
+        colour_code,
+    }
+}
+
+pub fn tb6_inverse(cipher_key: &[u8], result: &[u8]) -> CarrierIdentity
+    ensures { λ r. ⌜ r ≡ tb6⁻¹Call (now («cipher_key» .entry)) (now (result .entry)) ⌝ }
+{
+    if !both_long(cipher_key, 10, result, 10) {
+        return refused_pair(WRONG_LENGTH);
+    }
+    let front = unmixed(cipher_key, result);
+    let carrier = field(front, 0, 12);
+    let identity = field(front, 12, 24);
+    let made = tb6(cipher_key, carrier as u64, identity as u64);
+    let bytes = made.bytes;
+    if !same(&bytes, result) {
+        return refused_pair(NO_INPUT);
+    }
+    CarrierIdentity {
+        refusal: 0,
+        carrier,
+        identity,
+    }
+}
