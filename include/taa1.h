@@ -85,6 +85,7 @@ enum taa1_refusal {
     TAA1_WRONG_FILLING = 14, /* a sheet's operation is above 5, or its record wrongly filled */
     TAA1_WRONG_PARENT = 15,  /* a parent's index is not below that of its own record */
     TAA1_PARENT_LENGTH = 16, /* a parent has another length than the operation takes */
+    TAA1_NO_INPUT = 17,      /* no input of the stated widths gives the result */
 
     /* caused by the host */
     TAA1_WRONG_LENGTH = 11, /* an input has another length than its call takes */
@@ -111,6 +112,7 @@ static inline const char *taa1_refusal_text(uint32_t refusal)
     case TAA1_WRONG_FILLING: return "operation above 5 or wrong filling";
     case TAA1_WRONG_PARENT: return "parent not before its record";
     case TAA1_PARENT_LENGTH: return "parent of a wrong length";
+    case TAA1_NO_INPUT: return "no input gives this result";
     default: return "not in the list";
     }
 }
@@ -157,6 +159,24 @@ typedef struct {
     uint32_t refusal;
     uint32_t identity;
 } taa1_identity;
+
+typedef struct {
+    uint32_t refusal;
+    uint32_t value;
+} taa1_value;
+
+typedef struct {
+    uint32_t refusal;
+    uint32_t location_area;
+    uint32_t carrier;
+    uint32_t colour_code;
+} taa1_cell;
+
+typedef struct {
+    uint32_t refusal;
+    uint32_t carrier;
+    uint32_t identity;
+} taa1_carrier_identity;
 
 /*
  * A bit of failed_checks is set exactly if its check of the text fails. Bit 0
@@ -384,6 +404,29 @@ taa1_bytes10 taa1_tb6(const uint8_t *cipher_key, size_t cipher_key_length,
 
 /* A group key [12], with the xor of each three bytes behind them. */
 taa1_bytes16 taa1_tb7(const uint8_t *group_key, size_t group_key_length);
+
+/*
+ * ---- The inverses of TB1, TB3, TB5 and TB6 ----
+ *
+ * Each answers the input that gives the result, which is the only one, or refuses
+ * with TAA1_NO_INPUT where none does.
+ */
+
+/* The value, of that width, of which TB1 makes the result [16]. */
+taa1_value taa1_tb1_inverse(const uint8_t *result, size_t result_length, uint64_t width);
+
+/* The value, of that width, of which TB3 makes the result [16] with the input [16]. */
+taa1_value taa1_tb3_inverse(const uint8_t *input, size_t input_length,
+                            const uint8_t *result, size_t result_length,
+                            uint64_t width);
+
+/* The cell for which TB5 makes the result [10] of the cipher key [10]. */
+taa1_cell taa1_tb5_inverse(const uint8_t *cipher_key, size_t cipher_key_length,
+                           const uint8_t *result, size_t result_length);
+
+/* The carrier and identity for which TB6 makes the result [10] of the cipher key [10]. */
+taa1_carrier_identity taa1_tb6_inverse(const uint8_t *cipher_key, size_t cipher_key_length,
+                                       const uint8_t *result, size_t result_length);
 
 /*
  * ---- A ring from a root [16], two seeds, two challenges, c [10 each] and a group key [12] ----

@@ -123,6 +123,13 @@ static void single_calls(bool at_end, int longer)
     CHECK(taa1_tb5(S(key), 1, 2, 3).refusal == wanted);
     CHECK(taa1_tb6(S(key), 1, 2).refusal == wanted);
     CHECK(taa1_tb7(S(group_key)).refusal == wanted);
+    uint32_t no_input = longer == 0 ? TAA1_NO_INPUT : TAA1_WRONG_LENGTH;
+    CHECK(taa1_tb1_inverse(S(root), 20).refusal == no_input);
+    CHECK(taa1_tb3_inverse(S(root), S(root), 20).refusal == wanted);
+    CHECK(taa1_tb5_inverse(S(key), S(key)).refusal == wanted);
+    CHECK(taa1_tb5_inverse(S(key), S(key2)).refusal == no_input);
+    CHECK(taa1_tb6_inverse(S(key), S(key)).refusal == wanted);
+    CHECK(taa1_tb6_inverse(S(key), S(key2)).refusal == no_input);
     for (uint64_t sides = 1; sides <= 3; sides++)
         CHECK(taa1_ring(S(root), S(key), S(key2), S(key), S(key2), S(key), S(group_key),
                         sides, response_mask, key_mask).refusal == wanted);

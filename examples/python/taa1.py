@@ -57,6 +57,7 @@ class Refusal(IntEnum):
     WRONG_FILLING = 14
     WRONG_PARENT = 15
     PARENT_LENGTH = 16
+    NO_INPUT = 17
 
 
 NAMES: dict[int, str] = {
@@ -76,6 +77,7 @@ NAMES: dict[int, str] = {
     Refusal.WRONG_FILLING: "operation above 5 or wrong filling",
     Refusal.WRONG_PARENT: "parent not before its record",
     Refusal.PARENT_LENGTH: "parent of a wrong length",
+    Refusal.NO_INPUT: "no input gives this result",
 }
 
 
@@ -197,6 +199,21 @@ class UnsealedNumbered(NamedTuple):
     failed_checks: FailedChecks
 
 
+class Cell(NamedTuple):
+    """A location area of 14 bits, a carrier of 12, a colour code of 6."""
+
+    location_area: int
+    carrier: int
+    colour_code: int
+
+
+class CarrierIdentity(NamedTuple):
+    """A carrier of 12 bits and an identity of 24."""
+
+    carrier: int
+    identity: int
+
+
 class Book(NamedTuple):
     """A book that the engine wrote, and the number of its records."""
 
@@ -250,6 +267,9 @@ _BYTES15 = _answer(bytes, bytes=c_uint8 * 15)
 _BYTES16 = _answer(bytes, bytes=c_uint8 * 16)
 _AUTHENTICATION = _answer(Authentication, response=c_uint8 * 4, key=c_uint8 * 10)
 _IDENTITY = _answer(int, identity=c_uint32)
+_VALUE = _answer(int, value=c_uint32)
+_CELL = _answer(Cell, location_area=c_uint32, carrier=c_uint32, colour_code=c_uint32)
+_CARRIER_IDENTITY = _answer(CarrierIdentity, carrier=c_uint32, identity=c_uint32)
 _UNSEALED = _answer(_unsealed, key=c_uint8 * 10, failed_checks=c_uint16)
 _UNSEALED_NUMBERED = _answer(
     _numbered, key=c_uint8 * 10, number=c_uint16, failed_checks=c_uint16
@@ -311,6 +331,10 @@ _CALLS: dict[str, tuple[type[ctypes.Structure], tuple[Any, ...]]] = {
     "tb5": (_BYTES10, (bytes, c_uint64, c_uint64, c_uint64)),
     "tb6": (_BYTES10, (bytes, c_uint64, c_uint64)),
     "tb7": (_BYTES16, (bytes,)),
+    "tb1_inverse": (_VALUE, (bytes, c_uint64)),
+    "tb3_inverse": (_VALUE, (bytes, bytes, c_uint64)),
+    "tb5_inverse": (_CELL, (bytes, bytes)),
+    "tb6_inverse": (_CARRIER_IDENTITY, (bytes, bytes)),
     "ring": (_RING_MADE, (bytes,) * 7 + (c_uint64, *_MASKS)),
     "seal_book": (_COUNTED, (bytes, bytes, bytearray)),
     "open_book": (_COUNTED, (bytes, bytes, bytearray)),
@@ -529,6 +553,22 @@ class Engine:
     def tb7(self, group_key: Bytes) -> bytes:
         """A group key of 12 bytes, with the xor of each three bytes behind them."""
         return self._call("tb7", group_key)
+
+    def tb1_inverse(self, result: Bytes, width: int) -> int:
+        """The only value of that width of which `tb1` makes the result of 16 bytes."""
+        return self._call("tb1_inverse", result, width)
+
+    def tb3_inverse(self, input: Bytes, result: Bytes, width: int) -> int:
+        """The only value of that width of which `tb3` makes the result of 16 bytes."""
+        return self._call("tb3_inverse", input, result, width)
+
+    def tb5_inverse(self, cipher_key: Bytes, result: Bytes) -> Cell:
+        """The only cell for which `tb5` makes the result of 10 bytes."""
+        return self._call("tb5_inverse", cipher_key, result)
+
+    def tb6_inverse(self, cipher_key: Bytes, result: Bytes) -> CarrierIdentity:
+        """The only carrier and identity for which `tb6` makes the result of 10 bytes."""
+        return self._call("tb6_inverse", cipher_key, result)
 
     def ring(self, sitting: Sitting) -> RingMade:
         """The ring of a sitting, and both responses.

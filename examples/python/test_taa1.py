@@ -21,6 +21,8 @@ from taa1 import (
     SHEET_RECORD_BYTES,
     SHEET_VALUE_BYTES,
     SITTING_BYTES,
+    CarrierIdentity,
+    Cell,
     KeyNumber,
     Kind,
     Refusal,
@@ -127,6 +129,10 @@ ACCEPTED: dict[str, tuple[Any, ...]] = {
     "tb5": (KEY, 1, 1, 1),
     "tb6": (KEY, 1, 1),
     "tb7": (upward(12),),
+    "tb1_inverse": (ENGINE.tb1(1, 16), 16),
+    "tb3_inverse": (ROOT, ENGINE.tb3(ROOT, 1, 16), 16),
+    "tb5_inverse": (KEY, ENGINE.tb5(KEY, 1, 1, 1)),
+    "tb6_inverse": (KEY, ENGINE.tb6(KEY, 1, 1)),
     "ring": SITTING,
     "seal_book": (RING, BOOK[0]),
     "open_book": (RING, ENGINE.seal_book(RING, BOOK[0]).content),
@@ -313,6 +319,16 @@ class Results(unittest.TestCase):
         carried = bytes.fromhex("ab c1 23 45 6a bc 12 34 56 56")
         self.assertEqual(ENGINE.tb6(KEY, 0xABC, 0x123456), xor(KEY, carried))
 
+    def test_inverses(self) -> None:
+        for value, width in ((0x12345, 20), (0, 16), (0xFFFF, 16), (0xFEDCBA98, 32)):
+            repeated = ENGINE.tb1(value, width)
+            self.assertEqual(ENGINE.tb1_inverse(repeated, width), value)
+            self.assertEqual(ENGINE.tb3_inverse(ROOT, xor(ROOT, repeated), width), value)
+        cell = Cell(0x2ABC, 0xDEF, 0x15)
+        self.assertEqual(ENGINE.tb5_inverse(KEY, ENGINE.tb5(KEY, *cell)), cell)
+        carried = CarrierIdentity(0xABC, 0x123456)
+        self.assertEqual(ENGINE.tb6_inverse(KEY, ENGINE.tb6(KEY, *carried)), carried)
+
     def test_ring(self) -> None:
         root, rs, rso, rand1, rand2, c, group_key, _, *masks = SITTING
         first = ENGINE.ta12(ENGINE.ta11(root, rs), rand1, *masks)
@@ -449,6 +465,17 @@ class Refusals(unittest.TestCase):
         self.refuses(Refusal.VALUE_WIDE, None, "ta61", KEY, 1 << 24)
         self.refuses(Refusal.VALUE_WIDE, None, "tb1", 1 << 16, 16)
 
+    def test_no_input(self) -> None:
+        """The length goes before the width, the width before the input."""
+        self.refuses(Refusal.WRONG_LENGTH, None, "tb1_inverse", KEY, 15)
+        self.refuses(Refusal.WRONG_WIDTH, None, "tb1_inverse", ROOT, 15)
+        self.refuses(Refusal.WRONG_WIDTH, None, "tb3_inverse", ROOT, ROOT, 33)
+        self.refuses(Refusal.NO_INPUT, None, "tb1_inverse", ROOT, 16)
+        self.refuses(Refusal.NO_INPUT, None, "tb3_inverse", ROOT, KEY + KEY[:6], 16)
+        for name in ("tb5_inverse", "tb6_inverse"):
+            *front, last = ACCEPTED[name][1]
+            self.refuses(Refusal.NO_INPUT, None, name, KEY, bytes([*front, last ^ 1]))
+
     def test_lengths(self) -> None:
         """A string of a wrong length, in each place that has a fixed one."""
         books = (
@@ -501,7 +528,7 @@ class Values(unittest.TestCase):
         """ACCEPTED, which the tests below go by, has each call, and each accepts it."""
         public = {name for name in vars(taa1.Engine) if not name.startswith("_")}
         self.assertEqual(set(ACCEPTED), public)
-        self.assertEqual(len(public), 39)
+        self.assertEqual(len(public), 43)
         for name, values in ACCEPTED.items():
             with self.subTest(name):
                 call(name, *values)

@@ -113,6 +113,21 @@ pub struct UnsealedNumbered {
     pub failed_checks: FailedChecks,
 }
 
+/// A location area of 14 bits, a carrier of 12, a colour code of 6.
+#[derive(Clone, Copy, Debug, PartialEq, Eq)]
+pub struct Cell {
+    pub location_area: u32,
+    pub carrier: u32,
+    pub colour_code: u32,
+}
+
+/// A carrier of 12 bits and an identity of 24.
+#[derive(Clone, Copy, Debug, PartialEq, Eq)]
+pub struct CarrierIdentity {
+    pub carrier: u32,
+    pub identity: u32,
+}
+
 /// A book that the engine wrote, and the number of its records.
 #[derive(Clone, Debug, PartialEq, Eq)]
 pub struct Book {
@@ -364,6 +379,39 @@ pub fn tb7(group_key: &[u8]) -> Result<[u8; 16], Refusal> {
     bytes(call!(tb7([group_key])))
 }
 
+/// The only value of that width of which [`tb1`] makes the result of 16 bytes.
+pub fn tb1_inverse(result: &[u8], width: u64) -> Result<u32, Refusal> {
+    valued(call!(tb1_inverse([result], width)))
+}
+
+/// The only value of that width of which [`tb3`] makes the result of 16 bytes with
+/// the input of 16.
+pub fn tb3_inverse(input: &[u8], result: &[u8], width: u64) -> Result<u32, Refusal> {
+    valued(call!(tb3_inverse([input], [result], width)))
+}
+
+/// The only cell for which [`tb5`] makes the result of 10 bytes of the cipher key.
+pub fn tb5_inverse(cipher_key: &[u8], result: &[u8]) -> Result<Cell, Refusal> {
+    let answer = call!(tb5_inverse([cipher_key], [result]));
+    Refusal::test(answer.refusal)?;
+    Ok(Cell {
+        location_area: answer.location_area,
+        carrier: answer.carrier,
+        colour_code: answer.colour_code,
+    })
+}
+
+/// The only carrier and identity for which [`tb6`] makes the result of 10 bytes of
+/// the cipher key.
+pub fn tb6_inverse(cipher_key: &[u8], result: &[u8]) -> Result<CarrierIdentity, Refusal> {
+    let answer = call!(tb6_inverse([cipher_key], [result]));
+    Refusal::test(answer.refusal)?;
+    Ok(CarrierIdentity {
+        carrier: answer.carrier,
+        identity: answer.identity,
+    })
+}
+
 /// The ring of a sitting, and both responses. A side that does not run gives
 /// zeros for its key and its response.
 pub fn ring(sitting: &Sitting) -> Result<RingMade, Refusal> {
@@ -490,6 +538,11 @@ fn numbered(answer: raw::UnsealedNumbered) -> Result<UnsealedNumbered, Refusal> 
 fn identified(answer: raw::Identity) -> Result<u32, Refusal> {
     Refusal::test(answer.refusal)?;
     Ok(answer.identity)
+}
+
+fn valued(answer: raw::Value) -> Result<u32, Refusal> {
+    Refusal::test(answer.refusal)?;
+    Ok(answer.value)
 }
 
 fn records(answer: &raw::BookAnswer) -> Result<usize, BookRefusal> {

@@ -28,6 +28,30 @@ pub struct Identity {
 
 #[repr(C)]
 #[derive(Clone, Copy, Debug, PartialEq, Eq)]
+pub struct Value {
+    pub refusal: u32,
+    pub value: u32,
+}
+
+#[repr(C)]
+#[derive(Clone, Copy, Debug, PartialEq, Eq)]
+pub struct Cell {
+    pub refusal: u32,
+    pub location_area: u32,
+    pub carrier: u32,
+    pub colour_code: u32,
+}
+
+#[repr(C)]
+#[derive(Clone, Copy, Debug, PartialEq, Eq)]
+pub struct CarrierIdentity {
+    pub refusal: u32,
+    pub carrier: u32,
+    pub identity: u32,
+}
+
+#[repr(C)]
+#[derive(Clone, Copy, Debug, PartialEq, Eq)]
 pub struct Unsealed<const N: usize> {
     pub refusal: u32,
     pub key: [u8; N],
@@ -107,6 +131,10 @@ macro_rules! calls {
             tb5([cipher_key], location_area: u64, carrier: u64, colour_code: u64) -> Bytes<10>;
             tb6([cipher_key], carrier: u64, identity: u64) -> Bytes<10>;
             tb7([group_key]) -> Bytes<16>;
+            tb1_inverse([result], width: u64) -> Value;
+            tb3_inverse([input], [result], width: u64) -> Value;
+            tb5_inverse([cipher_key], [result]) -> Cell;
+            tb6_inverse([cipher_key], [result]) -> CarrierIdentity;
             ring(
                 [root], [rs], [rso], [rand1], [rand2], [c], [group_key],
                 sides: u64, response_mask: u16, key_mask: u16

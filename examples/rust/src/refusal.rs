@@ -1,4 +1,4 @@
-//! The sixteen refusals.
+//! The seventeen refusals.
 
 use std::error::Error;
 use std::fmt;
@@ -22,10 +22,11 @@ pub enum Refusal {
     WrongFilling = 14,
     WrongParent = 15,
     ParentLength = 16,
+    NoInput = 17,
 }
 
 impl Refusal {
-    pub const ALL: [Refusal; 16] = [
+    pub const ALL: [Refusal; 17] = [
         Refusal::BookTooLong,
         Refusal::BookNotWhole,
         Refusal::WrongKind,
@@ -42,6 +43,7 @@ impl Refusal {
         Refusal::WrongFilling,
         Refusal::WrongParent,
         Refusal::ParentLength,
+        Refusal::NoInput,
     ];
 
     pub fn number(self) -> u32 {
@@ -66,6 +68,7 @@ impl Refusal {
             Refusal::WrongFilling => "operation above 5 or wrong filling",
             Refusal::WrongParent => "parent not before its record",
             Refusal::ParentLength => "parent of a wrong length",
+            Refusal::NoInput => "no input gives this result",
         }
     }
 
@@ -73,7 +76,7 @@ impl Refusal {
     pub(crate) fn test(number: u32) -> Result<(), Refusal> {
         match number {
             0 => Ok(()),
-            1..=16 => Err(Refusal::ALL[number as usize - 1]),
+            1..=17 => Err(Refusal::ALL[number as usize - 1]),
             _ => unreachable!("the engine has no refusal {number}"),
         }
     }

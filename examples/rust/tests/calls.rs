@@ -4,9 +4,10 @@ use std::array::from_fn;
 use std::thread;
 
 use taa1::{
-    Authentication, Book, BookRefusal, CountedBook, CountedRefusal, FailedChecks, KeyNumber, Kind,
-    Refusal, RingMade, Sitting, Unsealed, UnsealedNumbered, Version, CHALLENGE_BYTES, MOST_RECORDS,
-    PLAIN_RECORD_BYTES, RING_BYTES, SEALED_RECORD_BYTES, SHEET_RECORD_BYTES, SHEET_VALUE_BYTES,
+    Authentication, Book, BookRefusal, CarrierIdentity, Cell, CountedBook, CountedRefusal,
+    FailedChecks, KeyNumber, Kind, Refusal, RingMade, Sitting, Unsealed, UnsealedNumbered, Version,
+    CHALLENGE_BYTES, MOST_RECORDS, PLAIN_RECORD_BYTES, RING_BYTES, SEALED_RECORD_BYTES,
+    SHEET_RECORD_BYTES, SHEET_VALUE_BYTES,
 };
 
 const ROOT: [u8; 16] = *b"a root or key...";
@@ -384,6 +385,53 @@ fn keys_are_made_for_cells() {
     assert_eq!(taa1::tb6(&KEY, 0xabc, 0x123456), Ok(xor(KEY, carried)));
 }
 
+#[test]
+fn inputs_are_found() {
+    for (value, width) in [(0x12345, 20), (0, 16), (0xffff, 16), (0xfedcba98, 32)] {
+        let repeated = taa1::tb1(value, width).unwrap();
+        assert_eq!(taa1::tb1_inverse(&repeated, width), Ok(value as u32));
+        let mixed = xor(ROOT, repeated);
+        assert_eq!(taa1::tb3_inverse(&ROOT, &mixed, width), Ok(value as u32));
+    }
+    let cell = Cell {
+        location_area: 0x2abc,
+        carrier: 0xdef,
+        colour_code: 0x15,
+    };
+    let made = taa1::tb5(&KEY, 0x2abc, 0xdef, 0x15).unwrap();
+    assert_eq!(taa1::tb5_inverse(&KEY, &made), Ok(cell));
+    let carried = CarrierIdentity {
+        carrier: 0xabc,
+        identity: 0x123456,
+    };
+    let made = taa1::tb6(&KEY, 0xabc, 0x123456).unwrap();
+    assert_eq!(taa1::tb6_inverse(&KEY, &made), Ok(carried));
+}
+
+/// No input gives a result with one bit changed, but where that is a bit of TB5's
+/// location area, which stands there once.
+#[test]
+fn results_without_an_input_are_refused() {
+    let none = Some(Refusal::NoInput);
+    for bit in 0..128 {
+        let mut result = taa1::tb1(0x12345, 20).unwrap();
+        result[bit / 8] ^= 0x80 >> (bit % 8);
+        assert_eq!(taa1::tb1_inverse(&result, 20).err(), none, "bit {bit}");
+        let mixed = xor(ROOT, result);
+        assert_eq!(taa1::tb3_inverse(&ROOT, &mixed, 20).err(), none);
+    }
+    for bit in 0..80 {
+        let mut cell = taa1::tb5(&KEY, 1, 2, 3).unwrap();
+        cell[bit / 8] ^= 0x80 >> (bit % 8);
+        let once = bit < 14;
+        let found = taa1::tb5_inverse(&KEY, &cell);
+        assert_eq!(found.err(), none.filter(|_| !once), "bit {bit}");
+        let mut carried = taa1::tb6(&KEY, 1, 2).unwrap();
+        carried[bit / 8] ^= 0x80 >> (bit % 8);
+        assert_eq!(taa1::tb6_inverse(&KEY, &carried).err(), none, "bit {bit}");
+    }
+}
+
 /// A sitting of so many sides.
 fn sitting(sides: u64) -> Sitting<'static> {
     Sitting {
@@ -629,6 +677,12 @@ fn single_calls_are_refused() {
     assert_eq!(taa1::tb1(1 << 16, 16), Err(Refusal::ValueWide));
     assert_eq!(taa1::ta61(&KEY, 1 << 24), Err(Refusal::ValueWide));
     assert_eq!(taa1::encrypt(&KEY, b"8 bytes."), Err(Refusal::WrongLength));
+    // The length goes before the width, the width before the input.
+    assert_eq!(taa1::tb1_inverse(&KEY, 15), Err(Refusal::WrongLength));
+    assert_eq!(taa1::tb1_inverse(&ROOT, 15), Err(Refusal::WrongWidth));
+    let wide = taa1::tb3_inverse(&ROOT, &ROOT, 33);
+    assert_eq!(wide, Err(Refusal::WrongWidth));
+    assert_eq!(taa1::tb1_inverse(&ROOT, 16), Err(Refusal::NoInput));
     for sides in [0, 4, 259, (1 << 32) + 1, u64::MAX] {
         let made = taa1::ring(&sitting(sides));
         assert_eq!(made, Err(Refusal::WrongSides), "sides {sides}");
