@@ -9,8 +9,15 @@ pub mod columns;
 pub mod damaged;
 pub mod engine;
 pub mod hurdle;
+pub mod inverses;
 pub mod lineage;
 pub mod random;
 pub mod settings;
 pub mod taa1;
 pub mod tally;
+
+/// The single calls of the independent implementation.
+pub mod other {
+    pub use crate::inverses::*;
+    pub use crate::taa1::*;
+}

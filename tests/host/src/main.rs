@@ -8,6 +8,7 @@ mod column_calls;
 mod derivation;
 mod edges;
 mod identity;
+mod inverse_calls;
 mod lineage_calls;
 mod list;
 mod masks;
@@ -27,6 +28,7 @@ fn main() -> ExitCode {
     seals::run(&mut tally, &mut random);
     identity::run(&mut tally, &mut random);
     mixing::run(&mut tally, &mut random);
+    inverse_calls::run(&mut tally, &mut random);
     ring::run(&mut tally, &mut random);
     book_calls::run(&mut tally, &mut random);
     class_calls::run(&mut tally, &mut random);

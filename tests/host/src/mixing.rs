@@ -8,10 +8,10 @@ use host::tally::Tally;
 use std::fmt::Debug;
 
 const TIMES: usize = 50_000;
-const LOCATION_AREA_BITS: u64 = 14;
-const CARRIER_BITS: u64 = 12;
-const COLOUR_CODE_BITS: u64 = 6;
-const IDENTITY_BITS: u64 = 24;
+pub const LOCATION_AREA_BITS: u64 = 14;
+pub const CARRIER_BITS: u64 = 12;
+pub const COLOUR_CODE_BITS: u64 = 6;
+pub const IDENTITY_BITS: u64 = 24;
 
 pub fn run(tally: &mut Tally, random: &mut Random) {
     repeated_groups(tally, random);
@@ -37,7 +37,7 @@ pub fn run(tally: &mut Tally, random: &mut Random) {
 }
 
 /// All around 16 to 32, and wide ones whose low bits are right.
-fn widths() -> impl Iterator<Item = u64> {
+pub fn widths() -> impl Iterator<Item = u64> {
     let wide = [8, 16, 32, 63].into_iter().flat_map(|bit| {
         let wide = 1 << bit;
         [wide, wide + 16, wide + 32]

@@ -69,7 +69,7 @@ pub struct RingMade {
 }
 
 /// What a call answers when it refuses.
-trait Answer {
+pub(crate) trait Answer {
     fn refused(refusal: u32) -> Self;
 }
 
@@ -133,7 +133,7 @@ impl Answer for RingMade {
 }
 
 /// Runs a call that stops at its first refusal.
-fn answer<A: Answer>(call: impl FnOnce() -> Result<A, u32>) -> A {
+pub(crate) fn answer<A: Answer>(call: impl FnOnce() -> Result<A, u32>) -> A {
     call().unwrap_or_else(A::refused)
 }
 
@@ -166,7 +166,7 @@ fn check_sides(sides: u64) -> Result<(), u32> {
 }
 
 /// Refusal 9.
-fn check_width(width: u64) -> Result<(), u32> {
+pub(crate) fn check_width(width: u64) -> Result<(), u32> {
     if (16..=32).contains(&width) {
         Ok(())
     } else {

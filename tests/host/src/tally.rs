@@ -122,7 +122,7 @@ macro_rules! compare {
         $crate::compare!(
             $group,
             $call($($([$bytes])? $($number)?),*),
-            $crate::taa1::$call($($(&$bytes[..])? $($number)?),*)
+            $crate::other::$call($($(&$bytes[..])? $($number)?),*)
         )
     };
 }

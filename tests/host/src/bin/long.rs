@@ -139,4 +139,26 @@ fn mixing(group: &mut Group, random: &mut Random) {
     compare!(group, tb5([key1], location_area, carrier, colour_code));
     compare!(group, tb6([key1], carrier, identity));
     compare!(group, tb7([group_key]));
+    inverses(group, random, &key1, &input);
+}
+
+/// Of right results, and of results with a bit flipped.
+fn inverses(group: &mut Group, random: &mut Random, key: &[u8], input: &[u8]) {
+    let width = 15 + random.number() % 19;
+    let (repeated, carrier) = (value(random, width), value(random, 12));
+    let (flip, at) = ((random.below(2) as u8) << random.below(8), random.below(10));
+    let damaged = |mut result: Vec<u8>| {
+        result[at] ^= flip;
+        result
+    };
+    let result = damaged(engine::tb1(repeated, width).bytes.to_vec());
+    compare!(group, tb1_inverse([result], width));
+    let result = damaged(engine::tb3(input, repeated, width).bytes.to_vec());
+    compare!(group, tb3_inverse([input], [result], width));
+    let (location_area, colour_code) = (value(random, 14), value(random, 6));
+    let result = engine::tb5(key, location_area, carrier, colour_code).bytes;
+    let result = damaged(result.to_vec());
+    compare!(group, tb5_inverse([key], [result]));
+    let result = damaged(engine::tb6(key, carrier, value(random, 24)).bytes.to_vec());
+    compare!(group, tb6_inverse([key], [result]));
 }
