@@ -6,6 +6,7 @@ use standard::Bytes8;
 use standard::Bytes10;
 use standard::Bytes15;
 use standard::Bytes16;
+use standard::Card;
 use standard::CarrierIdentity;
 use standard::Cell;
 use standard::CountedAnswer;
@@ -19,6 +20,7 @@ use standard::Value;
 use standard::Version;
 ghost use mathlib.Core.Path.{_≡_};
 ghost use Rattle.standard.specs.Books.{sealBook, openBook, checkPlain};
+ghost use Rattle.standard.specs.Cards.{restoreCall};
 ghost use Rattle.standard.specs.Classes.{ta12ClassCall};
 ghost use Rattle.standard.specs.Columns.{toColumns, fromColumns, columnsCall};
 ghost use Rattle.standard.specs.Derivation.{ta11Call, ta21Call, ta41Call, ta12Call, ta22Call, ta71Call, ta101Call, ringCall};
@@ -383,4 +385,11 @@ pub extern "C" fn taa1_sealed_from_columns(columns: &[u8], out: &mut [u8]) -> Bo
     ensures { λ r. ⌜ (r, now (out .exit)) ≡ columnsCall sealedSize fromColumns (now (columns .entry)) (now (out .entry)) ⌝ }
 {
     columns::sealed_from_columns(columns, out)
+}
+
+#[no_mangle]
+pub extern "C" fn taa1_restore_card(card: &[u8], unreadable: u16) -> Card
+    ensures { λ r. ⌜ r ≡ restoreCall (now (card .entry)) unreadable ⌝ }
+{
+    cards::restore_card(card, unreadable)
 }

@@ -30,6 +30,8 @@ fn meaning(l: Line, refusal: u32) -> Line
         15 => l.word(b"parent not before its record"),
         16 => l.word(b"parent of a wrong length"),
         17 => l.word(b"no input gives this result"),
+        18 => l.word(b"two unreadable bytes in one group"),
+        19 => l.word(b"readable group that disagrees"),
         _ => l.word(b"not in the list"),
     }
 }

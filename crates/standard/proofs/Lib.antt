@@ -24,4 +24,6 @@ pub mod FactLaws
 pub mod LineageLaws
 pub mod ColumnsLaws
 pub mod FindLaws
+pub mod GapLaws
+pub mod CardLaws
 pub mod Cases

@@ -18,6 +18,7 @@ pub mod Lineage
 pub mod Register
 pub mod Columns
 pub mod Inverses
+pub mod Cards
 pub mod Refusals
 pub mod Facts
 pub mod RunFacts

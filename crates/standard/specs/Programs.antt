@@ -6,7 +6,7 @@ use lib.Dec.{eqb}
 use Rattle.standard.specs.Bytes.{_!_, part, choose}
 use Rattle.standard.specs.Derivation.{ringCall}
 use Rattle.standard.specs.Listing.{refusedAt}
-use Rattle.standard.specs.Refusals.{bookTooLong, bookNotWhole, wrongKind, notZero, wrongNumber, flagSet, wrongMask, sharedBit, wrongWidth, valueWide, wrongLength, outputShort, wrongSides, wrongFilling, wrongParent, parentLength, noInput, long, ringMade}
+use Rattle.standard.specs.Refusals.{bookTooLong, bookNotWhole, wrongKind, notZero, wrongNumber, flagSet, wrongMask, sharedBit, wrongWidth, valueWide, wrongLength, outputShort, wrongSides, wrongFilling, wrongParent, parentLength, noInput, groupUnreadable, groupDisagrees, long, ringMade}
 use Rattle.standard.specs.Sizes.{sittingSize}
 use Rattle.standard.specs.Text.{ascii, decimal, textCall}
 use Rattle.standard.specs.declared.BookAnswer.{BookAnswer}
@@ -51,6 +51,8 @@ meanings =
     ∷ (wrongParent, ascii "parent not before its record")
     ∷ (parentLength, ascii "parent of a wrong length")
     ∷ (noInput, ascii "no input gives this result")
+    ∷ (groupUnreadable, ascii "two unreadable bytes in one group")
+    ∷ (groupDisagrees, ascii "readable group that disagrees")
     ∷ []
 
 unfoldable pub meaning : ℕ → List ℕ

@@ -1,6 +1,6 @@
 -- Refusals (01, Who causes which number): the numbers by name, their tests, and the answers of single calls.
 -- A book is tested for 11, 1, 2 and 12, and then each of its records for 3, and for 4 and 5 when it is sealed or for 6 when it is opened.
--- A single call tests 11, 13, 7, 8, 9, 10, 5, 17. A lineage sheet is tested for 1, 2 and 12, and then each of its records for 14, 15 and 16.
+-- A single call tests 11, 13, 7, 8, 9, 10, 5, 17, 18, 19. A lineage sheet is tested for 1, 2 and 12, and then each of its records for 14, 15 and 16.
 -- Assumes nothing.
 use mathlib.Core.Bool.{Bool, true, false, _&&_}
 use mathlib.Core.List.{List, [], _∷_}
@@ -16,6 +16,7 @@ use Rattle.standard.specs.declared.Bytes10.{Bytes10}
 use Rattle.standard.specs.declared.Bytes15.{Bytes15}
 use Rattle.standard.specs.declared.Bytes16.{Bytes16}
 use Rattle.standard.specs.declared.Bytes8.{Bytes8}
+use Rattle.standard.specs.declared.Card.{Card}
 use Rattle.standard.specs.declared.CarrierIdentity.{CarrierIdentity}
 use Rattle.standard.specs.declared.Cell.{Cell}
 use Rattle.standard.specs.declared.Identity.{Identity}
@@ -101,6 +102,14 @@ parentLength = 16
 abbrev pub noInput : ℕ
 noInput = 17
 
+-- (02, 11) a group of a card has more than one unreadable byte
+abbrev pub groupUnreadable : ℕ
+groupUnreadable = 18
+
+-- (02, 11) a group of a card is readable and disagrees with itself
+abbrev pub groupDisagrees : ℕ
+groupDisagrees = 19
+
 -- ---- tests
 
 -- the string has n bytes
@@ -168,3 +177,6 @@ cell r la cn cc =
 
 abbrev pub carrierIdentity : ℕ → ℕ → ℕ → CarrierIdentity
 carrierIdentity r cn ssi = record { refusal = r; carrier = choose (eqb r 0) cn 0; identity = choose (eqb r 0) ssi 0 }
+
+abbrev pub card : ℕ → List ℕ → List ℕ → Card
+card r k c = record { refusal = r; key = choose (eqb r 0) k (zeros 12); card = choose (eqb r 0) c (zeros 16) }

@@ -68,6 +68,10 @@ pub const PARENT_LENGTH: u32 = 16;
 
 pub const NO_INPUT: u32 = 17;
 
+pub const GROUP_UNREADABLE: u32 = 18;
+
+pub const GROUP_DISAGREES: u32 = 19;
+
 // A ring's bytes, after their length was tested.
 pub type RingBytes = [u8; RING];
 
@@ -165,6 +169,14 @@ pub struct CarrierIdentity {
     pub refusal: u32,
     pub carrier: u32,
     pub identity: u32,
+}
+
+// What the restoring of a card answers: the group key, and the card in its TB7 form.
+#[repr(C)]
+pub struct Card {
+    pub refusal: u32,
+    pub key: [u8; 12],
+    pub card: [u8; 16],
 }
 
 // What the ring recipe takes.

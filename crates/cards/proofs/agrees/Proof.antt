@@ -1,0 +1,11 @@
+-- `cards::agrees` meets its contract.
+-- Assumes nothing.
+use borrow.Author.Needs.{needs}
+use Rattle.cards.proofs.agrees.Statement.{statement}
+use Rattle.cards.proofs.agrees.Tie as tie
+
+returns : tie.Need-returns
+returns c = rw (c .others .ensures, c .before .gaps .ensures)
+
+pub agrees-spec : {M : Type 1} → statement M
+agrees-spec = tie.close (tie.spec (λ c κs. search needs) (λ c κs. search needs) returns)

@@ -1,0 +1,143 @@
+// Smudged key cards: a group key in its TB7 form, of which some bytes are unreadable, restored group by group.
+use arrays::array16;
+use standard::Card;
+use standard::GROUP_DISAGREES;
+use standard::GROUP_UNREADABLE;
+use standard::WRONG_LENGTH;
+ghost use mathlib.Core.Path.{_≡_};
+ghost use Prim.Native.Nat.{_-_, _/_, _%_, _^_, _<_, _≤_};
+ghost use lib.Dec.{eqb};
+ghost use Rattle.standard.specs.Bytes.{choose, zeros};
+ghost use Rattle.standard.specs.Cards.{readable as readableOf, gaps as gapsOf, others as othersOf, few as fewOf, agrees as agreesOf, everyGroup, restored as restoredOf, keyOf, restoreCall};
+
+// The mask's bit of the byte at index i from the left: 1 where that is unreadable.
+fn gap(unreadable: u16, i: usize) -> u16
+    requires { ⌜ i < 16 ⌝ }
+    ensures { λ r. ⌜ (r ≡ unreadable / 2 ^ (15 - i) % 2) × (r < 2) ⌝ }
+{
+    (unreadable >> (15 - i)) % 2
+}
+
+// The first where there is a gap, the second where there is none.
+fn pick(gap: u16, a: u8, b: u8) -> u8
+    ensures { λ r. ⌜ r ≡ choose (eqb gap 1) a b ⌝ }
+{
+    if gap == 1 { a } else { b }
+}
+
+// The readable bytes, and 0 in the place of the others.
+fn readable(card: [u8; 16], unreadable: u16) -> [u8; 16]
+    ensures { λ r. ⌜ r ≡ readableOf card unreadable ⌝ }
+{
+    let mut out = [0u8; 16];
+    for i in 0..16 {
+        out[i] = pick(gap(unreadable, i), 0, card[i]);
+    }
+    out
+}
+
+// How many bytes of the group from index a on are unreadable.
+fn gaps(unreadable: u16, a: usize) -> u16
+    requires { ⌜ a ≤ 12 ⌝ }
+    ensures { λ r. ⌜ r ≡ gapsOf unreadable a ⌝ }
+{
+    gap(unreadable, a) + gap(unreadable, a + 1) + gap(unreadable, a + 2) + gap(unreadable, a + 3)
+}
+
+// The ⊕ of the group's readable bytes.
+fn others(read: [u8; 16], a: usize) -> u8
+    requires { ⌜ a ≤ 12 ⌝ }
+    ensures { λ r. ⌜ r ≡ othersOf read a ⌝ }
+{
+    read[a] ^ read[a + 1] ^ read[a + 2] ^ read[a + 3]
+}
+
+// No group has more than one unreadable byte.
+fn few(unreadable: u16) -> bool
+    ensures { λ r. ⌜ r ≡ everyGroup (fewOf unreadable) ⌝ }
+{
+    (gaps(unreadable, 0) <= 1)
+        & (gaps(unreadable, 4) <= 1)
+        & (gaps(unreadable, 8) <= 1)
+        & (gaps(unreadable, 12) <= 1)
+}
+
+// The group is not all readable, or its fourth byte is the ⊕ of the others.
+fn agrees(read: [u8; 16], unreadable: u16, a: usize) -> bool
+    requires { ⌜ a ≤ 12 ⌝ }
+    ensures { λ r. ⌜ r ≡ agreesOf read unreadable a ⌝ }
+{
+    (gaps(unreadable, a) != 0) | (others(read, a) == 0)
+}
+
+fn agree(read: [u8; 16], unreadable: u16) -> bool
+    ensures { λ r. ⌜ r ≡ everyGroup (agreesOf read unreadable) ⌝ }
+{
+    agrees(read, unreadable, 0)
+        & agrees(read, unreadable, 4)
+        & agrees(read, unreadable, 8)
+        & agrees(read, unreadable, 12)
+}
+
+// Each unreadable byte from the others of its group.
+fn restored(read: [u8; 16], unreadable: u16) -> [u8; 16]
+    ensures { λ r. ⌜ r ≡ restoredOf read unreadable ⌝ }
+{
+    let mut out = [0u8; 16];
+    for i in 0..16 {
+        out[i] = pick(gap(unreadable, i), others(read, 4 * (i / 4)), read[i]);
+    }
+    out
+}
+
+// The first three bytes of each group.
+fn key_of(card: [u8; 16]) -> [u8; 12]
+    ensures { λ r. ⌜ r ≡ keyOf card ⌝ }
+{
+    [
+        card[0],
+        card[1],
+        card[2],
+        card[4],
+        card[5],
+        card[6],
+        card[8],
+        card[9],
+        card[10],
+        card[12],
+        card[13],
+        card[14],
+    ]
+}
+
+fn refused_card(number: u32) -> Card
+    ensures { λ r. ⌜ r ≡ record { refusal = number; key = zeros 12; card = zeros 16 } ⌝ }
+{
+    Card {
+        refusal: number,
+        key: [0; 12],
+        card: [0; 16],
+    }
+}
+
+pub fn restore_card(card: &[u8], unreadable: u16) -> Card
+    ensures { λ r. ⌜ r ≡ restoreCall (now (card .entry)) unreadable ⌝ }
+{
+    if card.len() != 16 {
+        return refused_card(WRONG_LENGTH);
+    }
+    if !few(unreadable) {
+        return refused_card(GROUP_UNREADABLE);
+    }
+    let read = readable(array16(card), unreadable);
+    if !agree(read, unreadable) {
+        return refused_card(GROUP_DISAGREES);
+    }
+    let whole = restored(read, unreadable);
+    let key = key_of(whole);
+    Card {
+        refusal: 0,
+        key,
+        card: whole,
+    }
+}

@@ -1,0 +1,104 @@
+-- Smudged key cards (02, 11): a group key in its TB7 form, of which some bytes can't be read.
+-- The card's bytes are B15 to B0, from the left, in groups of four. Bit i of the mask m is set exactly if Bi is unreadable.
+-- Assumes nothing.
+use mathlib.Core.Bool.{Bool, not, _&&_, _||_}
+use mathlib.Core.List.{List, [], _∷_}
+use mathlib.Core.Logic.{_⊎_, _↔_}
+use mathlib.Core.Path.{_≡_}
+use Prim.Native.Nat.{ℕ, zero, suc, _+_, _-_, _*_, _/_, _<_}
+use lib.Dec.{eqb, leb}
+use lib.ListN.{length}
+use Rattle.standard.specs.Bytes.{_!_, byte, bit, table, choose, Bytes}
+use Rattle.standard.specs.Expansions.{xorOf, ungrouped}
+use Rattle.standard.specs.Mixing.{tb7}
+use Rattle.standard.specs.Refusals.{wrongLength, groupUnreadable, groupDisagrees, long, first, card}
+use Rattle.standard.specs.declared.Card.{Card}
+
+-- the byte at index i from the left, B(15 − i), is unreadable
+abbrev pub unreadable : ℕ → ℕ → Bool
+unreadable m i = eqb (bit (15 - i) m) 1
+
+-- the readable bytes, and 0 in the place of the others: all that is looked at of a card x
+unfoldable pub readable : List ℕ → ℕ → List ℕ
+readable x m = table 16 (λ i. choose (unreadable m i) 0 (x ! i))
+
+-- ---- a group, the four bytes from index a on
+
+-- how many of the n bytes from index a on are unreadable
+abbrev pub gapsOn : ℕ → ℕ → ℕ → ℕ
+gapsOn m a zero = 0
+gapsOn m a (suc n) = bit (15 - a) m + gapsOn m (suc a) n
+
+abbrev pub gaps : ℕ → ℕ → ℕ
+gaps m a = gapsOn m a 4
+
+-- the ⊕ of the readable bytes. The ⊕ of a whole group is 0, so where one byte is unreadable, this is what it was
+abbrev pub others : List ℕ → ℕ → ℕ
+others r a = xorOf a 4 r
+
+-- at most one byte is unreadable
+abbrev pub few : ℕ → ℕ → Bool
+few m a = leb (gaps m a) 1
+
+-- where all four are readable, the fourth is the ⊕ of the three before it
+abbrev pub agrees : List ℕ → ℕ → ℕ → Bool
+agrees r m a = not (eqb (gaps m a) 0) || eqb (others r a) 0
+
+abbrev pub everyGroup : (ℕ → Bool) → Bool
+everyGroup t = t 0 && t 4 && t 8 && t 12
+
+-- ---- the card, from its readable bytes r
+
+-- each unreadable byte is the ⊕ of the others in its group
+unfoldable pub restored : List ℕ → ℕ → List ℕ
+restored r m = table 16 (λ i. choose (unreadable m i) (others r (4 * (i / 4))) (r ! i))
+
+-- the key of a TB7 form: the first three bytes of each group
+abbrev pub keyOf : List ℕ → List ℕ
+keyOf y = ungrouped (3 ∷ 3 ∷ 3 ∷ 3 ∷ []) 0 y
+
+-- the call: 11, then 18 in any group, then 19 in any
+unfoldable pub restoreCall : List ℕ → ℕ → Card
+restoreCall x m =
+    let r = readable x m in
+    card (first ((long 16 x, wrongLength) ∷ (everyGroup (few m), groupUnreadable) ∷ (everyGroup (agrees r m), groupDisagrees) ∷ []))
+    (keyOf (restored r m)) (restored r m)
+
+-- ---- what is proved of it
+
+-- two cards have the same byte at every readable place
+abbrev pub SameReadable : ℕ → List ℕ → List ℕ → Type 0
+SameReadable m x y = (i : ℕ) → i < 16 → bit i m ≡ 0 → byte 16 y i ≡ byte 16 x i
+
+-- y is the TB7 form of a key of 12 bytes, and has x's byte at every readable place
+pub record FormOf (x : List ℕ) (m : ℕ) (y : List ℕ) : Type 0 where
+  pub form : (k : List ℕ) × Bytes 12 k × (tb7 k ≡ y)
+  pub same : SameReadable m x y
+
+-- exactly one string has a property, or none has, or several have
+pub record OnlyOne (P : List ℕ → Type 0) (y : List ℕ) : Type 0 where
+  pub has : P y
+  pub only : (z : List ℕ) → P z → z ≡ y
+
+abbrev pub None : (List ℕ → Type 0) → Type 0
+None P = (y : List ℕ) → P y → ⊥
+
+pub record Several (P : List ℕ → Type 0) : Type 0 where
+  pub one : List ℕ
+  pub other : List ℕ
+  pub one-has : P one
+  pub other-has : P other
+  pub differ : one ≡ other → ⊥
+
+-- for every card of 16 bytes and every mask
+pub record CardLaw : Type 0 where
+  -- it is restored exactly if there is exactly one such form ..
+  pub restores : (x : List ℕ) (m : ℕ) → Bytes 16 x → (restoreCall x m .refusal ≡ 0) ↔ ((y : List ℕ) × OnlyOne (FormOf x m) y)
+  -- .. which the answer then has, with its key
+  pub answers : (x : List ℕ) (m : ℕ) → Bytes 16 x → restoreCall x m .refusal ≡ 0
+      → OnlyOne (FormOf x m) (restoreCall x m .card)
+      × OnlyOne (λ k. Bytes 12 k × (tb7 k ≡ restoreCall x m .card)) (restoreCall x m .key)
+  -- it is refused exactly if there is none or there are several
+  pub refuses : (x : List ℕ) (m : ℕ) → Bytes 16 x → (restoreCall x m .refusal ≡ 0 → ⊥) ↔ (None (FormOf x m) ⊎ Several (FormOf x m))
+  -- what stands at the unreadable places changes nothing
+  pub unseen : (x y : List ℕ) (m : ℕ) → length x ≡ 16 → length y ≡ 16 → SameReadable m x y → restoreCall x m ≡ restoreCall y m
