@@ -89,7 +89,11 @@ enum taa1_refusal {
 
     /* caused by the host */
     TAA1_WRONG_LENGTH = 11, /* an input has another length than its call takes */
-    TAA1_OUTPUT_SHORT = 12  /* the output is shorter than the result */
+    TAA1_OUTPUT_SHORT = 12, /* the output is shorter than the result */
+
+    /* of a smudged card */
+    TAA1_GROUP_UNREADABLE = 18, /* a group has more than one unreadable byte */
+    TAA1_GROUP_DISAGREES = 19   /* a group is readable, and its xor is not zero */
 };
 
 /* What a refusal means, in the words of the programs. */
@@ -113,6 +117,8 @@ static inline const char *taa1_refusal_text(uint32_t refusal)
     case TAA1_WRONG_PARENT: return "parent not before its record";
     case TAA1_PARENT_LENGTH: return "parent of a wrong length";
     case TAA1_NO_INPUT: return "no input gives this result";
+    case TAA1_GROUP_UNREADABLE: return "two unreadable bytes in one group";
+    case TAA1_GROUP_DISAGREES: return "readable group that disagrees";
     default: return "not in the list";
     }
 }
@@ -210,6 +216,12 @@ typedef struct {
     uint8_t response1[4];
     uint8_t response2[4];
 } taa1_ring_made;
+
+typedef struct {
+    uint32_t refusal;
+    uint8_t key[12];
+    uint8_t card[16];
+} taa1_card;
 
 /*
  * The index: in a refused book or sheet, that of the first offending record (0 for
@@ -404,6 +416,14 @@ taa1_bytes10 taa1_tb6(const uint8_t *cipher_key, size_t cipher_key_length,
 
 /* A group key [12], with the xor of each three bytes behind them. */
 taa1_bytes16 taa1_tb7(const uint8_t *group_key, size_t group_key_length);
+
+/*
+ * A card [16] that has a group key in its TB7 form, with some bytes unreadable:
+ * bit i of the mask is set where byte i is, and byte 0 is rightmost. One unreadable
+ * byte in a group of four is restored from the other three. The answer is the key
+ * and the whole card; what stands at the unreadable places is not looked at.
+ */
+taa1_card taa1_restore_card(const uint8_t *card, size_t card_length, uint16_t unreadable);
 
 /*
  * ---- The inverses of TB1, TB3, TB5 and TB6 ----

@@ -130,6 +130,7 @@ static void single_calls(bool at_end, int longer)
     CHECK(taa1_tb5_inverse(S(key), S(key2)).refusal == no_input);
     CHECK(taa1_tb6_inverse(S(key), S(key)).refusal == wanted);
     CHECK(taa1_tb6_inverse(S(key), S(key2)).refusal == no_input);
+    CHECK(taa1_restore_card(S(root), 0x1248).refusal == wanted);
     for (uint64_t sides = 1; sides <= 3; sides++)
         CHECK(taa1_ring(S(root), S(key), S(key2), S(key), S(key2), S(key), S(group_key),
                         sides, response_mask, key_mask).refusal == wanted);

@@ -58,6 +58,8 @@ class Refusal(IntEnum):
     WRONG_PARENT = 15
     PARENT_LENGTH = 16
     NO_INPUT = 17
+    GROUP_UNREADABLE = 18
+    GROUP_DISAGREES = 19
 
 
 NAMES: dict[int, str] = {
@@ -78,6 +80,8 @@ NAMES: dict[int, str] = {
     Refusal.WRONG_PARENT: "parent not before its record",
     Refusal.PARENT_LENGTH: "parent of a wrong length",
     Refusal.NO_INPUT: "no input gives this result",
+    Refusal.GROUP_UNREADABLE: "two unreadable bytes in one group",
+    Refusal.GROUP_DISAGREES: "readable group that disagrees",
 }
 
 
@@ -214,6 +218,13 @@ class CarrierIdentity(NamedTuple):
     identity: int
 
 
+class Card(NamedTuple):
+    """A group key, and the card that has it in its TB7 form."""
+
+    key: bytes
+    card: bytes
+
+
 class Book(NamedTuple):
     """A book that the engine wrote, and the number of its records."""
 
@@ -278,6 +289,7 @@ _UNSEALED_GROUP = _answer(_unsealed, key=c_uint8 * 12, failed_checks=c_uint16)
 _RING_MADE = _answer(
     RingMade, ring=c_uint8 * RING_BYTES, response1=c_uint8 * 4, response2=c_uint8 * 4
 )
+_CARD = _answer(Card, key=c_uint8 * 12, card=c_uint8 * 16)
 _BOOK = _answer(_Written, index=c_size_t, written=c_size_t)
 _COUNTED = _answer(_Counted, index=c_size_t, written=c_size_t, runs=c_size_t)
 
@@ -335,6 +347,7 @@ _CALLS: dict[str, tuple[type[ctypes.Structure], tuple[Any, ...]]] = {
     "tb3_inverse": (_VALUE, (bytes, bytes, c_uint64)),
     "tb5_inverse": (_CELL, (bytes, bytes)),
     "tb6_inverse": (_CARRIER_IDENTITY, (bytes, bytes)),
+    "restore_card": (_CARD, (bytes, c_uint16)),
     "ring": (_RING_MADE, (bytes,) * 7 + (c_uint64, *_MASKS)),
     "seal_book": (_COUNTED, (bytes, bytes, bytearray)),
     "open_book": (_COUNTED, (bytes, bytes, bytearray)),
@@ -569,6 +582,14 @@ class Engine:
     def tb6_inverse(self, cipher_key: Bytes, result: Bytes) -> CarrierIdentity:
         """The only carrier and identity for which `tb6` makes the result of 10 bytes."""
         return self._call("tb6_inverse", cipher_key, result)
+
+    def restore_card(self, card: Bytes, unreadable: int) -> Card:
+        """The key and the whole card of 16 bytes, of which some are unreadable.
+
+        Bit i of the mask is set where byte i is, and byte 0 is rightmost. One in a
+        group of four is restored from the other three, and not looked at.
+        """
+        return self._call("restore_card", card, unreadable)
 
     def ring(self, sitting: Sitting) -> RingMade:
         """The ring of a sitting, and both responses.

@@ -54,6 +54,7 @@ VERSION = Version(0x0708)
 RESPONSE_MASK = 0xF000
 KEY_MASK = 0x0FFC
 BOTH_SIDES = 3
+ONE_UNREADABLE = 0x0100
 SITTING = Sitting(
     ROOT,
     upward(10),
@@ -133,6 +134,7 @@ ACCEPTED: dict[str, tuple[Any, ...]] = {
     "tb3_inverse": (ROOT, ENGINE.tb3(ROOT, 1, 16), 16),
     "tb5_inverse": (KEY, ENGINE.tb5(KEY, 1, 1, 1)),
     "tb6_inverse": (KEY, ENGINE.tb6(KEY, 1, 1)),
+    "restore_card": (TB7, ONE_UNREADABLE),
     "ring": SITTING,
     "seal_book": (RING, BOOK[0]),
     "open_book": (RING, ENGINE.seal_book(RING, BOOK[0]).content),
@@ -310,6 +312,17 @@ class Results(unittest.TestCase):
         self.assertEqual(ENGINE.tb4(upward(10), KEY), xor(upward(10), KEY))
         self.assertEqual(ENGINE.tb7(upward(12)), TB7)
 
+    def test_cards(self) -> None:
+        """Any one byte of each group, whatever stands in its place."""
+        self.assertEqual(ENGINE.restore_card(TB7, 0), (upward(12), TB7))
+        for places in range(256):
+            smudged, unreadable = bytearray(TB7), 0
+            for group in range(4):
+                i = 4 * group + (places >> 2 * group) % 4
+                smudged[i] ^= 0x5A
+                unreadable |= 1 << 15 - i
+            self.assertEqual(ENGINE.restore_card(smudged, unreadable), (upward(12), TB7))
+
     def test_cells(self) -> None:
         one = bytes.fromhex("00 00 00 01 00 00 40 00 10 00")
         self.assertEqual(ENGINE.tb5(bytes(10), 0, 0, 1), one)
@@ -460,6 +473,11 @@ class Refusals(unittest.TestCase):
             self.refuses(Refusal.WRONG_MASK, None, "ring", *exchanged)
         for sides in (0, 4, 259, (1 << 32) + 1):
             self.refuses(Refusal.WRONG_SIDES, None, "ring", *SITTING[:7], sides, 0, 0)
+        disagreeing = b"\0" + TB7[1:]
+        self.refuses(Refusal.GROUP_DISAGREES, None, "restore_card", disagreeing, 0)
+        self.refuses(Refusal.GROUP_DISAGREES, None, "restore_card", disagreeing, ONE_UNREADABLE)
+        for several in (0x0003, 0x0009, 0x0070, 0x0F00, 0xFFFF):
+            self.refuses(Refusal.GROUP_UNREADABLE, None, "restore_card", disagreeing, several)
         self.refuses(Refusal.WRONG_WIDTH, None, "tb1", 1, 15)
         self.refuses(Refusal.WRONG_WIDTH, None, "tb3", ROOT, 1, 33)
         self.refuses(Refusal.VALUE_WIDE, None, "ta61", KEY, 1 << 24)
@@ -528,7 +546,7 @@ class Values(unittest.TestCase):
         """ACCEPTED, which the tests below go by, has each call, and each accepts it."""
         public = {name for name in vars(taa1.Engine) if not name.startswith("_")}
         self.assertEqual(set(ACCEPTED), public)
-        self.assertEqual(len(public), 43)
+        self.assertEqual(len(public), 44)
         for name, values in ACCEPTED.items():
             with self.subTest(name):
                 call(name, *values)
@@ -567,7 +585,7 @@ class Values(unittest.TestCase):
             for at, value in enumerate(values):
                 if not isinstance(value, int):
                     continue
-                bits = 16 if value in (RESPONSE_MASK, KEY_MASK) else 64
+                bits = 16 if value in (RESPONSE_MASK, KEY_MASK, ONE_UNREADABLE) else 64
                 wrong = [(wide, OverflowError) for wide in (1 << bits, 1 << 20000, -1)]
                 if name != "register":
                     wrong.append(((1 << bits) - 1, Refused))

@@ -128,6 +128,13 @@ pub struct CarrierIdentity {
     pub identity: u32,
 }
 
+/// A group key, and the card that has it in its [`tb7`] form.
+#[derive(Clone, Copy, Debug, PartialEq, Eq)]
+pub struct Card {
+    pub key: [u8; 12],
+    pub card: [u8; 16],
+}
+
 /// A book that the engine wrote, and the number of its records.
 #[derive(Clone, Debug, PartialEq, Eq)]
 pub struct Book {
@@ -409,6 +416,18 @@ pub fn tb6_inverse(cipher_key: &[u8], result: &[u8]) -> Result<CarrierIdentity, 
     Ok(CarrierIdentity {
         carrier: answer.carrier,
         identity: answer.identity,
+    })
+}
+
+/// The key and the whole card of 16 bytes, of which some are unreadable: bit i of
+/// the mask is set where byte i is, and byte 0 is rightmost. One in a group of four
+/// is restored from the other three, and not looked at.
+pub fn restore_card(card: &[u8], unreadable: u16) -> Result<Card, Refusal> {
+    let answer = call!(restore_card([card], unreadable));
+    Refusal::test(answer.refusal)?;
+    Ok(Card {
+        key: answer.key,
+        card: answer.card,
     })
 }
 

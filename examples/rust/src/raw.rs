@@ -78,6 +78,14 @@ pub struct RingMade {
 
 #[repr(C)]
 #[derive(Clone, Copy, Debug, PartialEq, Eq)]
+pub struct Card {
+    pub refusal: u32,
+    pub key: [u8; 12],
+    pub card: [u8; 16],
+}
+
+#[repr(C)]
+#[derive(Clone, Copy, Debug, PartialEq, Eq)]
 pub struct BookAnswer {
     pub refusal: u32,
     pub index: usize,
@@ -135,6 +143,7 @@ macro_rules! calls {
             tb3_inverse([input], [result], width: u64) -> Value;
             tb5_inverse([cipher_key], [result]) -> Cell;
             tb6_inverse([cipher_key], [result]) -> CarrierIdentity;
+            restore_card([card], unreadable: u16) -> Card;
             ring(
                 [root], [rs], [rso], [rand1], [rand2], [c], [group_key],
                 sides: u64, response_mask: u16, key_mask: u16

@@ -1,4 +1,4 @@
-//! The seventeen refusals.
+//! The nineteen refusals.
 
 use std::error::Error;
 use std::fmt;
@@ -23,10 +23,12 @@ pub enum Refusal {
     WrongParent = 15,
     ParentLength = 16,
     NoInput = 17,
+    GroupUnreadable = 18,
+    GroupDisagrees = 19,
 }
 
 impl Refusal {
-    pub const ALL: [Refusal; 17] = [
+    pub const ALL: [Refusal; 19] = [
         Refusal::BookTooLong,
         Refusal::BookNotWhole,
         Refusal::WrongKind,
@@ -44,6 +46,8 @@ impl Refusal {
         Refusal::WrongParent,
         Refusal::ParentLength,
         Refusal::NoInput,
+        Refusal::GroupUnreadable,
+        Refusal::GroupDisagrees,
     ];
 
     pub fn number(self) -> u32 {
@@ -69,6 +73,8 @@ impl Refusal {
             Refusal::WrongParent => "parent not before its record",
             Refusal::ParentLength => "parent of a wrong length",
             Refusal::NoInput => "no input gives this result",
+            Refusal::GroupUnreadable => "two unreadable bytes in one group",
+            Refusal::GroupDisagrees => "readable group that disagrees",
         }
     }
 
@@ -76,7 +82,7 @@ impl Refusal {
     pub(crate) fn test(number: u32) -> Result<(), Refusal> {
         match number {
             0 => Ok(()),
-            1..=17 => Err(Refusal::ALL[number as usize - 1]),
+            1..=19 => Err(Refusal::ALL[number as usize - 1]),
             _ => unreachable!("the engine has no refusal {number}"),
         }
     }

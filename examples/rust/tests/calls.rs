@@ -4,7 +4,7 @@ use std::array::from_fn;
 use std::thread;
 
 use taa1::{
-    Authentication, Book, BookRefusal, CarrierIdentity, Cell, CountedBook, CountedRefusal,
+    Authentication, Book, BookRefusal, Card, CarrierIdentity, Cell, CountedBook, CountedRefusal,
     FailedChecks, KeyNumber, Kind, Refusal, RingMade, Sitting, Unsealed, UnsealedNumbered, Version,
     CHALLENGE_BYTES, MOST_RECORDS, PLAIN_RECORD_BYTES, RING_BYTES, SEALED_RECORD_BYTES,
     SHEET_RECORD_BYTES, SHEET_VALUE_BYTES,
@@ -371,6 +371,42 @@ fn keys_are_mixed() {
     assert_eq!(taa1::tb3(&ROOT, 0x12345, 20), Ok(xor(ROOT, repeated)));
     assert_eq!(taa1::tb4(&upward::<10>(), &KEY), Ok(xor(upward(), KEY)));
     assert_eq!(taa1::tb7(&upward::<12>()), Ok(TB7));
+}
+
+/// Any one byte of each group, whatever stands in its place.
+#[test]
+fn cards_are_restored() {
+    let whole = Card {
+        key: upward(),
+        card: TB7,
+    };
+    assert_eq!(taa1::restore_card(&TB7, 0), Ok(whole));
+    for places in 0..256 {
+        let mut smudged = TB7;
+        let mut unreadable = 0;
+        for group in 0..4 {
+            let i = 4 * group + (places >> (2 * group)) % 4;
+            smudged[i] ^= 0x5a;
+            unreadable |= 1 << (15 - i);
+        }
+        assert_eq!(taa1::restore_card(&smudged, unreadable), Ok(whole));
+        let disagrees = taa1::restore_card(&smudged, unreadable & 0x0fff);
+        assert_eq!(disagrees, Err(Refusal::GroupDisagrees));
+    }
+}
+
+/// In their order: 18 in any group before 19 in any.
+#[test]
+fn cards_are_refused() {
+    let mut card = TB7;
+    let length = taa1::restore_card(&TB7[1..], 0xffff);
+    assert_eq!(length, Err(Refusal::WrongLength));
+    card[0] ^= 1;
+    assert_eq!(taa1::restore_card(&card, 0), Err(Refusal::GroupDisagrees));
+    for unreadable in [0x0003, 0x0009, 0x0070, 0x0f00, 0xffff] {
+        let refused = taa1::restore_card(&card, unreadable);
+        assert_eq!(refused, Err(Refusal::GroupUnreadable));
+    }
 }
 
 #[test]
