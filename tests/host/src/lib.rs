@@ -4,6 +4,7 @@
 
 pub mod books;
 pub mod both;
+pub mod cards;
 pub mod class;
 pub mod columns;
 pub mod damaged;
@@ -18,6 +19,7 @@ pub mod tally;
 
 /// The single calls of the independent implementation.
 pub mod other {
+    pub use crate::cards::*;
     pub use crate::inverses::*;
     pub use crate::taa1::*;
 }

@@ -2,6 +2,7 @@
 //! implementation. One module for each family of calls.
 
 mod book_calls;
+mod card_calls;
 mod cipher;
 mod class_calls;
 mod column_calls;
@@ -29,6 +30,7 @@ fn main() -> ExitCode {
     identity::run(&mut tally, &mut random);
     mixing::run(&mut tally, &mut random);
     inverse_calls::run(&mut tally, &mut random);
+    card_calls::run(&mut tally, &mut random);
     ring::run(&mut tally, &mut random);
     book_calls::run(&mut tally, &mut random);
     class_calls::run(&mut tally, &mut random);

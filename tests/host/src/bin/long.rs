@@ -139,6 +139,12 @@ fn mixing(group: &mut Group, random: &mut Random) {
     compare!(group, tb5([key1], location_area, carrier, colour_code));
     compare!(group, tb6([key1], carrier, identity));
     compare!(group, tb7([group_key]));
+    let card = match random.below(2) {
+        0 => engine::tb7(&group_key).bytes.to_vec(),
+        _ => string(random, 16),
+    };
+    let unreadable = (random.number() & random.number() & random.number()) as u16;
+    compare!(group, restore_card([card], unreadable));
     inverses(group, random, &key1, &input);
 }
 
