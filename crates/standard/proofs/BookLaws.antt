@@ -58,6 +58,10 @@ each-table (suc n) w xs =
     ap (λ (r : List ℕ). r ++ part (w * n) w xs) (each-table n w xs)
     ∙ sym (table-add (w * n) w (λ i. xs ! i)) ∙ ap (λ (k : ℕ). table k (λ i. xs ! i)) (sym (mul-suc w n))
 
+-- records of v bytes each
+pub length-each : (w v : ℕ) (f : List ℕ → List ℕ) → ((x : List ℕ) → length (f x) ≡ v) → (xs : List ℕ) (n : ℕ) → length (each n w f xs) ≡ v * n
+length-each w v f long xs n = joined-length v (λ i. f (recordAt w xs i)) n (λ i h. long (recordAt w xs i))
+
 -- the records of a book, as they are
 pub each-self : (n w : ℕ) (xs : List ℕ) → length xs ≡ w * n → each n w (λ x. x) xs ≡ xs
 each-self n w xs e = each-table n w xs ∙ spelled (w * n) xs e

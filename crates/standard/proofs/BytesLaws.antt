@@ -100,6 +100,11 @@ bytes-one h = bytes-cons h bytes-nil
 pub bytes-zero : Bytes 1 (0 ∷ [])
 bytes-zero = bytes-one (omega arith)
 
+-- the bytes of a number
+pub bytes-of : (n x : ℕ) → Bytes n (bytesOf n x)
+bytes-of zero x = bytes-nil
+bytes-of (suc n) x = bytes-cons (omega arith) (bytes-of n x)
+
 -- the bytes of the number that two bytes spell
 pub pair-bytes : (x y : ℕ) → x < 256 → y < 256 → bytesOf 2 (256 * x + y) ≡ x ∷ y ∷ []
 pair-bytes x y hx hy =

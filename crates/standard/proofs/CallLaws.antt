@@ -17,7 +17,7 @@ use Rattle.standard.specs.declared.KeyNumber.{KeyNumber}
 use Rattle.standard.specs.declared.Kind.{Kind}
 use Rattle.standard.specs.declared.Algorithm.the-variants.{Ta31, Ta51, Ta81, Ta91}
 use Rattle.standard.specs.declared.Version.{Version}
-use Rattle.standard.proofs.BytesLaws.{pair-bytes, spell, bytes-cons, bytes-one, bytes-zero, bytes-append, bytes-part}
+use Rattle.standard.proofs.BytesLaws.{pair-bytes, bytes-of, spell, bytes-cons, bytes-one, bytes-zero, bytes-append, bytes-part}
 use Rattle.standard.proofs.IdentityLaws.{identity-law}
 use Rattle.standard.proofs.SealLaws.{Body, Clear, body31-zeros, body51-number, sealing}
 
@@ -41,9 +41,6 @@ bytes3-of b h =
     let e₁ : number3 b / 2 ^ 8 % 256 ≡ b ! 1 = omega (arith, h .bound 0, h .bound 1, h .bound 2) in
     let e₀ : number3 b / 2 ^ 0 % 256 ≡ b ! 2 = omega (arith, h .bound 0, h .bound 1, h .bound 2) in
     cc (spell h)
-
-bytes-of3 : (n : ℕ) → Bytes 3 (bytesOf 3 n)
-bytes-of3 n = bytes-cons (mod-byte _) (bytes-cons (mod-byte _) (bytes-one (mod-byte _)))
 
 -- ---- TA31 and TA32
 
@@ -153,13 +150,13 @@ module _ (a : List ℕ) (h : Bytes 10 a) (n : ℕ) (hn : n < 2 ^ 24) where
   ta61-back =
       let i = identity-law a h in
       let x = bytesOf 3 n in
-      let y = i .to x (bytes-of3 n) in
-      rw (eq-eqb _ _ (h .len), lt-ltb _ _ hn, lt-ltb _ _ (number3-lt (ta61 a x) y), bytes3-of (ta61 a x) y, i .back x (bytes-of3 n), number3-of n hn)
+      let y = i .to x (bytes-of 3 n) in
+      rw (eq-eqb _ _ (h .len), lt-ltb _ _ hn, lt-ltb _ _ (number3-lt (ta61 a x) y), bytes3-of (ta61 a x) y, i .back x (bytes-of 3 n), number3-of n hn)
 
   pub ta61-forth : ta61Call a (ta61⁻¹Call a n .identity) ≡ record { refusal = 0; identity = n }
   unfolding ta61Call ta61⁻¹Call
   ta61-forth =
       let i = identity-law a h in
       let x = bytesOf 3 n in
-      let y = i .from x (bytes-of3 n) in
-      rw (eq-eqb _ _ (h .len), lt-ltb _ _ hn, lt-ltb _ _ (number3-lt (ta61⁻¹ a x) y), bytes3-of (ta61⁻¹ a x) y, i .forth x (bytes-of3 n), number3-of n hn)
+      let y = i .from x (bytes-of 3 n) in
+      rw (eq-eqb _ _ (h .len), lt-ltb _ _ hn, lt-ltb _ _ (number3-lt (ta61⁻¹ a x) y), bytes3-of (ta61⁻¹ a x) y, i .forth x (bytes-of 3 n), number3-of n hn)
