@@ -13,6 +13,7 @@ use standard::CountedAnswer;
 use standard::Identity;
 use standard::KeyNumber;
 use standard::RingMade;
+use standard::Tally;
 use standard::Unsealed;
 use standard::UnsealedGroup;
 use standard::UnsealedNumbered;
@@ -24,6 +25,7 @@ ghost use Rattle.standard.specs.Cards.{restoreCall};
 ghost use Rattle.standard.specs.Classes.{ta12ClassCall};
 ghost use Rattle.standard.specs.Columns.{toColumns, fromColumns, columnsCall};
 ghost use Rattle.standard.specs.Derivation.{ta11Call, ta21Call, ta41Call, ta12Call, ta22Call, ta71Call, ta101Call, ringCall};
+ghost use Rattle.standard.specs.Diffusion.{diffusionCall};
 ghost use Rattle.standard.specs.Hurdle.{encryptCall, decryptCall};
 ghost use Rattle.standard.specs.Identity.{ta61Call, ta61⁻¹Call};
 ghost use Rattle.standard.specs.Inverses.{tb1⁻¹Call, tb3⁻¹Call, tb5⁻¹Call, tb6⁻¹Call};
@@ -66,6 +68,13 @@ pub extern "C" fn taa1_register(key: &[u8], steps: u64) -> Bytes16
     ensures { λ r. ⌜ r ≡ registerCall (now (key .entry)) steps ⌝ }
 {
     register::register(key, steps)
+}
+
+#[no_mangle]
+pub extern "C" fn taa1_diffusion(records: &[u8]) -> Tally
+    ensures { λ r. ⌜ r ≡ diffusionCall (now (records .entry)) ⌝ }
+{
+    diffusion::diffusion(records)
 }
 
 #[no_mangle]

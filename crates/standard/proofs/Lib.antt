@@ -26,4 +26,5 @@ pub mod ColumnsLaws
 pub mod FindLaws
 pub mod GapLaws
 pub mod CardLaws
+pub mod DiffusionLaws
 pub mod Cases

@@ -19,6 +19,7 @@ pub mod Register
 pub mod Columns
 pub mod Inverses
 pub mod Cards
+pub mod Diffusion
 pub mod Refusals
 pub mod Facts
 pub mod RunFacts

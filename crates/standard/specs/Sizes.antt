@@ -30,5 +30,9 @@ sheetSize = 22
 abbrev pub valueSize : ℕ
 valueSize = 16
 
+-- a key and a block, for the diffusion tally (02, 12)
+abbrev pub diffusionSize : ℕ
+diffusionSize = 24
+
 abbrev pub mostRecords : ℕ
 mostRecords = 1024

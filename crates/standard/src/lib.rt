@@ -25,6 +25,9 @@ pub const SHEET_RECORD: usize = 22;
 
 pub const SHEET_VALUE: usize = 16;
 
+// A key and a block, for the diffusion tally.
+pub const DIFFUSION_RECORD: usize = 24;
+
 pub const MOST_RECORDS: usize = 1024;
 
 // Block cipher runs: of sealing or unsealing a text, and of making the identity strings of a ring.
@@ -217,6 +220,16 @@ pub struct CountedAnswer {
     pub index: usize,
     pub written: usize,
     pub runs: usize,
+}
+
+// What the diffusion tally answers: the flips tried, the total of changed bits, the least and the greatest change of one flip.
+#[repr(C)]
+pub struct Tally {
+    pub refusal: u32,
+    pub flips: u32,
+    pub total: u32,
+    pub least: u32,
+    pub greatest: u32,
 }
 
 // What a call that writes a text answers.

@@ -1,0 +1,85 @@
+-- `diffusion::count` meets its contract.
+-- Assumes nothing.
+use mathlib.Core.Path.{_≡_, ap}
+use Prim.Native.Nat.{_-_, _≤_, zero-le}
+use native.Mathlib.Omega.{arith}
+use lib.ListN.{length}
+use denote.Ref.{now}
+use Rattle.lists.proofs.WalkLaws.{lent}
+use Rattle.standard.proofs.DiffusionLaws.{length-changes}
+use Rattle.standard.specs.Diffusion.{recordChanges}
+use Rattle.standard.specs.Lists.{each}
+use Rattle.standard.specs.Sizes.{diffusionSize}
+use Rattle.diffusion.proofs.CountLaws.{counted-none, counted-record}
+use Rattle.diffusion.specs.Steps.{Counted}
+use Rattle.diffusion.proofs.count.Statement.{statement}
+use Rattle.diffusion.proofs.count.Tie as tie
+
+abbrev Inv-loop : tie.InvT-loop
+Inv-loop records n t₀ i₀ t i =
+    (i ≤ n) × Counted 0 64 0 (each i diffusionSize recordChanges records) (t .total) (t .least) (t .greatest)
+
+abbrev μ-loop : tie.MeasureT-loop
+μ-loop records n t₀ i₀ t i = n - i
+
+loop-holds : tie.Need-loop-holds Inv-loop μ-loop
+loop-holds c = (zero-le, counted-none)
+
+mul-a : tie.Need-mul-a Inv-loop μ-loop
+mul-a c = omega arith
+
+add-count-record : tie.Need-add-count-record Inv-loop μ-loop
+add-count-record c = omega arith
+
+sub-count-record : tie.Need-sub-count-record Inv-loop μ-loop
+sub-count-record c = omega arith
+
+part-count-record-start : tie.Need-part-count-record-start Inv-loop μ-loop
+part-count-record-start c = omega arith
+
+part-count-record-end : tie.Need-part-count-record-end Inv-loop μ-loop
+part-count-record-end c = omega arith
+
+count-record-requires : tie.Need-count-record-requires Inv-loop μ-loop
+count-record-requires c κs =
+    let head = c .before .before in
+    let at = head .loop in
+    let xs = now (head .before .before .args .records) in
+    (ap length (lent diffusionSize (at .i) xs (omega arith)), omega (arith, at .inv .1 .most, length-changes xs (at .i)))
+
+add-i : tie.Need-add-i Inv-loop μ-loop
+add-i c = omega arith
+
+loop-less : tie.Need-loop-less Inv-loop μ-loop
+loop-less c = omega arith
+
+loop-again : tie.Need-loop-again Inv-loop μ-loop
+loop-again c =
+    let head = c .before .before .before in
+    let at = head .loop in
+    let xs = now (head .before .before .args .records) in
+    (omega arith, counted-record xs (at .i) _ (lent diffusionSize (at .i) xs (omega arith)) (at .inv .1) (c .count-record .ensures))
+
+returns : tie.Need-returns Inv-loop μ-loop
+returns c =
+    let at = c .before .loop in
+    let e : at .i ≡ c .before .before .before .args .n = omega arith in
+    rw e at (at .inv .1)
+
+pub count-spec : {M : Type 1} → statement M
+count-spec =
+    tie.close
+    (tie.spec
+    Inv-loop
+    μ-loop
+    loop-holds
+    mul-a
+    add-count-record
+    sub-count-record
+    part-count-record-start
+    part-count-record-end
+    count-record-requires
+    add-i
+    loop-less
+    loop-again
+    returns)
