@@ -1,6 +1,6 @@
 //! A class of challenges under one session key.
 
-use crate::edges::{self, rooms};
+use crate::edges::{self, list_lengths, long_lists, rooms, COUNTS};
 use crate::masks;
 use host::both::{same_output, Start, AUTHENTICATION, CHALLENGE, MOST};
 use host::class;
@@ -138,7 +138,7 @@ pub fn run(tally: &mut Tally, random: &mut Random) {
         pair,
     };
     tally.group("ta12_class (numbers of challenges and outputs)", |group| {
-        for count in [0, 1, 2, 3, 4, 5, MOST - 1, MOST, MOST + 1] {
+        for count in COUNTS {
             let class = class(CHALLENGE * count, PAIR);
             for room in rooms(class.need()) {
                 class.compare(group, room);
@@ -149,14 +149,22 @@ pub fn run(tally: &mut Tally, random: &mut Random) {
         }
     });
     tally.group("ta12_class (lengths)", |group| {
-        let around = CHALLENGE * MOST - 30..CHALLENGE * MOST + 30;
-        for length in (0..=64).chain(around) {
+        for length in list_lengths(CHALLENGE) {
             let class = class(length, PAIR);
             for room in rooms(class.need()) {
                 class.compare(group, room);
             }
         }
-        low_bits(group, &key);
+        long_lists(CHALLENGE, |challenges| {
+            let class = Class {
+                session_key: &key,
+                challenges,
+                pair: PAIR,
+            };
+            for room in [0, 1 << 15] {
+                class.compare(group, room);
+            }
+        });
     });
     tally.group("ta12_class (session keys, beside wrong lists)", |group| {
         edges::lengths(random, [KEY], |[session_key]| {
@@ -228,23 +236,6 @@ pub fn run(tally: &mut Tally, random: &mut Random) {
             masks::one_shared(random.masks()).for_each(|pair| both(group, pair));
         }
     });
-}
-
-/// Lengths whose low bits would be right.
-fn low_bits(group: &mut Group, key: &[u8]) {
-    let zeros = vec![0; (1 << 24) + CHALLENGE];
-    for bits in [15, 16, 20, 24] {
-        for length in [0, CHALLENGE] {
-            let class = Class {
-                session_key: key,
-                challenges: &zeros[..(1 << bits) + length],
-                pair: PAIR,
-            };
-            for room in [0, 1 << 15] {
-                class.compare(group, room);
-            }
-        }
-    }
 }
 
 /// The first of the refusals 11, 1, 2, 12, 7 and 8 that applies.

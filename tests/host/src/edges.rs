@@ -1,5 +1,6 @@
 //! Inputs at their edges.
 
+use host::both::MOST;
 use host::damaged::flipped;
 use host::engine::null;
 use host::random::Random;
@@ -41,6 +42,25 @@ pub fn lengths<const N: usize>(
     }
     check([&[]; N]);
     check([null(); N]);
+}
+
+/// Numbers of records: few, the most, and one more.
+pub const COUNTS: [usize; 9] = [0, 1, 2, 3, 4, 5, MOST - 1, MOST, MOST + 1];
+
+/// Lengths of lists of records of so many bytes: short ones, and around the most
+/// records.
+pub fn list_lengths(size: usize) -> impl Iterator<Item = usize> {
+    (0..=64).chain(size * MOST - 30..size * MOST + 30)
+}
+
+/// Lists of zeros that are too long, but whose low bits would be right.
+pub fn long_lists(size: usize, mut check: impl FnMut(&[u8])) {
+    let zeros = vec![0; (1 << 24) + size];
+    for bits in [15, 16, 20, 24] {
+        for length in [0, size] {
+            check(&zeros[..(1 << bits) + length]);
+        }
+    }
 }
 
 /// Outputs: none, one byte short, exact, one byte longer, and much longer.

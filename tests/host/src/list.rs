@@ -1,6 +1,6 @@
 //! Calls that take a list of records and an output, and nothing else.
 
-use crate::edges::rooms;
+use crate::edges::{list_lengths, long_lists, rooms, COUNTS};
 use host::books;
 use host::both::{same_output, Start, MOST};
 use host::engine::{null, null_out, BookAnswer};
@@ -86,26 +86,22 @@ impl List {
         let name = |about| format!("{} ({about})", self.name);
         let most = MOST * self.from;
         tally.group(&name("numbers of records and outputs"), |group| {
-            for count in [0, 1, 2, 3, 4, 5, MOST - 1, MOST, MOST + 1] {
+            for count in COUNTS {
                 self.compare_rooms(group, &bytes[..count * self.from]);
             }
         });
         tally.group(&name("lengths"), |group| {
-            for length in (0..=64).chain(most - 30..most + 30) {
+            for length in list_lengths(self.from) {
                 self.compare_rooms(group, &bytes[..length]);
             }
             for room in [0, 1] {
                 self.compare(group, null(), room);
             }
-            // Lengths whose low bits would be right.
-            let zeros = vec![0; (1 << 24) + self.from];
-            for bits in [15, 16, 20, 24] {
-                for length in [0, self.from] {
-                    for room in [0, 1 << 15] {
-                        self.compare(group, &zeros[..(1 << bits) + length], room);
-                    }
+            long_lists(self.from, |records| {
+                for room in [0, 1 << 15] {
+                    self.compare(group, records, room);
                 }
-            }
+            });
         });
         tally.group(&name("wrong lengths and short outputs at once"), |group| {
             let lengths = [
