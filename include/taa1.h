@@ -42,7 +42,8 @@ enum {
     TAA1_AUTHENTICATION_BYTES = 14, /* a response, then a key */
     TAA1_SHEET_RECORD_BYTES = 22,
     TAA1_SHEET_VALUE_BYTES = 16,
-    TAA1_MOST_RECORDS = 1024,       /* of a book or a sheet; of challenges in a class */
+    TAA1_TALLY_RECORD_BYTES = 24,   /* a key, then a block */
+    TAA1_MOST_RECORDS = 1024,       /* of a book, a sheet or a tally; of challenges in a class */
     TAA1_SITTING_BYTES = 83         /* of a file with what taa1_ring takes */
 };
 
@@ -69,7 +70,7 @@ enum taa1_refusal {
     TAA1_ACCEPTED = 0,
 
     /* caused by the candidate */
-    TAA1_BOOK_TOO_LONG = 1,  /* a book, class or sheet is longer than TAA1_MOST_RECORDS records */
+    TAA1_BOOK_TOO_LONG = 1,  /* a list is longer than TAA1_MOST_RECORDS records */
     TAA1_BOOK_NOT_WHOLE = 2, /* its length is not a whole number of records */
     TAA1_WRONG_KIND = 3,     /* a kind is not 1 to 6 */
     TAA1_NOT_ZERO = 4,       /* a byte that fills up a body is not zero */
@@ -247,6 +248,18 @@ typedef struct {
     size_t runs;
 } taa1_counted_answer;
 
+/*
+ * The flips tried, the total of the output bits that changed, and the least and the
+ * greatest change of one flip.
+ */
+typedef struct {
+    uint32_t refusal;
+    uint32_t flips;
+    uint32_t total;
+    uint32_t least;
+    uint32_t greatest;
+} taa1_tally;
+
 /* ---- HURDLE-II: a block [8] under a key [16] ---- */
 
 /* The block, encrypted. */
@@ -274,6 +287,13 @@ taa1_bytes8 taa1_decrypt_register(const uint8_t *key, size_t key_length,
  * anew.
  */
 taa1_bytes16 taa1_register(const uint8_t *key, size_t key_length, uint64_t steps);
+
+/*
+ * A diffusion tally over up to TAA1_MOST_RECORDS records, which are a key and then
+ * a block: each of the 64 block bits is flipped in turn, and the bits that change
+ * in the encrypted block are counted. No records give four zeros.
+ */
+taa1_tally taa1_diffusion(const uint8_t *records, size_t records_length);
 
 /* ---- TA11, TA21, TA41: a session key from a root [16] and a seed [10] ---- */
 

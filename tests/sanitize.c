@@ -374,8 +374,29 @@ static void columns(bool at_end, size_t records, size_t size, filing *to, filing
     give_back(back);
 }
 
+/* ---- Tallies ---- */
+
+static bool counted(taa1_tally t, uint32_t refusal, size_t records)
+{
+    bool zeros = refusal != TAA1_ACCEPTED || records == 0;
+    return t.refusal == refusal && t.flips == 64 * records
+        && (zeros ? t.total + t.least + t.greatest == 0
+                  : 1 <= t.least && t.least <= t.greatest && t.greatest <= 64
+                        && t.flips * t.least <= t.total && t.total <= t.flips * t.greatest);
+}
+
+static void tallies(bool at_end, size_t count)
+{
+    string records = input(TAA1_TALLY_RECORD_BYTES * count, at_end);
+    CHECK(counted(taa1_diffusion(S(records)), TAA1_ACCEPTED, count));
+    if (count > 0)
+        CHECK(counted(taa1_diffusion(records.bytes, records.length - 1), TAA1_BOOK_NOT_WHOLE, 0));
+    give_back(records);
+}
+
 static void too_long(bool at_end)
 {
+    string records = input(TAA1_TALLY_RECORD_BYTES * TAA1_MOST_RECORDS + 1, at_end);
     string session_key = input(16, at_end);
     string challenges = input(TAA1_CHALLENGE_BYTES * (TAA1_MOST_RECORDS + 1), at_end);
     string ring = input(TAA1_RING_BYTES, at_end);
@@ -393,6 +414,8 @@ static void too_long(bool at_end)
     CHECK(is(taa1_plain_from_columns(S(plain), S(out)), TAA1_BOOK_TOO_LONG, 0, 0));
     CHECK(is(taa1_sealed_to_columns(S(out), S(plain)), TAA1_BOOK_TOO_LONG, 0, 0));
     CHECK(is(taa1_sealed_from_columns(S(out), S(plain)), TAA1_BOOK_TOO_LONG, 0, 0));
+    CHECK(counted(taa1_diffusion(S(records)), TAA1_BOOK_TOO_LONG, 0));
+    give_back(records);
     give_back(session_key);
     give_back(challenges);
     give_back(ring);
@@ -407,6 +430,7 @@ static void nulls(void)
     CHECK(taa1_encrypt(NULL, 0, NULL, 0).refusal == TAA1_WRONG_LENGTH);
     CHECK(taa1_decrypt_register(NULL, 0, NULL, 0).refusal == TAA1_WRONG_LENGTH);
     CHECK(taa1_register(NULL, 0, 0).refusal == TAA1_WRONG_LENGTH);
+    CHECK(counted(taa1_diffusion(NULL, 0), TAA1_ACCEPTED, 0));
     CHECK(is(taa1_check_plain(NULL, 0), TAA1_ACCEPTED, 0, 0));
     CHECK(took(taa1_seal_book(S(ring), NULL, 0, NULL, 0), TAA1_ACCEPTED, 0, 0, 0));
     CHECK(took(taa1_open_book(S(ring), NULL, 0, NULL, 0), TAA1_ACCEPTED, 0, 0, 0));
@@ -446,6 +470,7 @@ int main(void)
                     taa1_plain_to_columns, taa1_plain_from_columns);
             columns(at_end, records[i], TAA1_SEALED_RECORD_BYTES,
                     taa1_sealed_to_columns, taa1_sealed_from_columns);
+            tallies(at_end, records[i]);
         }
         too_long(at_end);
     }

@@ -17,7 +17,8 @@ CHALLENGE_BYTES = 10
 AUTHENTICATION_BYTES = 14  # a response, then a key
 SHEET_RECORD_BYTES = 22
 SHEET_VALUE_BYTES = 16
-MOST_RECORDS = 1024  # of a book or a sheet; of challenges in a class
+TALLY_RECORD_BYTES = 24  # a key, then a block
+MOST_RECORDS = 1024  # of a book, a sheet or a tally; of challenges in a class
 SITTING_BYTES = 83  # of a file with what a ring is made from
 
 # How many checks an unsealed text has.
@@ -240,6 +241,15 @@ class CountedBook(NamedTuple):
     runs: int
 
 
+class Tally(NamedTuple):
+    """The flips tried, the total of bits changed, the least and greatest change of a flip."""
+
+    flips: int
+    total: int
+    least: int
+    greatest: int
+
+
 class _Written(NamedTuple):
     """The number of a book's records, and the bytes written to the output."""
 
@@ -290,6 +300,7 @@ _RING_MADE = _answer(
     RingMade, ring=c_uint8 * RING_BYTES, response1=c_uint8 * 4, response2=c_uint8 * 4
 )
 _CARD = _answer(Card, key=c_uint8 * 12, card=c_uint8 * 16)
+_TALLY = _answer(Tally, flips=c_uint32, total=c_uint32, least=c_uint32, greatest=c_uint32)
 _BOOK = _answer(_Written, index=c_size_t, written=c_size_t)
 _COUNTED = _answer(_Counted, index=c_size_t, written=c_size_t, runs=c_size_t)
 
@@ -318,6 +329,7 @@ _CALLS: dict[str, tuple[type[ctypes.Structure], tuple[Any, ...]]] = {
     "encrypt_register": (_BYTES8, (bytes, bytes)),
     "decrypt_register": (_BYTES8, (bytes, bytes)),
     "register": (_BYTES16, (bytes, c_uint64)),
+    "diffusion": (_TALLY, (bytes,)),
     "ta11": (_BYTES16, (bytes, bytes)),
     "ta21": (_BYTES16, (bytes, bytes)),
     "ta41": (_BYTES16, (bytes, bytes)),
@@ -442,6 +454,14 @@ class Engine:
     def register(self, key: Bytes, steps: int) -> bytes:
         """That register after so many steps; after each sixteen it is the key again."""
         return self._call("register", key, steps)
+
+    def diffusion(self, records: Bytes) -> Tally:
+        """How many bits of an encrypted block change when one of the block is flipped.
+
+        Up to MOST_RECORDS records, a key of 16 bytes and a block of 8 each; each of
+        the 64 block bits is flipped in turn.
+        """
+        return self._call("diffusion", records)
 
     def ta11(self, root: Bytes, seed: Bytes) -> bytes:
         """The session key for `ta12`, from a root of 16 bytes and a seed of 10."""

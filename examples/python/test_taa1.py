@@ -23,11 +23,13 @@ from taa1 import (
     SITTING_BYTES,
     CarrierIdentity,
     Cell,
+    TALLY_RECORD_BYTES,
     KeyNumber,
     Kind,
     Refusal,
     Refused,
     Sitting,
+    Tally,
     Version,
 )
 
@@ -105,6 +107,7 @@ ACCEPTED: dict[str, tuple[Any, ...]] = {
     "encrypt_register": (ROOT, BLOCK),
     "decrypt_register": (ROOT, BLOCK),
     "register": (ROOT, 1),
+    "diffusion": (ROOT + BLOCK,),
     "ta11": (ROOT, KEY),
     "ta21": (ROOT, KEY),
     "ta41": (ROOT, KEY),
@@ -249,6 +252,26 @@ class Results(unittest.TestCase):
             keys.append(ENGINE.ta11(keys[-1], KEY))
         values = ENGINE.lineage(b"".join(sheet))
         self.assertEqual(values[:1] + values[2:], keys)
+
+    def test_tallies(self) -> None:
+        """The figures of the single encryptions, for no records and a few."""
+        records = [bytes(24), ROOT + BLOCK, b"\xff" * 24]
+        for n in range(len(records) + 1):
+            changes = [change for one in records[:n] for change in self.changes(one)]
+            wanted = Tally(64 * n, sum(changes), min(changes, default=0), max(changes, default=0))
+            self.assertEqual(ENGINE.diffusion(b"".join(records[:n])), wanted)
+        one = ENGINE.diffusion(records[1])
+        longest = ENGINE.diffusion(records[1] * MOST_RECORDS)
+        self.assertEqual(longest, Tally(65536, MOST_RECORDS * one.total, one.least, one.greatest))
+
+    @staticmethod
+    def changes(record: bytes) -> list[int]:
+        """The bits that change for each of the 64 flips."""
+        key, block = record[:16], record[16:]
+        output = ENGINE.encrypt(key, block)
+        flips = (xor(block, (1 << i).to_bytes(8, "big")) for i in range(64))
+        others = (xor(output, ENGINE.encrypt(key, flip)) for flip in flips)
+        return [bin(int.from_bytes(other, "big")).count("1") for other in others]
 
     def test_seals(self) -> None:
         under10 = xor(upward(10), b"\x07\x08" * 5)
@@ -464,6 +487,11 @@ class Refusals(unittest.TestCase):
                 self.refuses(Refusal.BOOK_TOO_LONG, 0, name, long)
                 self.refuses(Refusal.BOOK_NOT_WHOLE, 0, name, long[: size + 1])
 
+    def test_tallies(self) -> None:
+        long = bytes(TALLY_RECORD_BYTES * MOST_RECORDS + 1)
+        self.refuses(Refusal.BOOK_TOO_LONG, None, "diffusion", long)
+        self.refuses(Refusal.BOOK_NOT_WHOLE, None, "diffusion", long[:25])
+
     def test_single_calls(self) -> None:
         self.refuses(Refusal.WRONG_NUMBER, None, "ta51", KEY, VERSION, ROOT, KeyNumber(32))
         self.refuses(Refusal.WRONG_MASK, None, "ta12", ROOT, KEY, 0x7000, KEY_MASK)
@@ -502,6 +530,7 @@ class Refusals(unittest.TestCase):
             ACCEPTED["ta12_class"][1],
             ACCEPTED["lineage"][0],
             ACCEPTED["sealed_to_columns"][0],
+            ACCEPTED["diffusion"][0],
         )
         for name, values in ACCEPTED.items():
             for at, value in enumerate(values):
@@ -546,7 +575,7 @@ class Values(unittest.TestCase):
         """ACCEPTED, which the tests below go by, has each call, and each accepts it."""
         public = {name for name in vars(taa1.Engine) if not name.startswith("_")}
         self.assertEqual(set(ACCEPTED), public)
-        self.assertEqual(len(public), 44)
+        self.assertEqual(len(public), 45)
         for name, values in ACCEPTED.items():
             with self.subTest(name):
                 call(name, *values)

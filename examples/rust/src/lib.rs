@@ -20,7 +20,9 @@ pub const CHALLENGE_BYTES: usize = 10;
 pub const AUTHENTICATION_BYTES: usize = 14;
 pub const SHEET_RECORD_BYTES: usize = 22;
 pub const SHEET_VALUE_BYTES: usize = 16;
-/// The most records of a book or a sheet, and the most challenges of a class.
+/// Bytes of a key and a block.
+pub const TALLY_RECORD_BYTES: usize = 24;
+/// The most records of a book, a sheet or a tally, and the most challenges of a class.
 pub const MOST_RECORDS: usize = 1024;
 /// Bytes of a file with what a ring is made from.
 pub const SITTING_BYTES: usize = 83;
@@ -151,6 +153,16 @@ pub struct CountedBook {
     pub runs: usize,
 }
 
+/// The flips tried, the total of the output bits that changed, and the least and
+/// the greatest change of one flip.
+#[derive(Clone, Copy, Debug, PartialEq, Eq)]
+pub struct Tally {
+    pub flips: u32,
+    pub total: u32,
+    pub least: u32,
+    pub greatest: u32,
+}
+
 /// Calls the engine: `[name]` is a byte string and `{name}` an output.
 macro_rules! call {
     ($call:ident($($([$bytes:ident])? $({$out:ident})? $($value:ident)?),*)) => {
@@ -189,6 +201,20 @@ pub fn decrypt_register(key: &[u8], block: &[u8]) -> Result<[u8; 8], Refusal> {
 /// That register after so many steps; after each sixteen it is the key again.
 pub fn register(key: &[u8], steps: u64) -> Result<[u8; 16], Refusal> {
     bytes(call!(register([key], steps)))
+}
+
+/// A diffusion tally over up to [`MOST_RECORDS`] records, which are a key and then
+/// a block: each of the 64 block bits is flipped in turn, and the bits that change
+/// in the encrypted block are counted.
+pub fn diffusion(records: &[u8]) -> Result<Tally, Refusal> {
+    let answer = call!(diffusion([records]));
+    Refusal::test(answer.refusal)?;
+    Ok(Tally {
+        flips: answer.flips,
+        total: answer.total,
+        least: answer.least,
+        greatest: answer.greatest,
+    })
 }
 
 /// The session key for [`ta12`], from a root of 16 bytes and a seed of 10.

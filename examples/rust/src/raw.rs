@@ -101,6 +101,16 @@ pub struct CountedAnswer {
     pub runs: usize,
 }
 
+#[repr(C)]
+#[derive(Clone, Copy, Debug, PartialEq, Eq)]
+pub struct Tally {
+    pub refusal: u32,
+    pub flips: u32,
+    pub total: u32,
+    pub least: u32,
+    pub greatest: u32,
+}
+
 /// Hands the declarations of all calls to a macro: `[name]` is a byte string and
 /// `{name}` an output, which are a pointer and a length each.
 #[macro_export]
@@ -112,6 +122,7 @@ macro_rules! calls {
             encrypt_register([key], [block]) -> Bytes<8>;
             decrypt_register([key], [block]) -> Bytes<8>;
             register([key], steps: u64) -> Bytes<16>;
+            diffusion([records]) -> Tally;
             ta11([root], [seed]) -> Bytes<16>;
             ta21([root], [seed]) -> Bytes<16>;
             ta41([root], [seed]) -> Bytes<16>;

@@ -5,9 +5,9 @@ use std::thread;
 
 use taa1::{
     Authentication, Book, BookRefusal, Card, CarrierIdentity, Cell, CountedBook, CountedRefusal,
-    FailedChecks, KeyNumber, Kind, Refusal, RingMade, Sitting, Unsealed, UnsealedNumbered, Version,
-    CHALLENGE_BYTES, MOST_RECORDS, PLAIN_RECORD_BYTES, RING_BYTES, SEALED_RECORD_BYTES,
-    SHEET_RECORD_BYTES, SHEET_VALUE_BYTES,
+    FailedChecks, KeyNumber, Kind, Refusal, RingMade, Sitting, Tally, Unsealed, UnsealedNumbered,
+    Version, CHALLENGE_BYTES, MOST_RECORDS, PLAIN_RECORD_BYTES, RING_BYTES, SEALED_RECORD_BYTES,
+    SHEET_RECORD_BYTES, SHEET_VALUE_BYTES, TALLY_RECORD_BYTES,
 };
 
 const ROOT: [u8; 16] = *b"a root or key...";
@@ -139,6 +139,46 @@ fn masks_choose() {
     let ta12 = taa1::ta12(&ROOT, &challenge, response_mask, key_mask);
     let ta22 = taa1::ta22(&ROOT, &challenge, response_mask, key_mask);
     assert_eq!((ta12, ta22), (chosen, chosen));
+}
+
+/// The figures of the single encryptions, for no records and a few.
+#[test]
+fn flips_are_tallied() {
+    let records: Vec<[u8; TALLY_RECORD_BYTES]> =
+        vec![[0; 24], upward(), [0xff; 24], from_fn(|i| (i * i) as u8)];
+    for n in 0..=records.len() {
+        let changes: Vec<u32> = records[..n].iter().flat_map(changes).collect();
+        let wanted = Tally {
+            flips: 64 * n as u32,
+            total: changes.iter().sum(),
+            least: changes.iter().copied().min().unwrap_or(0),
+            greatest: changes.iter().copied().max().unwrap_or(0),
+        };
+        assert_eq!(taa1::diffusion(&records[..n].concat()), Ok(wanted));
+    }
+    let longest = taa1::diffusion(&[7; TALLY_RECORD_BYTES * MOST_RECORDS]).unwrap();
+    let one = taa1::diffusion(&[7; TALLY_RECORD_BYTES]).unwrap();
+    assert_eq!((longest.flips, longest.total), (65_536, 1024 * one.total));
+}
+
+/// The bits that change for each of the 64 flips.
+fn changes(record: &[u8; TALLY_RECORD_BYTES]) -> Vec<u32> {
+    let (key, block) = record.split_at(16);
+    let output = taa1::encrypt(key, block).unwrap();
+    let change = |i: usize| {
+        let mut flipped = block.to_vec();
+        flipped[i / 8] ^= 1 << (i % 8);
+        let other = taa1::encrypt(key, &flipped).unwrap();
+        xor(output, other).iter().map(|x| x.count_ones()).sum()
+    };
+    (0..64).map(change).collect()
+}
+
+#[test]
+fn tallies_are_refused() {
+    let long = [0; TALLY_RECORD_BYTES * MOST_RECORDS + 1];
+    assert_eq!(taa1::diffusion(&long), Err(Refusal::BookTooLong));
+    assert_eq!(taa1::diffusion(&long[..25]), Err(Refusal::BookNotWhole));
 }
 
 /// The empty class and repeated challenges among them.
