@@ -11,18 +11,24 @@ mod rust;
 use host::both::{self, AUTHENTICATION, CHALLENGE, MOST, RING};
 use host::random::Random;
 use interface::{SHEET_RECORD_BYTES, SHEET_VALUE_BYTES};
+use std::array::from_fn;
 use std::hint::black_box;
 use std::time::{Duration, Instant};
 
 #[rustfmt::skip]
-const ROWS: [&str; 23] = [
+const ROWS: [&str; 24] = [
     "schedule", "block, keys laid out", "schedule and block",
-    "register and block", "schedule, decrypted", "register, decrypted",
+    "register and block", "schedule, decrypted", "register, decrypted", FLIP_ROW,
     "TA11", "TA31", "TA32", "TA51", "TA52", "TA81", "TA82", "TA91", "TA92",
     "record sealed", "record opened", "record into columns", "record from columns",
     "TA12, one by one", "TA12, in a class",
     "TA11, one by one", "TA11, in a sheet",
 ];
+/// Its steps are the flips of one tally.
+const FLIP_ROW: &str = "flip in a tally";
+const TALLY: usize = 32;
+/// A key and a block.
+const TALLY_RECORD: usize = 24;
 /// The last rows, whose steps are the records of one book, class or sheet.
 const LIST_ROWS: usize = 8;
 const RECORDS: usize = MOST;
@@ -50,6 +56,8 @@ struct Inputs {
     challenges: Vec<u8>,
     /// A chain: the first key, a seed, and TA11 of the record before and the seed.
     sheet: Vec<u8>,
+    /// Keys and blocks.
+    tally: Vec<u8>,
 }
 
 /// A sheet's record of a given key.
@@ -113,7 +121,33 @@ impl Inputs {
             for i in 0..STEPS {
                 step(i, &mut text);
             }
-            std::array::from_fn(|i| text[i])
+            from_fn(|i| text[i])
+        }))
+    }
+
+    /// The flips of a tally, one block after the other: round keys once for a
+    /// record, then its block and the block with each bit flipped.
+    fn flips<'a, K>(
+        &'a self,
+        schedule: impl Fn(&[u8; 16]) -> K + 'a,
+        encrypt: impl Fn(&mut K, [u8; 8]) -> [u8; 8] + 'a,
+    ) -> Round<'a> {
+        Some(Box::new(move || {
+            let (mut total, mut least, mut greatest) = (0, 64, 0);
+            for record in self.tally.chunks_exact(TALLY_RECORD) {
+                let mut keys = schedule(&from_fn(|i| record[i]));
+                let block: [u8; 8] = from_fn(|i| record[16 + i]);
+                let output = u64::from_be_bytes(encrypt(&mut keys, block));
+                for i in 0..64 {
+                    let flipped = u64::from_be_bytes(block) ^ (1 << i);
+                    let other = encrypt(&mut keys, flipped.to_be_bytes());
+                    let change = (output ^ u64::from_be_bytes(other)).count_ones();
+                    total += change;
+                    least = change.min(least);
+                    greatest = change.max(greatest);
+                }
+            }
+            figures(total, least, greatest)
         }))
     }
 
@@ -176,6 +210,12 @@ impl Inputs {
     }
 }
 
+/// A tally's sum and extremes as a block.
+fn figures(total: u32, least: u32, greatest: u32) -> [u8; 8] {
+    let [a, b, c, d] = total.to_be_bytes();
+    [a, b, c, d, 0, 0, least as u8, greatest as u8]
+}
+
 /// Makes the next text of what an unseal gave. osmo-tetra tells of the checks only
 /// whether one failed.
 fn put(text: &mut [u8; 15], key: &[u8], number: u16, failed: bool) {
@@ -231,6 +271,7 @@ fn main() {
         ring,
         plain,
         challenges: random.vec(CHALLENGE * RECORDS),
+        tally: random.vec(TALLY_RECORD * TALLY),
     };
     let mut ours = ours::rounds(&inputs);
     let mut osmo = osmo_rounds(&inputs);
@@ -243,8 +284,11 @@ fn main() {
     );
     let mut times = [None; ROWS.len()];
     for (i, row) in ROWS.into_iter().enumerate() {
-        let list = i >= ROWS.len() - LIST_ROWS;
-        let steps = if list { RECORDS } else { STEPS };
+        let steps = match i {
+            _ if row == FLIP_ROW => 64 * TALLY,
+            _ if i >= ROWS.len() - LIST_ROWS => RECORDS,
+            _ => STEPS,
+        };
         let [a, b, c] = least(row, steps, [&mut ours[i], &mut osmo[i], &mut rust[i]]);
         let ratio = |x: Option<f64>| Some(a? / x?);
         println!(

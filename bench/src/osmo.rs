@@ -28,6 +28,17 @@ pub fn rounds(inputs: &Inputs) -> Rounds<'_> {
         call(RoundKeys::encrypt),
         call(RoundKeys::decrypt),
         call(RoundKeys::decrypt),
+        inputs.flips(
+            |key| {
+                let mut keys = RoundKeys::default();
+                keys.set(key);
+                keys
+            },
+            |keys, mut block| {
+                keys.encrypt(&mut block);
+                block
+            },
+        ),
     ];
     let calls = cipher.into_iter().chain(texts(inputs));
     // It has no call for a class, so both rows are its challenges one by one.

@@ -1,12 +1,16 @@
 //! The engine. The calls are its own; the steps are another archive's.
 
-use crate::{Inputs, Round, Rounds, KEY_MASK, RESPONSE_MASK};
+use crate::{figures, Inputs, Round, Rounds, KEY_MASK, RESPONSE_MASK};
 use host::both::{AUTHENTICATION, PLAIN, SEALED};
 use host::engine;
 use interface::SHEET_VALUE_BYTES;
 
 pub fn rounds(inputs: &Inputs) -> Rounds<'_> {
     let [schedule, block] = steps(inputs);
+    let flip: Round = Some(Box::new(|| {
+        let tally = engine::diffusion(&inputs.tally);
+        figures(tally.total, tally.least, tally.greatest)
+    }));
     let cipher = [
         schedule,
         block,
@@ -14,6 +18,7 @@ pub fn rounds(inputs: &Inputs) -> Rounds<'_> {
         inputs.calls(|key, block| *block = engine::encrypt_register(key, block).bytes),
         inputs.calls(|key, block| *block = engine::decrypt(key, block).bytes),
         inputs.calls(|key, block| *block = engine::decrypt_register(key, block).bytes),
+        flip,
     ];
     let session_key = &inputs.keys[0];
     let lists = [

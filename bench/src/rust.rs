@@ -18,6 +18,9 @@ pub fn rounds(inputs: &Inputs) -> Rounds<'_> {
         inputs.calls(|key, block| *block = hurdle::encrypt(key, block)),
         inputs.calls(|key, block| *block = hurdle::decrypt(key, block)),
         inputs.calls(|key, block| *block = hurdle::decrypt(key, block)),
+        inputs.flips(hurdle::schedule, |keys, block| {
+            hurdle::encrypt_with(keys, &block)
+        }),
     ];
     let session_key = &inputs.keys[0];
     let lists = [
