@@ -1,9 +1,9 @@
 //! The engine's calls, over slices.
 
-use crate::{books, cards, inverses, taa1};
+use crate::{books, cards, diffusion, inverses, taa1};
 pub use interface::raw::{
     Authentication, BookAnswer, Bytes, Card, CarrierIdentity, Cell, CountedAnswer, Identity,
-    RingMade, Unsealed, UnsealedNumbered, Value,
+    RingMade, Tally, Unsealed, UnsealedNumbered, Value,
 };
 pub use interface::{KeyNumber, Version};
 
@@ -29,6 +29,7 @@ answers! {
     taa1::UnsealedNumbered -> UnsealedNumbered { key, number, failed_checks }
     taa1::RingMade -> RingMade { ring, response1, response2 }
     cards::Card -> Card { key, card }
+    diffusion::Diffusion -> Tally { flips, total, least, greatest }
     inverses::Value -> Value { value }
     inverses::Cell -> Cell { location_area, carrier, colour_code }
     inverses::CarrierIdentity -> CarrierIdentity { carrier, identity }

@@ -8,6 +8,7 @@ pub mod cards;
 pub mod class;
 pub mod columns;
 pub mod damaged;
+pub mod diffusion;
 pub mod engine;
 pub mod hurdle;
 pub mod inverses;

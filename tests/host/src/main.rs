@@ -7,6 +7,7 @@ mod cipher;
 mod class_calls;
 mod column_calls;
 mod derivation;
+mod diffusion_calls;
 mod edges;
 mod identity;
 mod inverse_calls;
@@ -36,5 +37,6 @@ fn main() -> ExitCode {
     class_calls::run(&mut tally, &mut random);
     lineage_calls::run(&mut tally, &mut random);
     column_calls::run(&mut tally, &mut random);
+    diffusion_calls::run(&mut tally, &mut random);
     tally.finish()
 }

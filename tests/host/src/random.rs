@@ -50,6 +50,13 @@ impl Random {
         bytes
     }
 
+    /// Puts a list into any order.
+    pub fn shuffle<T>(&mut self, list: &mut [T]) {
+        for i in 1..list.len() {
+            list.swap(i, self.below(i + 1));
+        }
+    }
+
     /// A well-formed plain record of this kind.
     pub fn record(&mut self, kind: u8) -> [u8; PLAIN] {
         let mut record = self.bytes();
