@@ -9,8 +9,9 @@ use lib.Dec.{eqb, ltb}
 use borrow.Author.Tests.{eqb-true, ltb-true}
 use Rattle.standard.specs.Bytes.{_!_, _⊕_, table, zeros}
 use Rattle.standard.specs.Hurdle.{D, a, Q, laid, schedule}
+use Rattle.standard.specs.Tables.{runningSum, turn, rotations as printed}
 use Rattle.standard.proofs.BytesLaws.{table-at, table-same, and-split, every, every-at}
-use Rattle.standard.proofs.ScheduleLaws.{turn, Q-linear, byteAt, laid-table}
+use Rattle.standard.proofs.ScheduleLaws.{Q-linear, byteAt, laid-table}
 
 -- ---- the constants of the code
 
@@ -37,10 +38,15 @@ masks =
     0xf7 ∷ 0x3c ∷ 0xa7 ∷ 0xec ∷ 0x25 ∷ 0x79 ∷ 0x57 ∷ 0xdf ∷ 0xc0 ∷ 0x38 ∷ 0x0a ∷ 0x33 ∷ []
 
 pub rotation : (i : ℕ) → i < 16 → (rotations ! i ≡ turn i) × (rotations ! i < 16)
-unfolding rotations turn a
+unfolding rotations runningSum a
 rotation i h =
     let e = and-split _ _ (every-at 16 (λ j. eqb (rotations ! j) (turn j) && ltb (rotations ! j) 16) refl i h) in
     (eqb-true _ _ (e .0), ltb-true _ _ (e .1))
+
+-- the rotations printed (02, 13) are those of the code, from the second on; the last is that of the first round key, which is the key
+pub printed-rotation : (i : ℕ) → i < 16 → printed ! i ≡ rotations ! ((i + 1) % 16)
+unfolding printed rotations runningSum a
+printed-rotation i h = eqb-true _ _ (every-at 16 (λ j. eqb (printed ! j) (rotations ! ((j + 1) % 16))) refl i h)
 
 masks-laid : masks ≡ schedule (zeros 16)
 unfolding masks laid Q D a

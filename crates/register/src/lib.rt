@@ -42,7 +42,7 @@ const D: [u8; 16] = [
 ];
 
 // The rotations a1, a2, ..
-const A: [usize; 16] = [5, 5, 5, 5, 3, 7, 5, 5, 5, 5, 7, 3, 5, 5, 5, 5];
+pub const A: [usize; 16] = [5, 5, 5, 5, 3, 7, 5, 5, 5, 5, 7, 3, 5, 5, 5, 5];
 
 // Rotated left by n bytes.
 fn rotated(q: [u8; 16], n: usize) -> [u8; 16]

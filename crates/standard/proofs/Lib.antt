@@ -8,6 +8,7 @@ pub mod InverseLaws
 pub mod HurdleLaws
 pub mod ScheduleLaws
 pub mod RegisterLaws
+pub mod TableLaws
 pub mod CoreLaws
 pub mod ExpansionLaws
 pub mod SealLaws

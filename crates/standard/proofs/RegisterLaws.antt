@@ -12,8 +12,9 @@ use borrow.Author.Tests.{leb-true}
 use Rattle.standard.specs.Bytes.{_!_, _⊕_, table, part, xors, zeros}
 use Rattle.standard.specs.Hurdle.{Halves, round, rounds, crypt, D, a, rotl, next, Q, schedule, roundKey, encrypt, decrypt}
 use Rattle.standard.specs.Register.{step, stepBack, turned, State, start, onward, backward, joined, encryptRegister, decryptRegister, StepBack, Returns, BeginsAnew, SameCipher}
+use Rattle.standard.specs.Tables.{runningSum, turn}
 use Rattle.standard.proofs.BytesLaws.{table-at, table-same, spelled, every, every-at}
-use Rattle.standard.proofs.ScheduleLaws.{turn, Q-linear, round-key}
+use Rattle.standard.proofs.ScheduleLaws.{Q-linear, round-key}
 use Rattle.standard.proofs.XorLaws.{xor-cancel-r}
 
 -- ---- the step and the step back
@@ -79,7 +80,7 @@ unfolding Q D a
 zero-back = refl
 
 turn-whole : turn 16 ≡ 0
-unfolding turn a
+unfolding runningSum a
 turn-whole = refl
 
 Q-length : (key : List ℕ) (n : ℕ) → length key ≡ 16 → length (Q key n) ≡ 16

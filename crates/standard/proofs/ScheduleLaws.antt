@@ -8,13 +8,13 @@ use native.Mathlib.Omega.{arith}
 use lib.Bits.{xor-zero-r}
 use Rattle.standard.specs.Bytes.{_!_, _⊕_, table, part, zeros}
 use Rattle.standard.specs.Hurdle.{D, a, rotl, Q, laid, schedule, roundKey}
+use Rattle.standard.specs.Tables.{runningSum, turn}
 use Rattle.standard.proofs.BytesLaws.{table-at, table-same}
 use Rattle.standard.proofs.XorLaws.{xor-assoc}
 
--- a1 + .. + ai modulo 16
-unfoldable pub turn : ℕ → ℕ
-turn zero = 0
-turn (suc i) = (turn i + a ! i) % 16
+pub turn-next : (i : ℕ) → turn (suc i) ≡ (turn i + a ! i) % 16
+unfolding runningSum
+turn-next i = omega arith
 
 Q-step : (key : List ℕ) (i m : ℕ) → m < 16 → Q key (suc i) ! m ≡ Q key i ! ((m + a ! i) % 16) ⊕ D ! m
 unfolding Q
@@ -26,7 +26,7 @@ turned-on : (m x t : ℕ) → ((m + x) % 16 + t) % 16 ≡ (m + (t + x) % 16) % 1
 turned-on m x t = omega arith
 
 pub Q-linear : (key : List ℕ) (i m : ℕ) → m < 16 → Q key i ! m ≡ key ! ((m + turn i) % 16) ⊕ Q (zeros 16) i ! m
-unfolding turn Q
+unfolding runningSum Q
 Q-linear key zero m h = sym (rw (table-at 16 (λ j. 0) m h, xor-zero-r, add-zero, mod-eq-of-lt h))
 Q-linear key (suc i) m h =
     let m′ : ℕ = (m + a ! i) % 16 in
@@ -34,7 +34,7 @@ Q-linear key (suc i) m h =
     Q-step key i m h
     ∙ ap (λ (x : ℕ). x ⊕ D ! m) (Q-linear key i m′ k)
     ∙ xor-assoc (key ! ((m′ + turn i) % 16)) (Q (zeros 16) i ! m′) (D ! m)
-    ∙ ap₂ (λ (n x : ℕ). key ! n ⊕ x) (turned-on m (a ! i) (turn i)) (sym (Q-step (zeros 16) i m h))
+    ∙ ap₂ (λ (n x : ℕ). key ! n ⊕ x) (turned-on m (a ! i) (turn i) ∙ ap (λ (n : ℕ). (m + n) % 16) (sym (turn-next i))) (sym (Q-step (zeros 16) i m h))
 
 -- ---- the round keys laid out
 

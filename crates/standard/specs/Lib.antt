@@ -9,6 +9,7 @@ pub mod Lists
 pub mod Runs
 pub mod Books
 pub mod Text
+pub mod Tables
 pub mod Listing
 pub mod Demand3
 pub mod Derivation

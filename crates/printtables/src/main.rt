@@ -1,0 +1,15 @@
+// Prints the inverse of S and the running rotations of the key schedule. Reads nothing.
+use libc::STDERR_FILENO;
+use programs::write_output;
+use tables::TABLES_TEXT;
+use tables::print_tables;
+
+fn main() {
+    if os::arg_count() > 1 {
+        io::write_all(STDERR_FILENO, b"usage: printtables\n");
+        return;
+    }
+    let mut out = [0u8; TABLES_TEXT];
+    let answer = print_tables(&mut out);
+    write_output(b"printtables", &out, answer.written);
+}

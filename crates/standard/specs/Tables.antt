@@ -1,0 +1,73 @@
+-- The printed tables (02, 13): the inverse of S and the running rotations of the schedule, and the text that printtables writes.
+-- Assumes nothing.
+use mathlib.Core.List.{List, [], _∷_, _++_}
+use mathlib.Core.Path.{_≡_}
+use Prim.Native.Nat.{ℕ, zero, suc, _+_, _*_, _%_, _<_}
+use lib.Dec.{eqb}
+use Rattle.standard.specs.Bytes.{_!_, table, part, choose}
+use Rattle.standard.specs.Hurdle.{S, S⁻¹, a}
+use Rattle.standard.specs.Text.{ascii, hexByte, textCall}
+use Rattle.standard.specs.declared.TextAnswer.{TextAnswer}
+
+-- ---- the tables
+
+-- the index at which y first stands
+abbrev pub placeOf : ℕ → List ℕ → ℕ
+placeOf y [] = 0
+placeOf y (x ∷ xs) = choose (eqb x y) 0 (suc (placeOf y xs))
+
+-- the inverse of s: entry y is the index at which s has y
+unfoldable pub inverse : List ℕ → List ℕ
+inverse s = table 256 (λ y. placeOf y s)
+
+-- a1 + .. + ai
+unfoldable pub runningSum : ℕ → ℕ
+runningSum zero = 0
+runningSum (suc i) = runningSum i + a ! i
+
+-- how far the key is rotated in Q(i+1)
+abbrev pub turn : ℕ → ℕ
+turn i = runningSum i % 16
+
+-- the running rotations: those by a1, by a1 and a2, and so on, to all sixteen
+unfoldable pub rotations : List ℕ
+rotations = table 16 (λ i. turn (suc i))
+
+-- ---- the text
+
+-- entries, with a space behind each
+unfoldable pub spaced : List ℕ → List ℕ
+spaced [] = []
+spaced (x ∷ xs) = (hexByte x ++ ascii " ") ++ spaced xs
+
+-- a line of sixteen entries: a space behind each but the last
+unfoldable pub tableLine : List ℕ → List ℕ
+tableLine t = spaced (part 0 15 t) ++ hexByte (t ! 15) ++ ascii "\n"
+
+-- the first n lines of a table
+unfoldable pub tableLines : ℕ → List ℕ → List ℕ
+tableLines zero t = []
+tableLines (suc n) t = tableLines n t ++ tableLine (part (16 * n) 16 t)
+
+-- sixteen lines of the inverse, then one of the rotations
+unfoldable pub tablesText : List ℕ
+tablesText = tableLines 16 (inverse S) ++ tableLine rotations
+
+-- the call: the text into an output
+abbrev pub tablesCall : List ℕ → TextAnswer × List ℕ
+tablesCall out = textCall tablesText out
+
+-- ---- what the request asks for, stated; the proofs are in proofs/TableLaws
+
+-- the inverse made is the stored constant, entry for entry
+abbrev pub InverseMade : Type 0
+InverseMade = inverse S ≡ S⁻¹
+
+-- the rotations are these; each value from 0 to 15 stands at one place among them, and at no other
+pub record Rotations : Type 0 where
+  pub are : rotations ≡ 5 ∷ 10 ∷ 15 ∷ 4 ∷ 7 ∷ 14 ∷ 3 ∷ 8 ∷ 13 ∷ 2 ∷ 9 ∷ 12 ∷ 1 ∷ 6 ∷ 11 ∷ 0 ∷ []
+  pub once : (v : ℕ) → v < 16 → (i : ℕ) × (i < 16) × (rotations ! i ≡ v) × ((j : ℕ) → j < 16 → rotations ! j ≡ v → j ≡ i)
+
+-- the last line printed
+abbrev pub LastLine : Type 0
+LastLine = tableLine rotations ≡ ascii "05 0a 0f 04 07 0e 03 08 0d 02 09 0c 01 06 0b 00\n"
