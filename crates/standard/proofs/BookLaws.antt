@@ -2,10 +2,10 @@
 -- Assumes nothing.
 use mathlib.Core.Path.{_≡_, refl, sym, ap, ap₂, _∙_, subst}
 use mathlib.Core.Logic.{_⊎_, inl, inr, _↔_}
-use mathlib.Core.List.{List, [], _∷_, _++_}
+use mathlib.Core.List.{List, [], _∷_, _++_, append-assoc, append-nil}
 use mathlib.Core.Bool.{Bool, true}
 use Prim.Native.Nat.{ℕ, zero, suc, _+_, _*_, _/_, _<_, _≤_}
-use native.Mathlib.Nat.{mul-suc, mul-zero, mul-div-cancel-left, mul-le-mul-left, eq-or-lt-of-le, le-of-suc-le-suc}
+use native.Mathlib.Nat.{add-zero, add-suc, mul-suc, mul-zero, mul-div-cancel-left, mul-le-mul-left, eq-or-lt-of-le, le-of-suc-le-suc}
 use native.Mathlib.Omega.{arith}
 use lib.ListN.{length, length-append}
 use Rattle.standard.specs.Bytes.{_!_, part, table, Bytes, Passed}
@@ -26,8 +26,17 @@ pub joined-same : (n : ℕ) (g h : ℕ → List ℕ) → ((i : ℕ) → i < n �
 joined-same zero g h e = refl
 joined-same (suc n) g h e = ap₂ _++_ (joined-same n g h (λ i k. e i (omega arith))) (e n (omega arith))
 
+pub joined-add : (m n : ℕ) (g : ℕ → List ℕ) → joined (m + n) g ≡ joined m g ++ joined n (λ j. g (m + j))
+joined-add m zero g = rw add-zero (sym (append-nil (joined m g)))
+joined-add m (suc n) g =
+    rw add-suc (ap (λ (r : List ℕ). r ++ g (m + n)) (joined-add m n g) ∙ append-assoc (joined m g) (joined n (λ j. g (m + j))) (g (m + n)))
+
 -- of v bytes each
 module _ (v : ℕ) (g : ℕ → List ℕ) where
+  pub joined-bytes : (n : ℕ) → ((i : ℕ) → i < n → Bytes v (g i)) → Bytes (v * n) (joined n g)
+  joined-bytes zero h = rw mul-zero bytes-nil
+  joined-bytes (suc n) h = rw mul-suc (bytes-append (joined-bytes n (λ i k. h i (omega arith))) (h n (omega arith)))
+
   pub joined-length : (n : ℕ) → ((i : ℕ) → i < n → length (g i) ≡ v) → length (joined n g) ≡ v * n
   joined-length zero h = sym (mul-zero v)
   joined-length (suc n) h =
@@ -68,11 +77,10 @@ each-self n w xs e = each-table n w xs ∙ spelled (w * n) xs e
 
 module _ (w v : ℕ) (f : List ℕ → List ℕ) (xs : List ℕ) where
   each-bytes : (n : ℕ) → ((i : ℕ) → i < n → Bytes v (f (part (w * i) w xs))) → Bytes (v * n) (each n w f xs)
-  each-bytes zero h = rw mul-zero bytes-nil
-  each-bytes (suc n) h = rw mul-suc (bytes-append (each-bytes n (λ i k. h i (omega arith))) (h n (omega arith)))
+  each-bytes n h = joined-bytes v (λ i. f (recordAt w xs i)) n h
 
   -- record i of what was made is made of record i
-  each-at : (n : ℕ) → ((i : ℕ) → i < n → Bytes v (f (part (w * i) w xs)))
+  pub each-at : (n : ℕ) → ((i : ℕ) → i < n → Bytes v (f (part (w * i) w xs)))
       → (i : ℕ) → i < n → part (v * i) v (each n w f xs) ≡ f (part (w * i) w xs)
   each-at n h i k = joined-at v (λ j. f (recordAt w xs j)) n (λ j l. h j l .len) i k
 

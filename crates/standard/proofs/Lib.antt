@@ -20,6 +20,8 @@ pub mod BookLaws
 pub mod AnswerLaws
 pub mod RunLaws
 pub mod Demand3Laws
+pub mod ShuffleLaws
+pub mod RingExample
 pub mod ListingLaws
 pub mod FactLaws
 pub mod LineageLaws

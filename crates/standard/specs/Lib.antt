@@ -12,6 +12,7 @@ pub mod Text
 pub mod Tables
 pub mod Listing
 pub mod Demand3
+pub mod Shuffles
 pub mod Derivation
 pub mod Mixing
 pub mod Classes
