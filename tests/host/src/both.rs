@@ -58,6 +58,13 @@ impl Call {
         answer.refusal
     }
 
+    /// What the engine writes for an accepted book.
+    pub fn made(&self, ring: &[u8], book: &[u8]) -> Vec<u8> {
+        let mut out = vec![0; self.room(book)];
+        (self.engine)(ring, book, &mut out);
+        out
+    }
+
     /// Compares with the independent implementation. An output without room is null too.
     pub fn compare(&self, group: &mut Group, ring: &[u8], book: &[u8], room: usize) {
         if group.turn() {
@@ -68,8 +75,13 @@ impl Call {
     /// Wants the book accepted, these bytes written and the runs of the rules,
     /// whatever the independent implementation does.
     pub fn want(&self, group: &mut Group, ring: &[u8], book: &[u8], wanted: &[u8]) {
-        self.same(group, ring, book, wanted.len(), |out| {
-            out.copy_from_slice(wanted);
+        self.want_in(group, ring, book, wanted, wanted.len());
+    }
+
+    /// The same in an output that may be longer.
+    pub fn want_in(&self, group: &mut Group, ring: &[u8], book: &[u8], wanted: &[u8], room: usize) {
+        self.same(group, ring, book, room, |out| {
+            out[..wanted.len()].copy_from_slice(wanted);
             let index = book.len() / self.from;
             CountedAnswer {
                 refusal: 0,

@@ -15,6 +15,7 @@ mod lineage_calls;
 mod list;
 mod masks;
 mod mixing;
+mod order_calls;
 mod ring;
 mod seals;
 
@@ -34,6 +35,7 @@ fn main() -> ExitCode {
     card_calls::run(&mut tally, &mut random);
     ring::run(&mut tally, &mut random);
     book_calls::run(&mut tally, &mut random);
+    order_calls::run(&mut tally, &mut random);
     class_calls::run(&mut tally, &mut random);
     lineage_calls::run(&mut tally, &mut random);
     column_calls::run(&mut tally, &mut random);
