@@ -1,0 +1,3 @@
+"""The TAA1 engine for Python hosts (`engine`), and the desk over it (`cli`)."""
+
+from .engine import *  # every public name of the module is the package's
