@@ -133,7 +133,7 @@ def main() -> None:
         sys.exit("usage: sitting.py LIBRARY [FOLDER]")
     try:
         engine = taa1.Engine(os.path.abspath(sys.argv[1]))
-    except (OSError, AttributeError):  # no library, or one without the calls
+    except taa1.LibraryError:  # no library, or one without the calls
         sys.exit(f"sitting: {sys.argv[1]} cannot be loaded")
     try:
         play(engine, sys.argv[2] if len(sys.argv) > 2 else "samples")

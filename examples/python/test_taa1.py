@@ -585,7 +585,7 @@ class Values(unittest.TestCase):
             for at, value in enumerate(values):
                 for wrong in WRONG[type(value)]:
                     with self.subTest(call=name, argument=at + 1, value=wrong):
-                        text = f"^{name}, argument {at + 1}: .* expected, not "
+                        text = rf"^{name}, argument {at + 1} \([a-z0-9_]+\): .* expected, not "
                         with self.assertRaisesRegex(TypeError, text):
                             call(name, *values[:at], wrong, *values[at + 1 :])
 

@@ -8,7 +8,11 @@ from dataclasses import dataclass
 from enum import IntEnum
 from typing import Any, Callable, Iterator, NamedTuple, Union
 
-Bytes = Union[bytes, bytearray, memoryview]
+from .calls import CALLS
+from .library import LibraryError, find
+
+# Any object with the buffer protocol and items of one byte will do: array, mmap and so on.
+Bytes = Union[bytes, bytearray, memoryview, Any]
 
 RING_BYTES = 52
 PLAIN_RECORD_BYTES = 18
@@ -119,8 +123,21 @@ def _fit(kind: Any, value: int) -> Any:
     """The integer as C's. ctypes would cut one that is too wide."""
     number = kind(_expect(value, int))
     if number.value != value:
-        raise OverflowError(f"{value:#x} does not fit {8 * ctypes.sizeof(kind)} bits")
+        width = value.bit_length()
+        shown = f"{value:#x}" if width <= 128 else f"a number of {width:,} bits"
+        raise OverflowError(f"{shown} does not fit {8 * ctypes.sizeof(kind)} bits")
     return number
+
+
+def _bytes(value: Any) -> bytes:
+    """The bytes of an object with the buffer protocol."""
+    try:
+        view = memoryview(value)
+    except TypeError:
+        raise TypeError(f"bytes expected, not {type(value).__name__}") from None
+    if view.itemsize != 1:
+        raise TypeError(f"bytes expected, not items of {view.itemsize} bytes")
+    return view.tobytes()
 
 
 @dataclass(frozen=True)
@@ -375,7 +392,7 @@ _CALLS: dict[str, tuple[type[ctypes.Structure], tuple[Any, ...]]] = {
 def _pass(kind: Any, value: Any) -> tuple[Any, ...]:
     """A value as C takes it, by the kind of its parameter."""
     if kind is bytes:
-        data = bytes(_expect(value, bytes, bytearray, memoryview))
+        data = _bytes(value)
         return data, len(data)
     if kind is bytearray:
         return (c_char * len(value)).from_buffer(value), len(value)
@@ -389,33 +406,50 @@ class Engine:
 
     The calls share nothing, so any number of threads may make them at once.
 
-    A byte string is bytes, bytearray or memoryview. A value of a wrong type is a
-    TypeError; a bool counts as an int. An integer that does not fit C's type,
-    sixteen bits for a mask and sixty-four for any other, is an OverflowError.
+    A byte string is any object with the buffer protocol of bytes. A value of a
+    wrong type is a TypeError; a bool counts as an int. An integer that does not
+    fit C's type, sixteen bits for a mask and sixty-four for any other, is an
+    OverflowError. Both say which argument it is.
     """
 
-    def __init__(self, path: str) -> None:
-        """Loads the shared object at `path`."""
-        library = ctypes.CDLL(path)
+    def __init__(self, path: str | None = None) -> None:
+        """Loads the shared object at `path`, or the one that `library.find` finds.
+
+        Raises LibraryError where there is none, or it lacks a call.
+        """
+        self.path = find() if path is None else path
+        try:
+            library = ctypes.CDLL(self.path)
+        except OSError as error:
+            raise LibraryError(f"{self.path} cannot be loaded: {error}") from None
         self._calls: dict[str, Any] = {}
         for name, (answer, kinds) in _CALLS.items():
-            call = library[f"taa1_{name}"]
+            try:
+                call = library[f"taa1_{name}"]
+            except AttributeError:
+                raise LibraryError(f"{self.path} has no call taa1_{name}") from None
             call.restype = answer
             call.argtypes = [c for kind in kinds for c in _PASSED.get(kind, (kind,))]
             self._calls[name] = call
 
-    def _call(self, name: str, *values: Any) -> Any:
-        """The result of a call. A TypeError says which of the values is wrong."""
+    def _accepted(self, name: str, *values: Any) -> Any:
+        """C's answer to a call. A TypeError or OverflowError says which value is wrong."""
         passed: list[Any] = []
         for position, (kind, value) in enumerate(zip(_CALLS[name][1], values), 1):
             try:
                 passed += _pass(kind, value)
-            except TypeError as error:
-                raise TypeError(f"{name}, argument {position}: {error}") from None
+            except (TypeError, OverflowError) as error:
+                argument = f"{position} ({CALLS[name].parameters[position - 1].name})"
+                raise type(error)(f"{name}, argument {argument}: {error}") from None
         answer = self._calls[name](*passed)
         if answer.refusal:
             named = (getattr(answer, field, None) for field in ("index", "runs"))
             raise Refused(answer.refusal, *named)
+        return answer
+
+    def _call(self, name: str, *values: Any) -> Any:
+        """The result of a call."""
+        answer = self._accepted(name, *values)
         fields = [getattr(answer, field) for field, _ in answer._fields_[1:]]
         return answer.result(*(bytes(f) if isinstance(f, ctypes.Array) else f for f in fields))
 
