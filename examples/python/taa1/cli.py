@@ -1,0 +1,575 @@
+"""The desk: one command for setters and tutors over the engine's calls.
+
+The exit status is 0 for success, 1 for a refusal, and 2 for a wrong use, an
+unreadable file or a failed write.
+"""
+
+from __future__ import annotations
+
+import argparse
+import json
+import os
+import secrets
+import subprocess
+import sys
+from typing import Any, Callable, NoReturn, Optional, Sequence
+
+from . import files, pages, texts
+from .calls import CALLS, Call, Parameter
+from .desk import Desk, RefusedFile, refusals
+from .engine import Refused
+from .files import STANDARD, Problem, place, shown
+from .library import PACKAGE, LibraryError, repository
+from .mark import Marker, Sheet
+from .model import model_answer, model_text
+from .records import PLAIN, RING
+from .sheets import sheet_json, sheet_text, summary, summary_text
+from .slips import SLIPS
+
+ACCEPTED, REFUSED, WRONG_USE = 0, 1, 2
+INTERRUPTED = 130
+MOST_ROOM = 1 << 20  # bytes of an output that `call` makes
+
+
+class Parser(argparse.ArgumentParser):
+    """Arguments; a wrong use is one line."""
+
+    def __init__(self, **options: Any) -> None:
+        """No abbreviated options: a later one could take their meaning."""
+        super().__init__(allow_abbrev=False, **options)
+
+    def error(self, message: str) -> NoReturn:
+        """Reports a wrong use."""
+        name = self.prog.partition(" ")[2]
+        raise Problem(f"{name}: {message}" if name else f"{message} (taa1 --help lists the commands)")
+
+    def _print_message(self, message: str, file: Any = None) -> None:
+        """Writes help as every other output."""
+        if message:
+            files.write_out(message.encode())
+
+
+# ---- values on the command line
+
+
+def _number(text: str) -> int:
+    """A number, decimal or with 0x in hexadecimal."""
+    try:
+        if len(text) <= 40 and not text.startswith(("-", "+")):
+            return int(text, 16) if text.lower().startswith("0x") else int(text, 10)
+    except ValueError:
+        pass
+    raise argparse.ArgumentTypeError(f"{text[:40]!r} is no decimal number, nor one in 0x..")
+
+
+def _bytes(text: str) -> bytes:
+    """Bytes in hexadecimal, or those of the file behind an @."""
+    if text.startswith("@"):
+        return files.read_bytes(text[1:])
+    try:
+        return files.from_hex(text, "the value")
+    except Problem as problem:
+        raise argparse.ArgumentTypeError(str(problem)) from None
+
+
+def _once(*names: str) -> None:
+    """Standard input can be read once only."""
+    if sum(name == STANDARD for name in names) > 1:
+        raise Problem("standard input: it can stand for one file only")
+
+
+# ---- output
+
+
+def _emit(args: argparse.Namespace, data: bytes) -> None:
+    """Bytes, in hexadecimal if that is asked for or a terminal shows them."""
+    terminal = args.output == STANDARD and sys.stdout is not None and sys.stdout.isatty()
+    files.write(args.output, f"{data.hex()}\n".encode() if args.hex or terminal else data)
+
+
+def _emit_text(args: argparse.Namespace, text: str) -> None:
+    files.write(args.output, text.encode("utf-8", "backslashreplace"))
+
+
+def _jsonable(value: Any) -> Any:
+    """Bytes in hexadecimal, wherever they are in a value."""
+    if isinstance(value, bytes):
+        return value.hex()
+    if isinstance(value, dict):
+        return {key: _jsonable(each) for key, each in value.items()}
+    if isinstance(value, (list, tuple)):
+        return [_jsonable(each) for each in value]
+    return value
+
+
+def _json(value: Any) -> str:
+    return json.dumps(_jsonable(value), indent=2) + "\n"
+
+
+def _fields(fields: dict[str, Any], as_json: bool) -> str:
+    """An answer's fields, one a line."""
+    if as_json:
+        return _json(fields)
+    lines = []
+    for name, value in fields.items():
+        if isinstance(value, bytes):
+            value = value.hex()
+        elif name == "identity":
+            value = f"0x{value:06x}"
+        lines.append(f"{name} {value}\n")
+    return "".join(lines)
+
+
+# ---- the commands
+
+
+def run_call(args: argparse.Namespace) -> int:
+    """Any call of the engine."""
+    call: Call = CALLS[args.call]
+    values, room = [], None
+    for parameter in call.parameters:
+        value = getattr(args, parameter.name)
+        if parameter.kind == "out":
+            room = value
+            if room is not None and room > MOST_ROOM:
+                raise Problem(f"call {call.name}: --out-length is above {MOST_ROOM:,}")
+        else:
+            values.append(value)
+    try:
+        fields = Desk().call(call.name, *values, room=room)
+    except OverflowError as error:
+        raise Problem(str(error)) from None
+    except Refused as refused:
+        raise RefusedFile(call.name, refused) from None
+    _emit_text(args, _fields(fields, args.json))
+    return ACCEPTED
+
+
+def run_draw(args: argparse.Namespace) -> int:
+    """A sitting from the system's randomness."""
+    if args.output != STANDARD and os.path.isfile(args.output):
+        raise Problem(f"{shown(args.output)}: it is there already, and draw replaces no sitting")
+    bits = secrets.SystemRandom().sample(range(16), 14)
+    numbers = {
+        "sides": args.sides or 1 + secrets.randbelow(3),
+        "response_mask": sum(1 << bit for bit in bits[:4]),
+        "key_mask": sum(1 << bit for bit in bits[4:]),
+    }
+    data = b"".join(
+        numbers[name.name].to_bytes(name.length, "big")
+        if name.number
+        else secrets.token_bytes(name.length)
+        for name in texts.SITTING
+    )
+    Desk().call("ring", *texts.sitting_of(data))
+    _emit_text(args, texts.format_names(texts.SITTING, data))
+    return ACCEPTED
+
+
+def run_sitting(args: argparse.Namespace) -> int:
+    """A sitting's names to bytes, and back."""
+    sitting = texts.read_sitting(args.file)
+    if args.names:
+        _emit_text(args, texts.format_names(texts.SITTING, texts.sitting_bytes(sitting)))
+    else:
+        _emit(args, texts.sitting_bytes(sitting))
+    return ACCEPTED
+
+
+def run_book(args: argparse.Namespace) -> int:
+    """A book's lines to bytes, and back."""
+    plain = texts.read_plain(Desk(), args.file, args.bytes)
+    if args.lines:
+        _emit_text(args, texts.format_lines(plain))
+    else:
+        _emit(args, plain)
+    return ACCEPTED
+
+
+def run_ring(args: argparse.Namespace) -> int:
+    """The ring of a sitting, and both responses."""
+    made = texts.make_ring(Desk(), texts.read_sitting(args.file), place(args.file))
+    data = made["ring"] + made["response1"] + made["response2"]
+    if args.names:
+        _emit_text(args, texts.format_names(texts.RING_NAMES + texts.RESPONSES, data))
+    else:
+        _emit(args, data)
+    return ACCEPTED
+
+
+def _runs(args: argparse.Namespace, runs: int) -> None:
+    if args.runs:
+        files.say(f"{runs} cipher runs")
+
+
+def run_seal(args: argparse.Namespace) -> int:
+    """A plain book, sealed."""
+    _once(args.ring, args.file)
+    desk = Desk()
+    ring = texts.read_ring(desk, args.ring)
+    plain = texts.read_plain(desk, args.file, args.bytes)
+    answer = desk.call("seal_book", ring.data, plain)
+    _emit(args, answer["out"])
+    _runs(args, answer["runs"])
+    return ACCEPTED
+
+
+def run_open(args: argparse.Namespace) -> int:
+    """A sealed book, opened."""
+    _once(args.ring, args.file)
+    desk = Desk()
+    ring = texts.read_ring(desk, args.ring)
+    sealed = files.read_bytes(args.file, args.bytes)
+    with refusals(place(args.file)):
+        answer = desk.call("open_book", ring.data, sealed)
+    if args.lines:
+        _emit_text(args, texts.format_lines(answer["out"]))
+    else:
+        _emit(args, answer["out"])
+    _runs(args, answer["runs"])
+    return ACCEPTED
+
+
+def run_check(args: argparse.Namespace) -> int:
+    """Whether a plain book is well formed."""
+    plain = texts.read_plain(Desk(), args.file, args.bytes)
+    _emit_text(args, f"well formed, entries {len(plain) // PLAIN}\n")
+    return ACCEPTED
+
+
+def run_list(args: argparse.Namespace) -> int:
+    """A plain book as plainlist prints it."""
+    _emit_text(args, texts.format_lines(texts.read_plain(Desk(), args.file, args.bytes)))
+    return ACCEPTED
+
+
+def run_columns(args: argparse.Namespace) -> int:
+    """A book filed by columns, and back."""
+    data = files.read_bytes(args.file, args.bytes)
+    with refusals(place(args.file)):
+        answer = Desk().call(f"{args.book}_{'from' if args.back else 'to'}_columns", data)
+    _emit(args, answer["out"])
+    return ACCEPTED
+
+
+def run_lineage(args: argparse.Namespace) -> int:
+    """The keys of a lineage sheet."""
+    where, data = place(args.file), files.read(args.file)
+    names: Optional[list[str]] = None
+    if not args.bytes and files.is_text(data):
+        if b"=" in data:
+            names, data = texts.parse_sheet(texts.text_of(data, where), where)
+        else:
+            data = files.from_hex(data.decode(), where)
+    with refusals(where):
+        out = Desk().call("lineage", data)["out"]
+    if args.names or (names is not None and not args.hex):
+        names = names or [f"key{i}" for i in range(len(out) // texts.VALUE)]
+        _emit_text(args, texts.format_sheet(names, data, out))
+    else:
+        _emit(args, out)
+    return ACCEPTED
+
+
+def run_card(args: argparse.Namespace) -> int:
+    """A card with unreadable bytes, restored."""
+    text = "".join(args.card)
+    if text.startswith("@"):
+        text = texts.text_of(files.read(text[1:]), place(text[1:]))
+    digits = "".join(text.split())
+    pairs = [digits[at : at + 2] for at in range(0, len(digits), 2)]
+    card = files.from_hex("".join("00" if pair == "??" else pair for pair in pairs), "card")
+    unreadable = sum(1 << len(pairs) - 1 - i for i, pair in enumerate(pairs) if pair == "??")
+    if len(card) != 16:
+        raise Problem(f"card: {len(card)} bytes, not 16")
+    with refusals("card"):
+        fields = Desk().call("restore_card", card, unreadable)
+    _emit_text(args, _fields(fields, args.json))
+    return ACCEPTED
+
+
+def run_cell(args: argparse.Namespace) -> int:
+    """The cell, or carrier and identity, that made a key."""
+    with refusals("cell"):
+        fields = Desk().call(f"{args.by}_inverse", args.cipher_key, args.result)
+    _emit_text(args, _fields(fields, args.json))
+    return ACCEPTED
+
+
+def run_diffusion(args: argparse.Namespace) -> int:
+    """The diffusion tally of records, each a key and a block."""
+    if args.draw is not None:
+        where, data = "the records drawn", secrets.token_bytes(24 * min(args.draw, 1 << 16))
+    else:
+        where, data = place(args.file), files.read_bytes(args.file, args.bytes)
+    with refusals(where):
+        fields = Desk().call("diffusion", data)
+    _emit_text(args, _fields(fields, args.json))
+    return ACCEPTED
+
+
+def run_schedule(args: argparse.Namespace) -> int:
+    """The register turning, round by round, until the key is back."""
+    desk = Desk()
+    with refusals("schedule"):
+        turns = [desk.call("register", args.key, steps)["bytes"] for steps in range(17)]
+    if args.json:
+        text = _json({"registers": turns})
+    else:
+        lines = [
+            f"round {at:2} register {register.hex()} round key {register[4:].hex()}\n"
+            for at, register in enumerate(turns[:16], 1)
+        ]
+        text = "".join(lines) + f"after 16 register {turns[16].hex()}\n"
+    _emit_text(args, text)
+    return ACCEPTED
+
+
+def run_tables(args: argparse.Namespace) -> int:
+    """The tables that program printtables prints."""
+    root = repository()
+    places = [PACKAGE / "printtables"] + ([root / "target/bin/printtables"] if root else [])
+    program = next((place for place in places if place.is_file()), None)
+    if program is None:
+        raise Problem(f"{places[-1]}: not there; rt check printtables makes it")
+    try:
+        done = subprocess.run(
+            [str(program)], stdin=subprocess.DEVNULL, capture_output=True, check=False, timeout=60
+        )
+    except (OSError, subprocess.SubprocessError) as error:
+        raise Problem(f"{program}: {error}") from None
+    if done.returncode or done.stderr or len(done.stdout.splitlines()) != 17:
+        raise Problem(f"{program}: it printed no tables")
+    files.write(args.output, done.stdout)
+    return ACCEPTED
+
+
+def run_model(args: argparse.Namespace) -> int:
+    """The model answer."""
+    _once(args.sitting, args.book)
+    desk = Desk()
+    sitting = texts.read_sitting(args.sitting)
+    plain = texts.read_plain(desk, args.book, args.bytes)
+    model = model_answer(desk, sitting, plain, place(args.sitting))
+    if args.html:
+        _emit_text(args, pages.model_page(model))
+    else:
+        _emit_text(args, _json(model) if args.json else model_text(model))
+    return ACCEPTED
+
+
+def run_mark(args: argparse.Namespace) -> int:
+    """The mark sheets of candidates' books."""
+    _once(args.sitting, args.book, *args.candidate)
+    desk = Desk()
+    sitting = texts.read_sitting(args.sitting)
+    plain = texts.read_plain(desk, args.book, args.bytes)
+    texts.make_ring(desk, sitting, place(args.sitting))
+    marker = Marker(desk, sitting, plain)
+    sheets = []
+    for done, name in enumerate(args.candidate):
+        files.progress(done, len(args.candidate))
+        try:
+            sheets.append(marker.mark(place(name), files.read_bytes(name, args.bytes)))
+        except Problem as problem:
+            files.progress(0, 0)
+            files.say(str(problem))
+            reason = str(problem).removeprefix(f"{place(name)}: ")
+            sheets.append(marker.unreadable(place(name), reason))
+    files.progress(0, 0)
+    of = summary(sheets)
+    if args.html is not None:
+        _write_pages(args.html, sheets)
+    if args.json:
+        _emit_text(args, _json({"class": of._asdict(), "sheets": list(map(sheet_json, sheets))}))
+    elif args.html is not None:
+        _emit_text(args, summary_text(of))
+    else:
+        _emit_text(args, "".join(map(sheet_text, sheets)) + summary_text(of))
+    return REFUSED if of.unreadable else ACCEPTED
+
+
+def _write_pages(folder: str, sheets: list[Sheet]) -> None:
+    """A page for each candidate, and index.html for the class."""
+    try:
+        os.makedirs(folder, exist_ok=True)
+    except OSError as error:
+        raise Problem(f"{shown(folder)}: {files.reason(error)}") from None
+    digits = max(3, len(str(len(sheets))))
+    links = [f"candidate-{number:0{digits}}.html" for number in range(1, len(sheets) + 1)]
+    for link, sheet in zip(links, sheets):
+        page = pages.sheet_page(sheet, "index.html")
+        files.write_file(os.path.join(folder, link), page.encode())
+    page = pages.class_page(sheets, summary(sheets), links)
+    files.write_file(os.path.join(folder, "index.html"), page.encode())
+
+
+def run_slips(args: argparse.Namespace) -> int:
+    """The names of the slips that marking looks for."""
+    _emit_text(args, "".join(f"{slip.name}\n" for slip in SLIPS))
+    return ACCEPTED
+
+
+# ---- the arguments
+
+_KINDS: dict[str, tuple[Callable[[str], Any], str, str]] = {
+    "bytes": (_bytes, "HEX", "in hexadecimal, or @FILE"),
+    "version": (_number, "N", "a version of 16 bits"),
+    "number": (_number, "N", "a key number of 16 bits"),
+    "mask": (_number, "N", "a mask of 16 bits"),
+    "value": (_number, "N", "a number"),
+    "out": (_number, "N", "bytes of room for the output; as many as it can need by default"),
+}
+
+
+def _option(parser: Parser, parameter: Parameter) -> None:
+    """The option for a call's parameter."""
+    take, metavar, what = _KINDS[parameter.kind]
+    output = parameter.kind == "out"
+    name = "out_length" if output else parameter.name
+    if parameter.kind == "bytes":
+        length = "any number of bytes" if parameter.length is None else f"{parameter.length} bytes"
+        what = f"{length} {what}"
+    flag = "--" + name.replace("_", "-")
+    parser.add_argument(
+        flag, dest=parameter.name, type=take, metavar=metavar, help=what, required=not output
+    )
+
+
+def _common(parser: Parser, **wanted: str) -> None:
+    """The options that commands share: file, hex, bytes, json; each with its help."""
+    if "file" in wanted:
+        parser.add_argument("file", nargs="?", default=STANDARD, metavar="FILE", help=wanted["file"])
+    parser.add_argument(
+        "-o", "--output", default=STANDARD, metavar="FILE", help="default: standard output"
+    )
+    if "hex" in wanted:
+        parser.add_argument("--hex", action="store_true", help="write hexadecimal")
+    if "bytes" in wanted:
+        parser.add_argument(
+            "--bytes", action="store_true", help="take input as bytes, also if it looks like text"
+        )
+    if "json" in wanted:
+        parser.add_argument("--json", action="store_true", help="write JSON")
+
+
+def parser() -> Parser:
+    """All commands and their options."""
+    top = Parser(prog="taa1", description=(__doc__ or "").partition("\n\n")[0])
+    commands = top.add_subparsers(dest="command", metavar="COMMAND", required=True)
+
+    def command(name: str, run: Callable[[argparse.Namespace], int]) -> Parser:
+        what = (run.__doc__ or "").rstrip(".")
+        made = commands.add_parser(name, help=what[0].lower() + what[1:], description=f"{what}.")
+        made.set_defaults(run=run)
+        return made
+
+    call = command("call", run_call)
+    names = call.add_subparsers(dest="call", metavar="NAME", required=True)
+    for each in CALLS.values():
+        made = names.add_parser(each.name, help=each.purpose, description=f"{each.purpose}.")
+        for parameter in each.parameters:
+            _option(made, parameter)
+        _common(made, json="")
+
+    draw = command("draw", run_draw)
+    draw.add_argument("--sides", type=int, choices=(1, 2, 3), help="drawn, too, by default")
+    _common(draw)
+
+    sitting = command("sitting", run_sitting)
+    sitting.add_argument("--names", action="store_true", help="write names, not bytes")
+    _common(sitting, file="a sitting in names, bytes or hexadecimal", hex="")
+
+    book = command("book", run_book)
+    book.add_argument("--lines", action="store_true", help="write lines, not bytes")
+    _common(book, file="a plain book in lines, bytes or hexadecimal", hex="", bytes="")
+
+    ring = command("ring", run_ring)
+    ring.add_argument("--names", action="store_true", help="write names, not bytes")
+    _common(ring, file="a sitting in names, bytes or hexadecimal", hex="")
+
+    ring_help = f"a ring of {RING} bytes, what makering wrote, or a sitting"
+    seal = command("seal", run_seal)
+    seal.add_argument("ring", metavar="RING", help=ring_help)
+    seal.add_argument("--runs", action="store_true", help="say how many cipher runs it took")
+    _common(seal, file="a plain book in lines, bytes or hexadecimal", hex="", bytes="")
+
+    open_ = command("open", run_open)
+    open_.add_argument("ring", metavar="RING", help=ring_help)
+    open_.add_argument("--runs", action="store_true", help="say how many cipher runs it took")
+    open_.add_argument("--lines", action="store_true", help="write lines, not bytes")
+    _common(open_, file="a sealed book in bytes or hexadecimal", hex="", bytes="")
+
+    check = command("check", run_check)
+    _common(check, file="a plain book in lines, bytes or hexadecimal", bytes="")
+
+    listing = command("list", run_list)
+    _common(listing, file="a plain book in lines, bytes or hexadecimal", bytes="")
+
+    columns = command("columns", run_columns)
+    columns.add_argument("book", choices=("plain", "sealed"), help="what kind of book it is")
+    columns.add_argument("--back", action="store_true", help="from columns to records")
+    _common(columns, file="a book in bytes or hexadecimal", hex="", bytes="")
+
+    lineage = command("lineage", run_lineage)
+    lineage.add_argument("--names", action="store_true", help="write lines, not bytes")
+    _common(lineage, file="a sheet in lines, bytes or hexadecimal", hex="", bytes="")
+
+    card = command("card", run_card)
+    card.add_argument(
+        "card", nargs="+", metavar="HEX", help="16 bytes, with ?? for an unreadable one; or @FILE"
+    )
+    _common(card, json="")
+
+    cell = command("cell", run_cell)
+    cell.add_argument("cipher_key", type=_bytes, metavar="KEY", help="10 bytes, or @FILE")
+    cell.add_argument("result", type=_bytes, metavar="RESULT", help="10 bytes, or @FILE")
+    cell.add_argument("--by", choices=("tb5", "tb6"), default="tb5", help="default: tb5")
+    _common(cell, json="")
+
+    diffusion = command("diffusion", run_diffusion)
+    diffusion.add_argument("--draw", type=_number, metavar="N", help="draw N records, read none")
+    _common(diffusion, file="records of 24 bytes, key then block", bytes="", json="")
+
+    schedule = command("schedule", run_schedule)
+    schedule.add_argument("key", type=_bytes, metavar="KEY", help="16 bytes, or @FILE")
+    _common(schedule, json="")
+
+    _common(command("tables", run_tables))
+
+    model = command("model", run_model)
+    mark = command("mark", run_mark)
+    for each_ in (model, mark):
+        each_.add_argument("sitting", metavar="SITTING", help="names, bytes or hexadecimal")
+        each_.add_argument("book", metavar="BOOK", help="a plain book: lines, bytes or hexadecimal")
+    model.add_argument("--html", action="store_true", help="write a page of HTML")
+    _common(model, bytes="", json="")
+    mark.add_argument(
+        "candidate", nargs="+", metavar="CANDIDATE", help="a sealed book: bytes or hexadecimal"
+    )
+    mark.add_argument("--html", metavar="FOLDER", help="write a page for each, and index.html")
+    _common(mark, bytes="", json="")
+
+    _common(command("slips", run_slips))
+    return top
+
+
+def main(argv: Optional[Sequence[str]] = None) -> int:
+    """Runs the command line; the exit status."""
+    try:
+        args = parser().parse_args(argv)
+        return int(args.run(args))
+    except (RefusedFile, Refused) as refused:
+        files.say(str(refused))
+        return REFUSED
+    except Problem as problem:
+        files.say(*problem.lines)
+        return WRONG_USE
+    except LibraryError as error:
+        files.say(str(error))
+        return WRONG_USE
+    except KeyboardInterrupt:
+        files.say("interrupted")
+        return INTERRUPTED
+    except SystemExit as ended:  # after --help
+        return int(ended.code or 0)
