@@ -12,7 +12,10 @@ def verdict(sheet: Sheet) -> str:
     """A candidate's result in a few words."""
     if sheet.problem:
         return f"not marked: {sheet.problem}"
-    opens = f"does not open: {sheet.refused}" if sheet.refused else "opens"
+    opens = "opens"
+    if sheet.refused:
+        refused = sheet.refused
+        opens = f"does not open: refused {refused.number} at {refused.index} ({refused.name})"
     return f"{sheet.right} of {sheet.size} entries right; {opens}"
 
 
@@ -23,8 +26,8 @@ def fault(entry: Marked) -> str:
     faults = [f"{d.field} {d.has}, not {d.wants}" for d in entry.differences]
     if entry.opened and entry.opened.failed:
         failed = " ".join(map(str, entry.opened.failed))
-        last = KINDS[entry.opened.kind].checks - 1
-        faults.append(f"seals no key: of the checks 0 to {last}, {failed} fail")
+        checks = KINDS[entry.opened.kind].checks
+        faults.append(f"seals no key: checks {failed} of {checks} fail")
     if entry.opened and entry.opened.kind not in KINDS:
         faults.append("there is no such kind")
     if entry.state == "extra":
@@ -88,9 +91,9 @@ def summary(sheets: list[Sheet]) -> Summary:
     for sheet in sheets:
         for slip in sheet.slips:
             slips[slip.name] = slips.get(slip.name, 0) + 1
-        for entry in sheet.entries:
-            for check in entry.opened.failed if entry.opened else ():
-                at = (entry.opened.kind, check)
+        for opened in (entry.opened for entry in sheet.entries if entry.opened):
+            for check in opened.failed:
+                at = (opened.kind, check)
                 checks[at] = checks.get(at, 0) + 1
     return Summary(
         len(sheets),
