@@ -1,0 +1,226 @@
+"""The table of the calls, beside the header and the engine."""
+
+from __future__ import annotations
+
+import ctypes
+import json
+import re
+import unittest
+from typing import Any
+
+from common import DESK, ROOT, Case, taa1
+from taa1 import engine
+from taa1.calls import ANSWERS, CALLS, Call, Field, Parameter
+from taa1.engine import NAMES, Refused
+
+HEADER = re.sub(r"/\*.*?\*/", " ", (ROOT / "include" / "taa1.h").read_text(), flags=re.S)
+CONSTANTS = {name: int(value) for name, value in re.findall(r"\b(TAA1_\w+) = (\d+)", HEADER)}
+
+C_TYPES = {
+    "version": "taa1_version",
+    "number": "taa1_key_number",
+    "mask": "uint16_t",
+    "value": "uint64_t",
+}
+
+# Values that every call takes, by the parameter's kind and name.
+NUMBERS = {"sides": 3, "width": 16, "response_mask": 0xF000, "key_mask": 0x0FFC}
+
+
+def parameters(call: Call) -> str:
+    """The parameters as the header declares them."""
+    made = []
+    for p in call.parameters:
+        if p.kind in ("bytes", "out"):
+            const = "const " if p.kind == "bytes" else ""
+            made += [f"{const}uint8_t *{p.name}", f"size_t {p.name}_length"]
+        else:
+            made.append(f"{C_TYPES[p.kind]} {p.name}")
+    return ", ".join(made)
+
+
+def member(field: Field) -> str:
+    """A field as the header declares it."""
+    if field.length:
+        return f"uint8_t {field.name}[{field.length}]"
+    return f"{'size_t' if field.bits == 64 else f'uint{field.bits}_t'} {field.name}"
+
+
+def value(parameter: Parameter) -> Any:
+    """A value that the engine takes."""
+    if parameter.kind == "bytes":
+        return bytes(parameter.length or 0)
+    return NUMBERS.get(parameter.name, 0)
+
+
+def values(call: Call) -> list[Any]:
+    """Values that the engine takes, but for a result that has no input."""
+    return [value(p) for p in call.parameters if p.kind != "out"]
+
+
+class Table(unittest.TestCase):
+    """The table and the header say the same."""
+
+    def test_calls(self) -> None:
+        declared = {
+            name: (answer, " ".join(inputs.split()))
+            for answer, name, inputs in re.findall(r"\btaa1_(\w+) taa1_(\w+)\(([^)]*)\);", HEADER)
+        }
+        wanted = {call.name: (call.answer, parameters(call)) for call in CALLS.values()}
+        self.assertEqual(wanted, declared)
+
+    def test_answers(self) -> None:
+        declared = {}
+        for body, name in re.findall(r"typedef struct \{([^}]*)\} taa1_(\w+);", HEADER):
+            for constant, number in CONSTANTS.items():
+                body = re.sub(rf"\b{constant}\b", str(number), body)
+            declared[name] = [" ".join(line.split()) for line in body.split(";") if line.strip()]
+        numbers = {"version", "key_number"}
+        self.assertEqual(set(declared), set(ANSWERS) | numbers)
+        for name, fields in ANSWERS.items():
+            with self.subTest(name):
+                wanted = ["uint32_t refusal", *map(member, fields)]
+                self.assertEqual(wanted, declared[name])
+
+    def test_module(self) -> None:
+        """The Python module binds the calls as the table has them."""
+        kinds = {
+            "bytes": bytes,
+            "out": bytearray,
+            "version": engine.Version,
+            "number": engine.KeyNumber,
+            "mask": ctypes.c_uint16,
+            "value": ctypes.c_uint64,
+        }
+        self.assertEqual(set(engine._CALLS), set(CALLS))
+        for call in CALLS.values():
+            with self.subTest(call.name):
+                answer, passed = engine._CALLS[call.name]
+                self.assertEqual(passed, tuple(kinds[p.kind] for p in call.parameters))
+                fields = [name for name, *_ in answer._fields_]
+                self.assertEqual(fields, ["refusal", *(field.name for field in call.fields)])
+
+    def test_lengths(self) -> None:
+        """Each fixed length of the table is the one that the engine takes."""
+        for call in CALLS.values():
+            inputs = [p for p in call.parameters if p.kind != "out"]
+            for at, parameter in enumerate(inputs):
+                if parameter.kind != "bytes" or parameter.length is None:
+                    continue
+                for change in (-1, 1):
+                    with self.subTest(call=call.name, parameter=parameter.name):
+                        wrong = values(call)
+                        wrong[at] = bytes(parameter.length + change)
+                        with self.assertRaises(Refused) as caught:
+                            DESK.call(call.name, *wrong)
+                        self.assertEqual(caught.exception.number, 11)
+
+    def test_accepted(self) -> None:
+        for call in CALLS.values():
+            with self.subTest(call.name):
+                fields = DESK.call(call.name, *values(call))
+                out = ["out"] if call.parameters[-1].kind == "out" else []
+                self.assertEqual(list(fields), [f.name for f in call.fields] + out)
+
+    def test_outputs(self) -> None:
+        """An output's length for each record is what the engine needs and writes."""
+        records = {
+            "ta12_class": bytes(20),
+            "seal_book": bytes([1]) + bytes(17) + bytes([4]) + bytes(17),
+            "open_book": DESK.call("seal_book", bytes(52), (bytes([1]) + bytes(17)) * 2)["out"],
+            "plain_to_columns": bytes(36),
+            "plain_from_columns": bytes(36),
+            "sealed_to_columns": bytes(42),
+            "sealed_from_columns": bytes(42),
+            "lineage": (bytes(5) + bytes([10]) + bytes(16)) * 2,
+        }
+        outs = {call.name: call for call in CALLS.values() if call.parameters[-1].kind == "out"}
+        self.assertEqual(set(records), set(outs))
+        for name, call in outs.items():
+            with self.subTest(name):
+                given = [records[name] if v == b"" else v for v in values(call)]
+                length = call.parameters[-1].length or 0
+                self.assertEqual(DESK.call(name, *given, room=2 * length)["written"], 2 * length)
+                with self.assertRaises(Refused) as caught:
+                    DESK.call(name, *given, room=2 * length - 1)
+                self.assertEqual(caught.exception.number, 12)
+
+
+class Command(Case):
+    """taa1 call."""
+
+    def arguments(self, call: Call) -> list[str]:
+        made = ["call", call.name]
+        for parameter, given in zip(call.parameters, values(call)):
+            text = given.hex() if isinstance(given, bytes) else str(given)
+            made += ["--" + parameter.name.replace("_", "-"), text]
+        return made
+
+    def test_every_call(self) -> None:
+        """Each prints its fields, one a line, and the same as JSON."""
+        for call in CALLS.values():
+            with self.subTest(call.name):
+                fields = DESK.call(call.name, *values(call))
+                shown = {k: v.hex() if isinstance(v, bytes) else v for k, v in fields.items()}
+                lines = [
+                    f"{name} {f'0x{v:06x}' if name == 'identity' else v}"
+                    for name, v in shown.items()
+                ]
+                arguments = self.arguments(call)
+                self.assertEqual(self.accepted(*arguments).decode(), "\n".join(lines) + "\n")
+                self.assertEqual(json.loads(self.accepted(*arguments, "--json")), shown)
+
+    def test_help(self) -> None:
+        listed = self.accepted("call", "--help").decode()
+        for call in CALLS.values():
+            self.assertIn(call.name, listed)
+        said = self.accepted("call", "ta51", "--help").decode()
+        for word in ("--cipher-key", "--version", "--sealing-key", "--number", "10 bytes"):
+            self.assertIn(word, said)
+
+    def test_refusals(self) -> None:
+        key, root = "00" * 10, "00" * 16
+        seal = ("call", "ta51", "--cipher-key", key, "--version", 7, "--sealing-key", root)
+        self.fails(1, f"ta51: refused 5 ({NAMES[5]})", *seal, "--number", 32)
+        self.fails(1, f"tb1: refused 9 ({NAMES[9]})", "call", "tb1", "--value", 1, "--width", 15)
+        book = ("call", "check_plain", "--plain", "09" + "00" * 17)
+        self.fails(1, f"check_plain: refused 3 at 0 ({NAMES[3]})", *book)
+
+    def test_files(self) -> None:
+        """A value from a file, in bytes or hexadecimal, or from standard input."""
+        wanted = self.accepted("call", "tb2", "--input", "0123456789abcdef" * 2)
+        self.file("bytes", bytes.fromhex("0123456789abcdef" * 2))
+        self.file("hex", "01234567 89abcdef\n" * 2)
+        for name in ("bytes", "hex"):
+            self.assertEqual(self.accepted("call", "tb2", "--input", "@" + name, cwd=self.folder), wanted)
+        given = b"0123456789abcdef" * 2
+        self.assertEqual(self.accepted("call", "tb2", "--input", "@-", stdin=given), wanted)
+
+    def test_wrong_uses(self) -> None:
+        tb1 = ("call", "tb1")
+        for error, args in (
+            ("call tb1: the following arguments are required: --value, --width", tb1),
+            ("call tb1: argument --value: 'x' is no decimal number, nor one in 0x..", (*tb1, "--value", "x")),
+            ("call tb1: argument --value: '-1' is no decimal number, nor one in 0x..", (*tb1, "--value=-1")),
+            (
+                "tb1, argument 1 (value): 0x10000000000000000 does not fit 64 bits",
+                (*tb1, "--value", 1 << 64, "--width", 16),
+            ),
+            (
+                "call tb2: argument --input: the value: an odd number of hexadecimal digits, 3",
+                ("call", "tb2", "--input", "012"),
+            ),
+            (
+                "call tb2: argument --input: the value, line 1, column 3: 'z' is no hexadecimal digit",
+                ("call", "tb2", "--input", "01z2"),
+            ),
+            ("no-such-file: No such file or directory", ("call", "tb2", "--input", "@no-such-file")),
+        ):
+            with self.subTest(args=args):
+                self.fails(2, error, *args, cwd=self.folder)
+        wide = taa1(*tb1, "--value", "9" * 5000, "--width", 16)
+        self.assertEqual(wide.status, 2)
+        self.assertLess(len(wide.error), 200)
+        unknown = taa1("call", "ta99")
+        self.assertEqual(unknown.status, 2)
+        self.assertRegex(unknown.error, r"^taa1: call: argument NAME: invalid choice: 'ta99'")

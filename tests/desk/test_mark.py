@@ -1,0 +1,382 @@
+"""Marking: planted slips, each found, and what else can be wrong with a book."""
+
+from __future__ import annotations
+
+import json
+import random
+import time
+import unittest
+
+from common import CLASS, DESK, ENTRIES, PLAIN_BOOK, ROOT, Case, taa1
+from common import SITTING as SAMPLE
+from common import seal as sealed_under
+from taa1.engine import Sitting
+from taa1.mark import Marker, Sheet
+from taa1.records import KINDS, SEALED, Entry, Ring, split
+from taa1.slips import SLIPS, work
+from taa1.texts import read_sitting, sitting_bytes
+
+# The sample's masks are the same from either end.
+SITTING = SAMPLE._replace(response_mask=0x1221, key_mask=0x4DDE)
+RING = Ring.of(DESK.call("ring", *SITTING)["ring"])
+MARKER = Marker(DESK, SITTING, PLAIN_BOOK)
+MODEL = MARKER.model
+
+# A slip whose inputs the engine refuses: the masks' counts of ones are not each other's.
+NO_BOOK = {"masks exchanged"}
+# With both sides, this is no slip.
+NO_SLIP = {"both sides for one"}
+
+
+def seal(sitting: Sitting = SITTING, plain: bytes = PLAIN_BOOK) -> bytes:
+    return sealed_under(sitting, plain)
+
+
+def swapped(number: int) -> int:
+    return int.from_bytes(number.to_bytes(2, "little"), "big")
+
+
+def book(entries: list[Entry]) -> bytes:
+    return b"".join(entry.data for entry in entries)
+
+
+def sealed_with(**inputs: object) -> bytes:
+    """The model's book under a sitting with other inputs."""
+    return seal(SITTING._replace(**inputs))  # type: ignore[arg-type]
+
+
+def under(**keys: bytes) -> bytes:
+    """The model's book under a ring with other keys."""
+    return DESK.call("seal_book", RING._replace(**keys).data, PLAIN_BOOK)["out"]
+
+
+def with_kinds(**kinds: int) -> bytes:
+    """The model's book with kinds taken for others."""
+    taken = {int(old[1:]): new for old, new in kinds.items()}
+    return seal(plain=book([e._replace(kind=taken.get(e.kind, e.kind)) for e in ENTRIES]))
+
+
+def d_from(call1: str, call2: str) -> bytes:
+    """D with session keys from these calls."""
+    s = SITTING
+    masks = (s.response_mask, s.key_mask)
+    one = DESK.call("ta12", DESK.call(call1, s.root, s.rs)["bytes"], s.rand1, *masks)["key"]
+    two = DESK.call("ta22", DESK.call(call2, s.root, s.rs)["bytes"], s.rand2, *masks)["key"]
+    return bytes(a ^ b for a, b in zip(one, two))
+
+
+def reversed_bits(mask: int) -> int:
+    return sum(1 << 15 - i for i in range(16) if mask >> i & 1)
+
+
+# Books as candidates would have made them, worked apart from the table of slips: for
+# each the slip's name.
+S = SITTING
+PLANTED: dict[str, bytes] = {
+    "RAND1 and RAND2 exchanged": sealed_with(rand1=S.rand2, rand2=S.rand1),
+    "RAND1 for RAND2": sealed_with(rand2=S.rand1),
+    "RAND2 for RAND1": sealed_with(rand1=S.rand2),
+    "RAND1 reversed": sealed_with(rand1=S.rand1[::-1]),
+    "RAND2 reversed": sealed_with(rand2=S.rand2[::-1]),
+    "RS and RSO exchanged": sealed_with(rs=S.rso, rso=S.rs),
+    "RS for RSO": sealed_with(rso=S.rs),
+    "RSO for RS": sealed_with(rs=S.rso),
+    "RS reversed": sealed_with(rs=S.rs[::-1]),
+    "RSO reversed": sealed_with(rso=S.rso[::-1]),
+    "root reversed": sealed_with(root=S.root[::-1]),
+    "C reversed": sealed_with(c=S.c[::-1]),
+    "group key reversed": sealed_with(group_key=S.group_key[::-1]),
+    "TA12 alone": sealed_with(sides=1),
+    "TA22 alone": sealed_with(sides=2),
+    "bytes of the masks exchanged": sealed_with(
+        response_mask=swapped(S.response_mask), key_mask=swapped(S.key_mask)
+    ),
+    "masks counted from the left": sealed_with(
+        response_mask=reversed_bits(S.response_mask), key_mask=reversed_bits(S.key_mask)
+    ),
+    "TA11 for TA21": under(d=d_from("ta11", "ta11")),
+    "TA21 for TA11": under(d=d_from("ta21", "ta21")),
+    "C for D": under(d=RING.c),
+    "D for C": under(c=RING.d),
+    "C and D exchanged": under(c=RING.d, d=RING.c),
+    "O for G": under(g=RING.o),
+    "G for O": under(o=RING.g),
+    "G and O exchanged": under(g=RING.o, o=RING.g),
+    "group key filled with zeros for its TB7 form": under(g=S.group_key + bytes(4)),
+    "root for O": under(o=S.root),
+    "kind 2 for kind 5": with_kinds(k5=2),
+    "kind 5 for kind 2": with_kinds(k2=5),
+    "kind 3 for kind 6": with_kinds(k6=3),
+    "kind 6 for kind 3": with_kinds(k3=6),
+    "kind 3 for kind 2": with_kinds(k2=3),
+    "kind 6 for kind 5": with_kinds(k5=6),
+    "bytes of the version exchanged": seal(
+        plain=book([e._replace(version=swapped(e.version)) for e in ENTRIES])
+    ),
+    "key reversed": seal(plain=book([e._replace(key=e.key[::-1]) for e in ENTRIES])),
+    "text reversed": b"".join(r[:6] + r[6:][::-1] for r in MODEL),
+    "identity not encrypted": b"".join(
+        r[:1] + e.data[1:4] + r[4:] for r, e in zip(MODEL, ENTRIES)
+    ),
+    "encrypted identity reversed": b"".join(r[:1] + r[1:4][::-1] + r[4:] for r in MODEL),
+    "kind 3 for kind 4": b"".join(b"\3" + r[1:] if r[0] == 4 else r for r in MODEL),
+    "kind 4 for kind 3": b"".join(b"\4" + r[1:] if r[0] == 3 else r for r in MODEL),
+}
+
+
+def single(kind: int, call: str, sealing_key: bytes, *more: str, **fields: object) -> bytes:
+    """The model's book, where the texts of a kind are from a single call."""
+    made = b""
+    for record, entry in zip(MODEL, ENTRIES):
+        if entry.kind == kind:
+            entry = entry._replace(**fields)  # type: ignore[arg-type]
+            number = [entry.number] if "number" in more else []
+            text = DESK.call(call, entry.key, entry.version, sealing_key, *number)["bytes"]
+            record = record[:6] + text
+        made += record
+    return made
+
+
+PLANTED.update(
+    {
+        "D for O or G, by TA31": single(2, "ta31", RING.d),
+        "TA81 for TA51": single(5, "ta81", RING.g, "number"),
+        "version left out in sealing": single(4, "ta91", RING.o, version=0),
+        "number left out": seal(
+            plain=book([e._replace(number=0) if e.kind == 6 else e for e in ENTRIES])
+        ),
+    }
+)
+
+
+def records_of(sheet: Sheet, state: str) -> list[int]:
+    return [entry.index for entry in sheet.entries if entry.state == state]
+
+
+class Slips(unittest.TestCase):
+    """Each slip is found by what it does."""
+
+    def test_table(self) -> None:
+        """A name each; every slip alters an entry of the model, but for those that can't."""
+        names = [slip.name for slip in SLIPS]
+        self.assertEqual(len(set(names)), len(names))
+        for slip in SLIPS:
+            alterations = (slip.sitting, slip.ring, slip.entry, slip.record)
+            self.assertEqual(sum(each is not None for each in alterations), 1, slip.name)
+        worked = {each.slip.name: each.records for each in work(DESK, SITTING, PLAIN_BOOK)}
+        self.assertEqual(set(names) - set(worked), NO_BOOK)
+        self.assertEqual({name for name, records in worked.items() if not records}, NO_SLIP)
+        one_sided = {each.slip.name: each.records for each in work(DESK, S._replace(sides=1), PLAIN_BOOK)}
+        self.assertTrue(one_sided["both sides for one"])
+
+    def test_planted(self) -> None:
+        """Books worked apart from the table: the slip explains every wrong entry."""
+        for name, sealed in PLANTED.items():
+            with self.subTest(name):
+                sheet = MARKER.mark(name, sealed)
+                wrong = records_of(sheet, "wrong")
+                self.assertTrue(wrong)
+                self.assertEqual(len(wrong) + sheet.right, len(MODEL))
+                self.assertEqual(len(sheet.slips), 1)
+                slip = sheet.slips[0]
+                self.assertIn(name, (slip.name, *slip.others))
+                self.assertEqual(list(slip.entries), wrong)
+
+    def test_worked(self) -> None:
+        """So does every slip of the table in the book that it makes."""
+        for each in work(DESK, SITTING, PLAIN_BOOK):
+            if not each.records:
+                continue
+            with self.subTest(each.slip.name):
+                sealed = b"".join(each.records.get(i, record) for i, record in enumerate(MODEL))
+                sheet = MARKER.mark("book", sealed)
+                named = {name for slip in sheet.slips for name in (slip.name, *slip.others)}
+                self.assertIn(each.slip.name, named)
+                explained = sorted(i for slip in sheet.slips for i in slip.entries)
+                self.assertEqual(explained, sorted(each.records))
+
+    def test_two_slips(self) -> None:
+        """Two slips in different entries are both named."""
+        one, other = (split(PLANTED[name], SEALED) for name in ("RSO reversed", "kind 2 for kind 5"))
+        mixed = [b if entry.kind == 5 else a for entry, a, b in zip(ENTRIES, one, other)]
+        sheet = MARKER.mark("book", b"".join(mixed))
+        self.assertEqual(
+            [(slip.name, len(slip.entries)) for slip in sheet.slips],
+            [("RSO reversed", 6), ("kind 2 for kind 5", 2)],
+        )
+
+    def test_the_likelier(self) -> None:
+        """RS for RSO leaves D right, and RS and RSO exchanged would not."""
+        sheet = MARKER.mark("book", PLANTED["RS for RSO"])
+        self.assertEqual([(s.name, s.others) for s in sheet.slips], [("RS for RSO", ())])
+
+
+class Books(unittest.TestCase):
+    """What else can be wrong."""
+
+    def mark(self, records: list[bytes], left: bytes = b"") -> Sheet:
+        return MARKER.mark("book", b"".join(records) + left)
+
+    def test_right(self) -> None:
+        sheet = self.mark(MODEL)
+        self.assertTrue(sheet.perfect)
+        self.assertEqual((sheet.right, sheet.size, sheet.refused), (12, 12, None))
+
+    def test_order(self) -> None:
+        """Whatever the order, all entries are right, and the book opens."""
+        shuffled = MODEL[:]
+        draw = random.Random(1)
+        for _ in range(20):
+            draw.shuffle(shuffled)
+            sheet = self.mark(shuffled)
+            self.assertEqual((sheet.right, sheet.refused, sheet.missing), (12, None, ()))
+            self.assertEqual(
+                [entry.model for entry in sheet.entries], [MODEL.index(r) for r in shuffled]
+            )
+        moved = self.mark([MODEL[11], *MODEL[:11]])
+        self.assertEqual([entry.index for entry in moved.entries if entry.moved], [0])
+        self.assertTrue(moved.perfect)
+
+    def test_missing(self) -> None:
+        """The entries behind a missing one are not in another order."""
+        sheet = self.mark(MODEL[:3] + MODEL[4:])
+        self.assertEqual((sheet.right, sheet.missing, sheet.perfect), (11, (3,), False))
+        self.assertFalse(any(entry.moved for entry in sheet.entries))
+        nothing = self.mark([])
+        self.assertEqual((nothing.right, len(nothing.missing), nothing.refused), (0, 12, None))
+
+    def test_doubled_and_extra(self) -> None:
+        other = seal(plain=ENTRIES[0]._replace(identity=1, version=9, key=bytes(10)).data)
+        sheet = self.mark([*MODEL, MODEL[4], other])
+        self.assertEqual((sheet.right, sheet.missing), (12, ()))
+        self.assertEqual([(e.state, e.model) for e in sheet.entries[12:]], [("doubled", 4), ("extra", None)])
+        self.assertFalse(sheet.perfect)
+
+    def test_alike_entries(self) -> None:
+        """A model that has an entry twice wants it twice."""
+        plain = ENTRIES[0].data * 2 + ENTRIES[1].data
+        marker = Marker(DESK, SITTING, plain)
+        records = split(seal(plain=plain), SEALED)
+        self.assertTrue(marker.mark("book", b"".join(records[::-1])).perfect)
+        self.assertEqual(marker.mark("book", b"".join(records[1:])).missing, (1,))
+        third = marker.mark("book", b"".join([*records, records[0]]))
+        self.assertEqual(records_of(third, "doubled"), [3])
+
+    def test_fields(self) -> None:
+        """Each field that differs is named, with what it has and what it should have."""
+        for at, field, value in (
+            (2, "identity", 0x123456),
+            (3, "version", 8),
+            (4, "key", bytes(10)),
+            (8, "number", 7),
+            (6, "key", bytes(12)),
+        ):
+            entry = ENTRIES[at]._replace(**{field: value})
+            record = split(seal(plain=entry.data), SEALED)[0]
+            sheet = self.mark([*MODEL[:at], record, *MODEL[at + 1 :]])
+            self.assertEqual((sheet.right, records_of(sheet, "wrong")), (11, [at]))
+            differences = sheet.entries[at].differences
+            self.assertEqual([difference.field for difference in differences], [field])
+            self.assertIsNone(sheet.refused)
+
+    def test_checks(self) -> None:
+        """An altered text fails the checks that the engine says it fails."""
+        for at, entry in enumerate(ENTRIES):
+            kind = KINDS[entry.kind]
+            text = bytearray(MODEL[at])
+            text[20] ^= 1
+            failed = DESK.call(
+                kind.unseal, bytes(text[6:]), getattr(RING, kind.sealing_key), entry.version
+            )["failed_checks"]
+            sheet = self.mark([*MODEL[:at], bytes(text), *MODEL[at + 1 :]])
+            opened = sheet.entries[at].opened
+            assert opened is not None and sheet.refused is not None
+            self.assertEqual(sum(1 << bit for bit in opened.failed), failed)
+            self.assertNotEqual(failed, 0)
+            self.assertEqual((sheet.refused.number, sheet.refused.index), (6, at))
+            self.assertEqual(sheet.right, 11)
+
+    def test_no_kind(self) -> None:
+        record = bytes([9]) + MODEL[5][1:]
+        sheet = self.mark([*MODEL[:5], record, *MODEL[6:]])
+        assert sheet.refused is not None
+        self.assertEqual((sheet.refused.number, sheet.refused.index, sheet.right), (3, 5, 11))
+        self.assertEqual([d.field for d in sheet.entries[5].differences], ["kind"])
+
+    def test_lengths(self) -> None:
+        cut = self.mark(MODEL[:11], MODEL[11][:20])
+        assert cut.refused is not None
+        self.assertEqual((cut.refused.number, cut.right, cut.left, cut.missing), (2, 11, 20, (11,)))
+        long = self.mark(MODEL * 90)
+        assert long.refused is not None
+        self.assertEqual((long.refused.number, long.right, len(long.entries)), (1, 12, 1080))
+
+    def test_time(self) -> None:
+        """Fifty candidates' books of a hundred entries, half of them noise, in seconds."""
+        draw = random.Random(2)
+        entries = [
+            entry._replace(identity=draw.randrange(1 << 24), key=draw.randbytes(len(entry.key)))
+            for entry in (ENTRIES * 9)[:100]
+        ]
+        start = time.monotonic()
+        marker = Marker(DESK, SITTING, book(entries))
+        for _ in range(50):
+            records = [r if draw.random() < 0.5 else draw.randbytes(SEALED) for r in marker.model]
+            self.assertEqual(len(marker.mark("book", b"".join(records)).entries), 100)
+        self.assertLess(time.monotonic() - start, 30)
+
+
+class Command(Case):
+    """taa1 mark, and from the drawing to the mark sheets."""
+
+    def test_samples(self) -> None:
+        """The sample class has the mark sheet that stands beside it."""
+        names = sorted(path.name for path in CLASS.glob("*.book"))
+        self.assertEqual(len(names), 6)
+        place = CLASS.relative_to(ROOT)
+        inputs = [place / name for name in ("sitting.txt", "model.txt", *names)]
+        done = taa1("mark", *inputs, cwd=ROOT)
+        self.assertEqual((done.status, done.error), (0, ""))
+        self.assertEqual(done.out.decode(), (CLASS / "mark.txt").read_text())
+
+    def test_a_day(self) -> None:
+        """A sitting drawn, a model book, candidates with planted slips, each found."""
+        drawn = self.folder / "sitting.txt"
+        self.accepted("draw", "--sides", 3, "-o", drawn)
+        model = self.file("model.txt", (CLASS / "model.txt").read_text())
+        sitting = read_sitting(str(drawn))
+        slips = {
+            "RAND1 reversed": sitting._replace(rand1=sitting.rand1[::-1]),
+            "RS for RSO": sitting._replace(rso=sitting.rs),
+            "group key reversed": sitting._replace(group_key=sitting.group_key[::-1]),
+        }
+        for number, other in enumerate(slips.values()):
+            name = self.file(f"{number}.txt", sitting_bytes(other))
+            self.accepted("seal", name, model, "-o", self.folder / f"{number}.book")
+        books = [self.folder / f"{number}.book" for number in range(len(slips))]
+        said = json.loads(self.accepted("mark", drawn, model, *books, "--json"))
+        found = [[slip["slip"] for slip in sheet["slips"]] for sheet in said["sheets"]]
+        self.assertEqual(found, [[name] for name in slips])
+        self.assertEqual(said["class"]["candidates"], 3)
+
+    def test_unreadable(self) -> None:
+        """One unreadable book doesn't stop the others; the status is 1."""
+        good = self.file("good.book", seal(SAMPLE))
+        odd = self.file("odd.book", "012")
+        missing, folder = self.folder / "missing.book", self.folder
+        inputs = (CLASS / "sitting.txt", CLASS / "model.txt")
+        done = taa1("mark", *inputs, missing, good, folder, odd, "--json")
+        self.assertEqual(done.status, 1)
+        lines = done.error.splitlines()
+        self.assertEqual(lines[0], f"taa1: {missing}: No such file or directory")
+        self.assertEqual(lines[1], f"taa1: {folder}: Is a directory")
+        self.assertEqual(lines[2], f"taa1: {odd}: an odd number of hexadecimal digits, 3")
+        sheets = json.loads(done.out)["sheets"]
+        self.assertEqual([sheet["right"] for sheet in sheets], [0, 12, 0, 0])
+        self.assertEqual(sheets[0]["problem"], "No such file or directory")
+        self.assertEqual([sheet["opens"] for sheet in sheets], [False, True, False, False])
+
+    def test_hexadecimal(self) -> None:
+        digits = self.file("a.book", seal(SAMPLE).hex("\n", 21))
+        said = self.accepted("mark", CLASS / "sitting.txt", CLASS / "model.txt", digits)
+        self.assertIn(b"12 of 12 entries right; opens", said)
