@@ -385,7 +385,8 @@ def run_mark(args: argparse.Namespace) -> int:
     elif args.html is not None:
         _emit_text(args, summary_text(of))
     else:
-        _emit_text(args, "".join(map(sheet_text, sheets)) + summary_text(of))
+        end = summary_text(of) if len(sheets) > 1 else ""
+        _emit_text(args, "".join(map(sheet_text, sheets)) + end)
     return REFUSED if of.unreadable else ACCEPTED
 
 
