@@ -11,8 +11,8 @@
  *
  * Every answer is a struct by value whose first field is 0 or the number of a
  * refusal. On a refusal all its other fields are zero, but for the index in a
- * book's answer. Compare fields and not whole structs: padding is no part of an
- * answer.
+ * book's answer and the runs of a refused opening. Compare fields and not whole
+ * structs: padding is no part of an answer.
  *
  * An output is a pointer and a length too, and must not overlap an input. It may
  * be longer than the result: the bytes behind those written stay as they are. It

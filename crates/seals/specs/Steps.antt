@@ -14,6 +14,6 @@ unfoldable pub unsealedBody : Bool → Form → List ℕ → UnsealedBody
 unsealedBody t F u =
     record { refusal = first ((t, wrongLength) ∷ []); body = choose t (F .shrink u) (zeros 12); «failed_checks» = choose t (failed F u) 0 }
 
--- under a sealing key of kinds 2 to 4
+-- under a sealing key of kinds 2 to 6
 abbrev pub opened16 : Form → List ℕ → List ℕ → Version → UnsealedBody
 opened16 F t s v = unsealedBody (long 15 t && long 16 s) F (opened (key16 s (bytesOf 2 (v .0))) t)

@@ -117,7 +117,7 @@ fn open_if(long: bool, algorithm: Algorithm, key: [u8; 16], text: [u8; 15]) -> U
     }
 }
 
-// The same under a sealing key of kinds 2 to 4, from strings of any length.
+// The same under a sealing key of kinds 2 to 6, from strings of any length.
 fn open16(algorithm: Algorithm, text: &[u8], sealing_key: &[u8], version: Version) -> UnsealedBody
     ensures { λ r. ⌜ r ≡ opened16 (formOf algorithm) (now (text .entry)) (now («sealing_key» .entry)) version ⌝ }
 {

@@ -102,11 +102,17 @@ one-side = record {
 
 -- ---- the flag without branches (02, 3)
 
+-- the flag by the number is 01's
+flag-same : (a : Algorithm) (u : List ℕ) → clear (formOf a) u ≡ flagClear a u
+flag-same Ta31 u = clear-same Ta31 u
+flag-same Ta51 u = clear-same Ta51 u
+flag-same Ta81 u = clear-same Ta81 u
+flag-same Ta91 u = clear-same Ta91 u
+
 pub or-is-flag : OrIsFlag
-unfolding fails
 or-is-flag k s v t =
     let u = opened (form k .key s v) t in
-    let e = or-clear (k .algorithm) u in
+    let e = or-clear (k .algorithm) u ∙ flag-same (k .algorithm) u in
     (λ z. sym e ∙ eq-eqb _ 0 z, λ c. eqb-true _ 0 (e ∙ c))
 
 -- ---- part marks for redundancy (02, 6)
@@ -125,13 +131,6 @@ checks-bits = record {
   below = λ k u. failed-below (checks (form k) u);
 }
 
--- the flag by the number is 01's
-flag-same : (a : Algorithm) (u : List ℕ) → clear (formOf a) u ≡ flagClear a u
-flag-same Ta31 u = clear-same Ta31 u
-flag-same Ta51 u = clear-same Ta51 u
-flag-same Ta81 u = clear-same Ta81 u
-flag-same Ta91 u = clear-same Ta91 u
-
 pub flag-is-nonzero : FlagIsNonzero
 unfolding fails
 flag-is-nonzero k s v t =
@@ -140,9 +139,10 @@ flag-is-nonzero k s v t =
     (λ z. sym e ∙ eq-eqb _ 0 z, λ c. eqb-true _ 0 (e ∙ c))
 
 pub or-is-zero : OrIsZero
+unfolding fails
 or-is-zero k s v t =
-    let e = or-is-flag k s v t in
-    (λ z. eqb-true _ 0 (e .0 z), λ z. e .1 (eq-eqb _ 0 z))
+    let e = or-clear (k .algorithm) (opened (form k .key s v) t) in
+    (λ z. eqb-true _ 0 (sym e ∙ eq-eqb _ 0 z), λ z. eqb-true _ 0 (e ∙ eq-eqb _ 0 z))
 
 same-fault : (r t : List ℕ) → openFault r t ≡ flagFault r t
 unfolding openFault fails

@@ -13,7 +13,7 @@ use Rattle.standard.specs.Derivation.{ta11, ta21, ta41, ta12Call, ta22Ca
 use Rattle.standard.specs.Expansions.{inserted, expected, exp1Groups, exp3Groups, x16Groups}
 use Rattle.standard.specs.Mixing.{tb4, tb7}
 use Rattle.standard.specs.Refusals.{wrongKind, flagSet, wrongLength, maskTests, first, ringMade}
-use Rattle.standard.specs.Seals.{form, checks, failed, orOf, opened, fails, clears, kindOf}
+use Rattle.standard.specs.Seals.{form, checks, failed, orOf, opened, fails, kindOf}
 use Rattle.standard.specs.Sizes.{plainSize, sealedSize}
 use Rattle.standard.specs.declared.Algorithm.{Algorithm}
 use Rattle.standard.specs.declared.Algorithm.the-variants.{Ta31, Ta51, Ta81, Ta91}
@@ -50,9 +50,17 @@ pub record OneSide : Type 0 where
 
 -- ---- the flag without branches (02, 3)
 
--- for every kind, sealing key, version and text the or of the differences is 0 exactly if the flag is clear
+-- 01's flag is clear exactly if every inserted ⊕ byte is right and, for TA52, the number byte's top three bits are zero
+abbrev pub flagClear : Algorithm → List ℕ → Bool
+flagClear Ta31 u = same (inserted exp1Groups 0 u) (expected exp1Groups 0 u)
+flagClear Ta51 u = same (inserted exp3Groups 0 u) (expected exp3Groups 0 u) && eqb (u ! 13 / 32) 0
+flagClear Ta81 u = same (inserted x16Groups 0 u) (expected x16Groups 0 u)
+flagClear Ta91 u = same (inserted x16Groups 0 u) (expected x16Groups 0 u)
+
+-- for every kind, sealing key, version and text the or of the checks is 0 exactly if 01's flag is clear
 abbrev pub OrIsFlag : Type 0
-OrIsFlag = (k : Kind) (s v t : List ℕ) → (orOf (form k) (opened (form k .key s v) t) ≡ 0) ↔ (clears (form k) s v t ≡ true)
+OrIsFlag = (k : Kind) (s v t : List ℕ)
+    → (orOf (form k) (opened (form k .key s v) t) ≡ 0) ↔ (flagClear (k .algorithm) (opened (form k .key s v) t) ≡ true)
 
 -- ---- part marks for redundancy (02, 6)
 
@@ -60,13 +68,6 @@ OrIsFlag = (k : Kind) (s v t : List ℕ) → (orOf (form k) (opened (form k .key
 pub record ChecksBits : Type 0 where
   pub bits : (k : Kind) (u : List ℕ) (i : ℕ) → i < length (checks (form k) u) → (bit i (failed (form k) u) ≡ 1) ↔ (checks (form k) u ! i ≡ 0 → ⊥)
   pub below : (k : Kind) (u : List ℕ) → failed (form k) u < 2 ^ length (checks (form k) u)
-
--- 01's flag is clear exactly if every inserted ⊕ byte is right and, for TA52, the number byte's top three bits are zero
-abbrev pub flagClear : Algorithm → List ℕ → Bool
-flagClear Ta31 u = same (inserted exp1Groups 0 u) (expected exp1Groups 0 u)
-flagClear Ta51 u = same (inserted exp3Groups 0 u) (expected exp3Groups 0 u) && eqb (u ! 13 / 32) 0
-flagClear Ta81 u = same (inserted x16Groups 0 u) (expected x16Groups 0 u)
-flagClear Ta91 u = same (inserted x16Groups 0 u) (expected x16Groups 0 u)
 
 -- for every kind, sealing key, version and text the number is 0 exactly if 01's flag is clear
 abbrev pub FlagIsNonzero : Type 0

@@ -1,6 +1,7 @@
 -- Refusals (01, Who causes which number): the numbers by name, their tests, and the answers of single calls.
--- A book is tested for 11, 1, 2 and 12, and then each of its records for 3, and for 4 and 5 when it is sealed or for 6 when it is opened.
--- A single call tests 11, 13, 7, 8, 9, 10, 5, 17, 18, 19. A lineage sheet is tested for 1, 2 and 12, and then each of its records for 14, 15 and 16.
+-- A book is tested for 11, 1, 2 and 12, and then each of its records for 3, and for 4 and 5 when it is sealed or for 6 when it is opened;
+-- a class for 11, 1, 2, 12, 7 and 8; a lineage sheet for 1, 2 and 12, and then each of its records for 14, 15 and 16; a book to be filed by
+-- column for 1, 2 and 12; a tally for 1 and 2. A single call tests 11, 13, 7, 8, 9, 10, 5, 17, 18, 19.
 -- Assumes nothing.
 use mathlib.Core.Bool.{Bool, true, false, _&&_}
 use mathlib.Core.List.{List, [], _∷_}

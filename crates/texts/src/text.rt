@@ -69,7 +69,7 @@ pub fn key10(sealing_key: [u8; 10], version: Version) -> [u8; 16]
     exp4(mixed10(sealing_key, bytes_of(version)))
 }
 
-// The core's key for kinds 2 to 4.
+// The core's key for kinds 2 to 6.
 pub fn key16(sealing_key: [u8; 16], version: Version) -> [u8; 16]
     ensures { λ r. ⌜ r ≡ key16Of «sealing_key» (bytesOf 2 (version .0)) ⌝ }
 {
