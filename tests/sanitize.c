@@ -222,7 +222,7 @@ static void books(bool at_end, size_t records)
         CHECK(took(taa1_open_book(S(ring), S(sealed), S(opened)), TAA1_WRONG_KIND, records - 1, 0,
                    2 * (records - 1)));
         protect(plain, PROT_READ | PROT_WRITE);
-        plain.bytes[plain.length - TAA1_PLAIN_RECORD_BYTES] = TAA1_KIND_TA91 + 1;
+        plain.bytes[plain.length - TAA1_PLAIN_RECORD_BYTES] = TAA1_KIND_TA81_G + 1;
         protect(sealed, PROT_READ);
         CHECK(took(taa1_seal_book(S(ring), S(plain), S(sealed)), TAA1_WRONG_KIND, records - 1, 0,
                    0));
