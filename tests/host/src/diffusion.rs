@@ -17,6 +17,17 @@ pub struct Diffusion {
     pub greatest: u32,
 }
 
+/// A refusal's number, or 0 for no records, and four zeros.
+pub fn refused(refusal: u32) -> Diffusion {
+    Diffusion {
+        refusal,
+        flips: 0,
+        total: 0,
+        least: 0,
+        greatest: 0,
+    }
+}
+
 /// How many output bits change with each of the 64 block bits.
 fn changes(record: &[u8]) -> Vec<u32> {
     let schedule = schedule(&from_fn(|i| record[i]));
@@ -50,16 +61,6 @@ pub fn diffusion(records: &[u8]) -> Diffusion {
 mod tests {
     use super::*;
     use crate::hurdle::encrypt;
-
-    fn refused(refusal: u32) -> Diffusion {
-        Diffusion {
-            refusal,
-            flips: 0,
-            total: 0,
-            least: 0,
-            greatest: 0,
-        }
-    }
 
     #[test]
     fn nothing_to_count() {

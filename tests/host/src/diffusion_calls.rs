@@ -3,7 +3,7 @@
 use crate::edges::{self, list_lengths, long_lists, COUNTS};
 use host::both::{Start, MOST};
 use host::damaged::flipped;
-use host::diffusion::{self, Diffusion, RECORD};
+use host::diffusion::{self, refused, Diffusion, RECORD};
 use host::engine::{self, null};
 use host::random::Random;
 use host::tally::{Group, Tally};
@@ -71,16 +71,6 @@ fn want(group: &mut Group, records: &[u8], wanted: impl FnOnce() -> Diffusion) {
     if group.turn() {
         let got = engine::diffusion(records);
         group.same("diffusion", &[("records", &Start(records))], got, wanted());
-    }
-}
-
-fn refused(refusal: u32) -> Diffusion {
-    Diffusion {
-        refusal,
-        flips: 0,
-        total: 0,
-        least: 0,
-        greatest: 0,
     }
 }
 
