@@ -3,33 +3,45 @@
 use mathlib.Core.Bool.{Bool, true, _&&_}
 use mathlib.Core.List.{List, [], _∷_, _++_}
 use mathlib.Core.Path.{_≡_, refl, sym, ap, ap₂, _∙_}
-use Prim.Native.Nat.{ℕ, zero, suc, _+_, _-_, _*_, _/_, _%_, _^_, _≤_, _<_}
+use Prim.Native.Nat.{ℕ, zero, suc, _+_, _*_, _/_, _%_, _^_, _≤_, _<_}
 use native.Mathlib.Numerals.{add-one}
 use native.Mathlib.Omega.{arith}
 use lib.Bits.{bitXor, bitAnd, xor-zero-r, xor-shr, xor-mod}
 use lib.Dec.{eqb, leb}
-use lib.ListN.{length, take, drop}
 use borrow.Author.Tests.{eqb-true, leb-true}
 use Rattle.standard.specs.Bytes.{_!_, byte, bit, _⊕_, _⊞_, part, xors}
-use Rattle.standard.specs.Hurdle.{S, E, T, ofBits, Y, f, Halves, round, rounds, crypt, roundKey}
-use Rattle.standard.proofs.BytesLaws.{lent-part, and-split, every, every-at}
-use Rattle.hurdle.specs.Steps.{bytes4, TOver, YOver, fOver, roundOver, Linked, Four, Spread, nibble, Nibbles, gathered, Gathered, HalvesOf, place, Turned}
+use Rattle.standard.specs.Hurdle.{S, E, T, f, Halves, round, rounds, crypt, roundKey}
+use Rattle.standard.proofs.BytesLaws.{table-at, and-split, every, every-at}
+use Rattle.hurdle.specs.Steps.{bytes4, TOver, YOver, fOver, roundOver, Linked, Four, Spread, nibble, gathered, Gathered, HalvesOf, place, Turned}
 
 -- ---- the chain
+
+-- links by the bytes of k from at + j on are links by those from j on of the round key, the twelve bytes of k from `at` on
+linked-part : {s x : List ℕ} {t e₀ e₁ e₂ e₃ a b c d n : ℕ} (k : List ℕ) (at j : ℕ) → j + 4 ≤ 12 → n ≡ at + j
+    → Linked s t x e₀ e₁ e₂ e₃ k n a b c d → Linked s t x e₀ e₁ e₂ e₃ (part at 12 k) j a b c d
+linked-part {s} {x} {t} {e₀} {e₁} {e₂} {e₃} {a} {b} {c} {d} {n} k at j fits e h = record {
+  first = h .first ∙ ap (λ (y : ℕ). s ! ((byte 4 x e₀ ⊞ y) ⊕ t)) (same (n + 3) (j + 3) (omega arith) (omega arith));
+  second = h .second ∙ ap (λ (y : ℕ). s ! ((byte 4 x e₁ ⊞ y) ⊕ a)) (same (n + 2) (j + 2) (omega arith) (omega arith));
+  third = h .third ∙ ap (λ (y : ℕ). s ! ((byte 4 x e₂ ⊞ y) ⊕ b)) (same (n + 1) (j + 1) (omega arith) (omega arith));
+  fourth = h .fourth ∙ ap (λ (y : ℕ). s ! ((byte 4 x e₃ ⊞ y) ⊕ c)) (same n j (omega arith) e);
+}
+  where
+    same : (m i : ℕ) → i < 12 → m ≡ at + i → k ! m ≡ part at 12 k ! i
+    same m i l q = ap (λ (o : ℕ). k ! o) q ∙ sym (table-at 12 (λ o. k ! (at + o)) i l)
 
 chain-next : (s x k : List ℕ) (j : ℕ) {t r : ℕ} → t ≡ TOver s x k j → r ≡ s ! ((E x (suc j) ⊞ byte 12 k (suc j)) ⊕ t) → r ≡ TOver s x k (suc j)
 unfolding TOver
 chain-next s x k j p q = q ∙ rw p
 
 -- T3, from four links of which the first is one after 0
-pub chain-start : (s x k : List ℕ) {a b c d : ℕ} → Linked s 0 x 0 1 2 3 k 8 a b c d → d ≡ TOver s x k 3
+chain-start : (s x k : List ℕ) {a b c d : ℕ} → Linked s 0 x 0 1 2 3 k 8 a b c d → d ≡ TOver s x k 3
 unfolding TOver
 chain-start s x k {a} h =
     let t₀ : a ≡ TOver s x k 0 = h .first ∙ ap (_!_ s) (xor-zero-r (E x 0 ⊞ byte 12 k 0)) in
     chain-next s x k 2 (chain-next s x k 1 (chain-next s x k 0 t₀ (h .second)) (h .third)) (h .fourth)
 
 -- four links after Tj, from the links' results
-pub chain-four : (s x k : List ℕ) (j : ℕ) {t a b c d : ℕ} → t ≡ TOver s x k j
+chain-four : (s x k : List ℕ) (j : ℕ) {t a b c d : ℕ} → t ≡ TOver s x k j
     → a ≡ s ! ((E x (suc j) ⊞ byte 12 k (suc j)) ⊕ t)
     → b ≡ s ! ((E x (suc (suc j)) ⊞ byte 12 k (suc (suc j))) ⊕ a)
     → c ≡ s ! ((E x (suc (suc (suc j))) ⊞ byte 12 k (suc (suc (suc j)))) ⊕ b)
@@ -87,7 +99,7 @@ bytes4-of a b c d ha hb hc hd =
     cc
 
 -- T4 to T11, gathered, are f's result, over any table
-pub gathered-is : (s x k : List ℕ) {a b c d e f′ g h y : ℕ} → Four s x k 4 a b c d → Four s x k 8 e f′ g h → Gathered a b c d e f′ g h y → bytes4 y ≡ fOver s x k
+gathered-is : (s x k : List ℕ) {a b c d e f′ g h y : ℕ} → Four s x k 4 a b c d → Four s x k 8 e f′ g h → Gathered a b c d e f′ g h y → bytes4 y ≡ fOver s x k
 unfolding fOver
 gathered-is s x k {a} {b} {c} {d} {e} {f′} {g} {h} {y} p q o =
     let lt : (n : ℕ) → gathered n a b c d e f′ g h < 256 = λ n. omega (arith, nibble-lt n a b c d, nibble-lt n e f′ g h) in
@@ -97,6 +109,18 @@ gathered-is s x k {a} {b} {c} {d} {e} {f′} {g} {h} {y} p q o =
   where
     sums : (n : ℕ) → gathered n (TOver s x k 4) (TOver s x k 5) (TOver s x k 6) (TOver s x k 7) (TOver s x k 8) (TOver s x k 9) (TOver s x k 10) (TOver s x k 11) ≡ YOver s x k n
     sums n = omega arith
+
+-- the three fours of the chain, gathered
+pub f-made : (s x k : List ℕ) (at : ℕ) {p₀ p₁ p₂ p₃ q₀ q₁ q₂ q₃ r₀ r₁ r₂ r₃ y : ℕ}
+    → Linked s 0 x 0 1 2 3 k (at + 8) p₀ p₁ p₂ p₃ → Linked s p₃ x 0 2 1 3 k (at + 4) q₀ q₁ q₂ q₃ → Linked s q₃ x 2 0 3 1 k at r₀ r₁ r₂ r₃
+    → Gathered q₀ q₁ q₂ q₃ r₀ r₁ r₂ r₃ y → bytes4 y ≡ fOver s x (part at 12 k)
+f-made s x k at p q r o =
+    let h : List ℕ = part at 12 k in
+    let q₄ = linked-part k at 4 (omega arith) refl q in
+    let r₄ = linked-part k at 0 (omega arith) (omega arith) r in
+    let t₄ = chain-four s x h 3 (chain-start s x h (linked-part k at 8 (omega arith) refl p)) (q₄ .first) (q₄ .second) (q₄ .third) (q₄ .fourth) in
+    let t₈ = chain-four s x h 7 (t₄ .fourth) (r₄ .first) (r₄ .second) (r₄ .third) (r₄ .fourth) in
+    gathered-is s x h t₄ t₈ o
 
 -- ---- over S
 
@@ -138,14 +162,12 @@ unfolding rounds
 round-more k i h l r y e p =
     round-words S (k i) l r y e ∙ round-over (k i) (bytes4 l, bytes4 r) ∙ ap (round (k i)) p ∙ rw add-one refl
 
--- the round key is lent as a part of those laid out
-pub turned-more : {back : Bool} {keys : List ℕ} {l₀ r₀ i n l r : ℕ} (y : ℕ) → n ≡ place back i → n * 12 + 12 ≤ length keys
-    → bytes4 y ≡ fOver S (bytes4 r) (take (n * 12 + 12 - n * 12) (drop (n * 12) keys))
-    → Turned back keys l₀ r₀ i l r → Turned back keys l₀ r₀ (i + 1) r (bitXor l y)
-turned-more {back} {keys} {l₀} {r₀} {i} {n} {l} {r} y e fits p h =
-    let k : take (n * 12 + 12 - n * 12) (drop (n * 12) keys) ≡ roundKey keys (place back i) =
-    lent-part (n * 12) 12 keys fits ∙ ap (roundKey keys) e in
-    record { is = round-more (λ m. roundKey keys (place back m)) i _ l r y (p ∙ ap (fOver S (bytes4 r)) k) (h .is) }
+-- the same, in words
+pub turned-more : {back : Bool} {keys : List ℕ} {l₀ r₀ i n l r z : ℕ} (y : ℕ) → n ≡ place back i → bytes4 y ≡ fOver S (bytes4 r) (roundKey keys n) → z ≡ bitXor l y
+    → Turned back keys l₀ r₀ i l r → Turned back keys l₀ r₀ (i + 1) r z
+turned-more {back} {keys} {l₀} {r₀} {i} {n} {l} {r} {z} y e p q h =
+    let made = round-more (λ m. roundKey keys (place back m)) i _ l r y (p ∙ ap (λ (m : ℕ). fOver S (bytes4 r) (roundKey keys m)) e) (h .is) in
+    record { is = ap (λ (w : ℕ). (bytes4 r, bytes4 w)) q ∙ made }
 
 -- the halves, the rounds and the halves exchanged are the block
 pub crypted : {back : Bool} {keys b out : List ℕ} {l r l₁ r₁ : ℕ} → HalvesOf b l r → Turned back keys l r 16 l₁ r₁

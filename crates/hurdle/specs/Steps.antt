@@ -13,7 +13,7 @@ use Rattle.standard.specs.declared.Bytes8.{Bytes8}
 abbrev pub bytes4 : ℕ → List ℕ
 bytes4 w = w / 2 ^ 24 % 256 ∷ w / 2 ^ 16 % 256 ∷ w / 2 ^ 8 % 256 ∷ w % 256 ∷ []
 
--- T, f and a round over a table s in the place of S: the code takes a copy of S, made once for a block
+-- T, f and a round over a table s in the place of S: the code takes a copy of S, made once for a block or for four side by side
 unfoldable pub TOver : (s x k : List ℕ) → ℕ → ℕ
 TOver s x k zero = s ! (E x 0 ⊞ byte 12 k 0)
 TOver s x k (suc j) = s ! ((E x (suc j) ⊞ byte 12 k (suc j)) ⊕ TOver s x k j)
@@ -27,7 +27,7 @@ fOver s x k = YOver s x k 3 ∷ YOver s x k 2 ∷ YOver s x k 1 ∷ YOver s x k 
 unfoldable pub roundOver : (s k : List ℕ) → Halves → Halves
 roundOver s k h = (h .1, xors 4 (h .0) (fOver s (h .1) k))
 
--- four links after t, from the bytes of x that e₀ to e₃ number and those of the round key from index `at` on, the last one first
+-- four links after t, from the bytes of x that e₀ to e₃ number and those of k from index `at` on, the last one first
 pub record Linked (s : List ℕ) (t : ℕ) (x : List ℕ) (e₀ e₁ e₂ e₃ : ℕ) (k : List ℕ) (at a b c d : ℕ) : Type 0 where
   pub first : a ≡ s ! ((byte 4 x e₀ ⊞ k ! (at + 3)) ⊕ t)
   pub second : b ≡ s ! ((byte 4 x e₁ ⊞ k ! (at + 2)) ⊕ a)

@@ -1,15 +1,18 @@
 // HURDLE-II, the block cipher of TAA1 (000, clause 6). Strings have the leftmost byte first.
 mod key_schedule;
+mod lanes;
 mod round;
 mod tables;
 
 use crate::key_schedule::lay;
+use crate::lanes::crypt4;
 use crate::round::crypt;
 use crate::tables::S_INVERSE;
 use crate::tables::entry;
 use arrays::array8;
 use arrays::array16;
 use arrays::both_long;
+pub use lanes::Blocks;
 pub use round::Halves;
 pub use round::joined;
 pub use round::round_under;
@@ -40,6 +43,37 @@ pub fn decrypt_with(keys: &[u8; 192], block: [u8; 8]) -> [u8; 8]
     ensures { λ r. ⌜ r ≡ decryptWith (now (keys .entry)) block ⌝ }
 {
     crypt(keys, block, true)
+}
+
+// Four blocks side by side, each under its own round keys. One set of keys may be lent to all four.
+pub fn encrypt4_with(
+    ka: &[u8; 192],
+    kb: &[u8; 192],
+    kc: &[u8; 192],
+    kd: &[u8; 192],
+    x: Blocks,
+) -> Blocks
+    ensures { λ y. ⌜ (y .a ≡ encryptWith (now (ka .entry)) (x .a))
+        × (y .b ≡ encryptWith (now (kb .entry)) (x .b))
+        × (y .c ≡ encryptWith (now (kc .entry)) (x .c))
+        × (y .d ≡ encryptWith (now (kd .entry)) (x .d)) ⌝ }
+{
+    crypt4(ka, kb, kc, kd, x, false)
+}
+
+pub fn decrypt4_with(
+    ka: &[u8; 192],
+    kb: &[u8; 192],
+    kc: &[u8; 192],
+    kd: &[u8; 192],
+    x: Blocks,
+) -> Blocks
+    ensures { λ y. ⌜ (y .a ≡ decryptWith (now (ka .entry)) (x .a))
+        × (y .b ≡ decryptWith (now (kb .entry)) (x .b))
+        × (y .c ≡ decryptWith (now (kc .entry)) (x .c))
+        × (y .d ≡ decryptWith (now (kd .entry)) (x .d)) ⌝ }
+{
+    crypt4(ka, kb, kc, kd, x, true)
 }
 
 // A block under a key.

@@ -31,7 +31,7 @@ fn link(s: &[u8; 256], t: u8, x: u32, n: u8, k: u8) -> u8
 }
 
 // Four bytes, in the order of the chain.
-struct Four(u8, u8, u8, u8);
+pub(crate) struct Four(pub u8, pub u8, pub u8, pub u8);
 
 // Four links of the chain after t. Their E is the half's bytes numbered in e; their key bytes are those from index `at` on, the last
 // one first.
@@ -61,20 +61,44 @@ fn nibbles(t: Four) -> u32
 }
 
 // Bit m of byte n is bit n of T(m+4).
-fn gather(q: Four, r: Four) -> u32
+pub(crate) fn gather(q: Four, r: Four) -> u32
     ensures { λ y. ⌜ Gathered (q .0) (q .1) (q .2) (q .3) (r .0) (r .1) (r .2) (r .3) y ⌝ }
 {
     nibbles(q) + 16 * nibbles(r)
 }
 
-// f of a half and a round key of twelve bytes. The chain's first link is one after 0.
-fn f(s: &[u8; 256], x: u32, k: &[u8]) -> u32
-    requires { ⌜ length (now k) ≡ 12 ⌝ }
-    ensures { λ r. ⌜ bytes4 r ≡ fOver (now (s .entry)) (bytes4 x) (now (k .entry)) ⌝ }
+// The three fours of f's chain, under the round key of twelve bytes from index `at` on: T0 to T3, of which T0 is a link after 0.
+pub(crate) fn first(s: &[u8; 256], x: u32, k: &[u8], at: usize) -> Four
+    requires { ⌜ at + 12 ≤ length (now k) ⌝ }
+    ensures { λ r. ⌜ Linked (now (s .entry)) 0 (bytes4 x) 0 1 2 3 (now (k .entry)) (at + 8) (r .0) (r .1) (r .2) (r .3) ⌝ }
 {
-    let p = links(s, 0, x, Four(0, 1, 2, 3), k, 8);
-    let q = links(s, p.3, x, Four(0, 2, 1, 3), k, 4);
-    let r = links(s, q.3, x, Four(2, 0, 3, 1), k, 0);
+    links(s, 0, x, Four(0, 1, 2, 3), k, at + 8)
+}
+
+// T4 to T7, after T3.
+pub(crate) fn second(s: &[u8; 256], t: u8, x: u32, k: &[u8], at: usize) -> Four
+    requires { ⌜ at + 12 ≤ length (now k) ⌝ }
+    ensures { λ r. ⌜ Linked (now (s .entry)) t (bytes4 x) 0 2 1 3 (now (k .entry)) (at + 4) (r .0) (r .1) (r .2) (r .3) ⌝ }
+{
+    links(s, t, x, Four(0, 2, 1, 3), k, at + 4)
+}
+
+// T8 to T11, after T7.
+pub(crate) fn third(s: &[u8; 256], t: u8, x: u32, k: &[u8], at: usize) -> Four
+    requires { ⌜ at + 12 ≤ length (now k) ⌝ }
+    ensures { λ r. ⌜ Linked (now (s .entry)) t (bytes4 x) 2 0 3 1 (now (k .entry)) at (r .0) (r .1) (r .2) (r .3) ⌝ }
+{
+    links(s, t, x, Four(2, 0, 3, 1), k, at)
+}
+
+// f of a half and the round key from index `at` on.
+fn f(s: &[u8; 256], x: u32, k: &[u8], at: usize) -> u32
+    requires { ⌜ at + 12 ≤ length (now k) ⌝ }
+    ensures { λ r. ⌜ bytes4 r ≡ fOver (now (s .entry)) (bytes4 x) (part at 12 (now (k .entry))) ⌝ }
+{
+    let p = first(s, x, k, at);
+    let q = second(s, p.3, x, k, at);
+    let r = third(s, q.3, x, k, at);
     gather(q, r)
 }
 
@@ -84,12 +108,12 @@ pub fn round_under(s: &[u8; 256], h: Halves, q: &[u8; 16]) -> Halves
 {
     let register = &q[..];
     let l = h.r;
-    let r = h.l ^ f(s, l, &register[4..16]);
+    let r = h.l ^ f(s, l, register, 4);
     Halves { l, r }
 }
 
 // The round key that round i takes.
-fn place(back: bool, i: usize) -> usize
+pub(crate) fn place(back: bool, i: usize) -> usize
     requires { ⌜ i < 16 ⌝ }
     ensures { λ r. ⌜ (r ≡ placeOf back i) × (r < 16) ⌝ }
 {
@@ -141,8 +165,7 @@ fn rounds(keys: &[u8; 192], h: Halves, back: bool) -> Halves
     let mut l = h.l;
     let mut r = h.r;
     for i in 0..16 {
-        let at = place(back, i) * 12;
-        let next = l ^ f(&s, r, &laid[at..at + 12]);
+        let next = l ^ f(&s, r, laid, place(back, i) * 12);
         l = r;
         r = next;
     }

@@ -21,20 +21,8 @@ loop-holds c = (zero-le, turned-none)
 place-requires : tie.Need-place-requires Inv-loop μ-loop
 place-requires c κs = omega arith
 
-mul-at : tie.Need-mul-at Inv-loop μ-loop
-mul-at c = omega arith
-
-add-f : tie.Need-add-f Inv-loop μ-loop
-add-f c = omega arith
-
-sub-f : tie.Need-sub-f Inv-loop μ-loop
-sub-f c = omega arith
-
-part-f-start : tie.Need-part-f-start Inv-loop μ-loop
-part-f-start c = omega arith
-
-part-f-end : tie.Need-part-f-end Inv-loop μ-loop
-part-f-end c = omega arith
+mul-f : tie.Need-mul-f Inv-loop μ-loop
+mul-f c = omega arith
 
 f-requires : tie.Need-f-requires Inv-loop μ-loop
 f-requires c κs = omega arith
@@ -48,8 +36,8 @@ loop-less c = omega arith
 loop-again : tie.Need-loop-again Inv-loop μ-loop
 unfolding S
 loop-again c =
-    let placed = c .before .before .before in
-    (omega arith, turned-more (c .f .result) (placed .place .ensures .0) (omega arith) (c .f .ensures) (placed .before .before .loop .inv .1))
+    let placed = c .before in
+    (omega arith, turned-more (c .f .result) (placed .place .ensures .0) (c .f .ensures) refl (placed .before .before .before .loop .inv .1))
 
 returns : tie.Need-returns Inv-loop μ-loop
 returns c =
@@ -64,11 +52,7 @@ rounds-spec =
     μ-loop
     loop-holds
     place-requires
-    mul-at
-    add-f
-    sub-f
-    part-f-start
-    part-f-end
+    mul-f
     f-requires
     add-i
     loop-less

@@ -1,0 +1,45 @@
+-- `hurdle::lanes::fs` meets its contract.
+-- Assumes nothing.
+use denote.Ref.{now}
+use borrow.Author.Needs.{needs}
+use Rattle.hurdle.proofs.RoundLaws.{f-made}
+use Rattle.hurdle.specs.Steps.{bytes4}
+use Rattle.hurdle.proofs.lanes.fs.Statement.{statement}
+use Rattle.hurdle.proofs.lanes.fs.Tie as tie
+
+firsts-requires : tie.Need-firsts-requires
+firsts-requires c κs = search needs
+
+seconds-requires : tie.Need-seconds-requires
+seconds-requires c κs = search needs
+
+thirds-requires : tie.Need-thirds-requires
+thirds-requires c κs = search needs
+
+gathers-requires : tie.Need-gathers-requires
+gathers-requires c κs = search needs
+
+returns : tie.Need-returns
+returns c =
+    let last = c .before in
+    let p = last .before .before .firsts .ensures in
+    let q = last .before .seconds .ensures in
+    let r = last .thirds .ensures in
+    let y = c .gathers .ensures in
+    let x = last .before .before .before .before .before .before .before .args in
+    let s = now (x .s) in (
+      f-made s (bytes4 (x .x .a)) (now (x .ka)) (x .at) (p .0) (q .0) (r .0) (y .0),
+      f-made s (bytes4 (x .x .b)) (now (x .kb)) (x .at) (p .1) (q .1) (r .1) (y .1),
+      f-made s (bytes4 (x .x .c)) (now (x .kc)) (x .at) (p .2) (q .2) (r .2) (y .2),
+      f-made s (bytes4 (x .x .d)) (now (x .kd)) (x .at) (p .3) (q .3) (r .3) (y .3),
+    )
+
+pub fs-spec : {M : Type 1} → statement M
+fs-spec =
+    tie.close
+    (tie.spec
+    firsts-requires
+    seconds-requires
+    thirds-requires
+    gathers-requires
+    returns)
