@@ -1,10 +1,11 @@
--- What the steps of EXP4 compute.
+-- What the steps of EXP4 compute, and BL2 under round keys laid out first.
 -- Assumes nothing.
 use mathlib.Core.List.{List, [], _∷_, _++_}
 use mathlib.Core.Path.{_≡_}
 use Prim.Native.Nat.{ℕ}
-use Rattle.standard.specs.Bytes.{_⊕_, part}
+use Rattle.standard.specs.Bytes.{_!_, _⊕_, part, xors}
 use Rattle.standard.specs.Expansions.{sumAt}
+use Rattle.standard.specs.Hurdle.{decryptWith}
 
 -- the byte sums of the five pairs
 pub record Sums (x : List ℕ) (a b c d e : ℕ) : Type 0 where
@@ -18,3 +19,10 @@ pub record Sums (x : List ℕ) (a b c d e : ℕ) : Type 0 where
 abbrev pub withSums : List ℕ → ℕ → ℕ → ℕ → ℕ → ℕ → List ℕ
 withSums x a b c d e =
     (a ⊕ b ⊕ c ⊕ d ⊕ e) ∷ a ∷ part 0 2 x ++ b ∷ part 2 2 x ++ c ∷ part 4 2 x ++ d ∷ part 6 2 x ++ e ∷ part 8 2 x
+
+-- BL2 under round keys laid out first
+unfoldable pub bl2With : List ℕ → List ℕ → List ℕ
+bl2With keys y =
+    let r : List ℕ = decryptWith keys (part 8 8 y) in
+    let w : List ℕ = part 0 7 y ++ (y ! 7 ⊕ r ! 7) ∷ [] in
+    part 0 8 (decryptWith keys w) ++ xors 7 r (part 0 7 y)

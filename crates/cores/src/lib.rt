@@ -7,8 +7,8 @@ ghost use mathlib.Core.List.{[], _∷_, _++_};
 ghost use mathlib.Core.Path.{_≡_};
 ghost use Rattle.standard.specs.Bytes.{_!_, _⊕_, _⊞_, part, xors};
 ghost use Rattle.standard.specs.Cores.{bl1With, bl1 as bl1Of, bl2 as bl2Of};
-ghost use Rattle.standard.specs.Expansions.{exp1, exp2 as exp2Of, exp4 as exp4Of, sumAt, xorOf};
-ghost use Rattle.cores.specs.Steps.{Sums as SumsOf, withSums};
+ghost use Rattle.standard.specs.Expansions.{exp1, exp2 as exp2Of, exp4 as exp4Of, xorOf};
+ghost use Rattle.cores.specs.Steps.{Sums as SumsOf, withSums, bl2With};
 
 // The byte sum of the ⊕ values of the five pairs.
 fn sum_of_xors(b: [u8; 10]) -> u8
@@ -101,13 +101,13 @@ pub fn exp4(b: [u8; 10]) -> [u8; 16]
     with_sums(b, pair_sums(b))
 }
 
-fn left(x: [u8; 16]) -> [u8; 8]
+pub fn left(x: [u8; 16]) -> [u8; 8]
     ensures { λ r. ⌜ r ≡ part 0 8 x ⌝ }
 {
     [x[0], x[1], x[2], x[3], x[4], x[5], x[6], x[7]]
 }
 
-fn right(x: [u8; 16]) -> [u8; 8]
+pub fn right(x: [u8; 16]) -> [u8; 8]
     ensures { λ r. ⌜ r ≡ part 8 8 x ⌝ }
 {
     [x[8], x[9], x[10], x[11], x[12], x[13], x[14], x[15]]
@@ -128,7 +128,14 @@ fn xor8(a: [u8; 8], b: [u8; 8]) -> [u8; 8]
     ]
 }
 
-fn joined(l: [u8; 8], r: [u8; 8]) -> [u8; 16]
+// The right block of x ⊕ the left output.
+pub fn chained(x: [u8; 16], l: [u8; 8]) -> [u8; 8]
+    ensures { λ r. ⌜ r ≡ xors 8 (part 8 8 x) l ⌝ }
+{
+    xor8(right(x), l)
+}
+
+pub fn joined(l: [u8; 8], r: [u8; 8]) -> [u8; 16]
     ensures { λ o. ⌜ o ≡ part 0 8 l ++ part 0 8 r ⌝ }
 {
     [
@@ -156,7 +163,7 @@ pub fn bl1_with(keys: &[u8; 192], x: [u8; 16]) -> [u8; 16]
     ensures { λ r. ⌜ r ≡ bl1With (now (keys .entry)) x ⌝ }
 {
     let l = encrypt_with(keys, left(x));
-    let r = encrypt_with(keys, xor8(right(x), l));
+    let r = encrypt_with(keys, chained(x, l));
     joined(l, r)
 }
 
@@ -168,14 +175,14 @@ pub fn bl1(key: [u8; 16], x: [u8; 16]) -> [u8; 16]
 }
 
 // The left block of y, its last byte ⊕ that of r.
-fn mended(y: [u8; 16], r: [u8; 8]) -> [u8; 8]
+pub fn mended(y: [u8; 16], r: [u8; 8]) -> [u8; 8]
     ensures { λ w. ⌜ w ≡ part 0 7 y ++ ((y ! 7 ⊕ r ! 7) ∷ []) ⌝ }
 {
     [y[0], y[1], y[2], y[3], y[4], y[5], y[6], y[7] ^ r[7]]
 }
 
 // The left output, and the first seven bytes of r ⊕ those of y.
-fn joined7(l: [u8; 8], r: [u8; 8], y: [u8; 16]) -> [u8; 15]
+pub fn joined7(l: [u8; 8], r: [u8; 8], y: [u8; 16]) -> [u8; 15]
     ensures { λ o. ⌜ o ≡ part 0 8 l ++ xors 7 r (part 0 7 y) ⌝ }
 {
     [
@@ -197,11 +204,17 @@ fn joined7(l: [u8; 8], r: [u8; 8], y: [u8; 16]) -> [u8; 15]
     ]
 }
 
+fn bl2_with(keys: &[u8; 192], y: [u8; 16]) -> [u8; 15]
+    ensures { λ r. ⌜ r ≡ bl2With (now (keys .entry)) y ⌝ }
+{
+    let r = decrypt_with(keys, right(y));
+    let l = decrypt_with(keys, mended(y, r));
+    joined7(l, r, y)
+}
+
 pub fn bl2(key: [u8; 16], y: [u8; 16]) -> [u8; 15]
     ensures { λ r. ⌜ r ≡ bl2Of key y ⌝ }
 {
     let keys = schedule(key);
-    let r = decrypt_with(&keys, right(y));
-    let l = decrypt_with(&keys, mended(y, r));
-    joined7(l, r, y)
+    bl2_with(&keys, y)
 }

@@ -1,7 +1,8 @@
 -- `cores::bl1_with` meets its contract.
 -- Assumes nothing.
+use denote.Ref.{now}
 use borrow.Author.Needs.{needs}
-use Rattle.standard.specs.Cores.{bl1With}
+use Rattle.cores.proofs.CoreSteps.{bl1-steps}
 use Rattle.cores.proofs.bl1_with.Statement.{statement}
 use Rattle.cores.proofs.bl1_with.Tie as tie
 
@@ -11,11 +12,8 @@ left-requires c κs = search needs
 encrypt-with-requires : tie.Need-encrypt-with-requires
 encrypt-with-requires c κs = search needs
 
-right-requires : tie.Need-right-requires
-right-requires c κs = search needs
-
-xor8-requires : tie.Need-xor8-requires
-xor8-requires c κs = search needs
+chained-requires : tie.Need-chained-requires
+chained-requires c κs = search needs
 
 encrypt-with-requires-2 : tie.Need-encrypt-with-requires-2
 encrypt-with-requires-2 c κs = search needs
@@ -24,11 +22,11 @@ joined-requires : tie.Need-joined-requires
 joined-requires c κs = search needs
 
 returns : tie.Need-returns
-unfolding bl1With
 returns c =
     let second = c .before in
-    let first = second .before .before .before in
-    rw (c .joined .ensures, second .encrypt-with2 .ensures, second .before .xor8 .ensures, second .before .before .right .ensures, first .encrypt-with .ensures, first .before .left .ensures)
+    let first = second .before .before in
+    let x = first .before .before .args in
+    bl1-steps (now (x .keys)) (x .x) (first .before .left .ensures) (first .encrypt-with .ensures) (second .before .chained .ensures) (second .encrypt-with2 .ensures) (c .joined .ensures)
 
 pub bl1-with-spec : {M : Type 1} → statement M
 bl1-with-spec =
@@ -36,8 +34,7 @@ bl1-with-spec =
     (tie.spec
     left-requires
     encrypt-with-requires
-    right-requires
-    xor8-requires
+    chained-requires
     encrypt-with-requires-2
     joined-requires
     returns)

@@ -1,0 +1,40 @@
+-- `cores::bl2_with` meets its contract.
+-- Assumes nothing.
+use denote.Ref.{now}
+use borrow.Author.Needs.{needs}
+use Rattle.cores.proofs.CoreSteps.{bl2-steps}
+use Rattle.cores.proofs.bl2_with.Statement.{statement}
+use Rattle.cores.proofs.bl2_with.Tie as tie
+
+right-requires : tie.Need-right-requires
+right-requires c κs = search needs
+
+decrypt-with-requires : tie.Need-decrypt-with-requires
+decrypt-with-requires c κs = search needs
+
+mended-requires : tie.Need-mended-requires
+mended-requires c κs = search needs
+
+decrypt-with-requires-2 : tie.Need-decrypt-with-requires-2
+decrypt-with-requires-2 c κs = search needs
+
+joined7-requires : tie.Need-joined7-requires
+joined7-requires c κs = search needs
+
+returns : tie.Need-returns
+returns c =
+    let second = c .before in
+    let first = second .before .before in
+    let x = first .before .before .args in
+    bl2-steps (now (x .keys)) (x .y) (first .before .right .ensures) (first .decrypt-with .ensures) (second .before .mended .ensures) (second .decrypt-with2 .ensures) (c .joined7 .ensures)
+
+pub bl2-with-spec : {M : Type 1} → statement M
+bl2-with-spec =
+    tie.close
+    (tie.spec
+    right-requires
+    decrypt-with-requires
+    mended-requires
+    decrypt-with-requires-2
+    joined7-requires
+    returns)

@@ -1,0 +1,46 @@
+-- `cores_four::bl1_four` meets its contract.
+-- Assumes nothing.
+use borrow.Author.Needs.{needs}
+use Rattle.cores.proofs.CoreSteps.{bl1-under}
+use Rattle.cores_four.proofs.bl1_four.Statement.{statement}
+use Rattle.cores_four.proofs.bl1_four.Tie as tie
+
+schedule-requires : tie.Need-schedule-requires
+schedule-requires c κs = search needs
+
+schedule-requires-2 : tie.Need-schedule-requires-2
+schedule-requires-2 c κs = search needs
+
+schedule-requires-3 : tie.Need-schedule-requires-3
+schedule-requires-3 c κs = search needs
+
+schedule-requires-4 : tie.Need-schedule-requires-4
+schedule-requires-4 c κs = search needs
+
+bl1-four-with-requires : tie.Need-bl1-four-with-requires
+bl1-four-with-requires c κs = search needs
+
+returns : tie.Need-returns
+returns c =
+    let fourth = c .before .before .before .before .before in
+    let third = fourth .before in
+    let second = third .before in
+    let first = second .before in
+    let out = c .bl1-four-with .ensures in
+    let x = first .before .before .before .before .before .args in (
+      bl1-under (x .k .a) (x .x .a) (first .schedule .ensures) (out .0),
+      bl1-under (x .k .b) (x .x .b) (second .schedule2 .ensures) (out .1),
+      bl1-under (x .k .c) (x .x .c) (third .schedule3 .ensures) (out .2),
+      bl1-under (x .k .d) (x .x .d) (fourth .schedule4 .ensures) (out .3),
+    )
+
+pub bl1-four-spec : {M : Type 1} → statement M
+bl1-four-spec =
+    tie.close
+    (tie.spec
+    schedule-requires
+    schedule-requires-2
+    schedule-requires-3
+    schedule-requires-4
+    bl1-four-with-requires
+    returns)

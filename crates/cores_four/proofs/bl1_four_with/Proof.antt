@@ -1,0 +1,49 @@
+-- `cores_four::bl1_four_with` meets its contract.
+-- Assumes nothing.
+use denote.Ref.{now}
+use borrow.Author.Needs.{needs}
+use Rattle.cores.proofs.CoreSteps.{bl1-steps}
+use Rattle.cores_four.proofs.bl1_four_with.Statement.{statement}
+use Rattle.cores_four.proofs.bl1_four_with.Tie as tie
+
+lefts-requires : tie.Need-lefts-requires
+lefts-requires c κs = search needs
+
+encrypt4-with-requires : tie.Need-encrypt4-with-requires
+encrypt4-with-requires c κs = search needs
+
+chains-requires : tie.Need-chains-requires
+chains-requires c κs = search needs
+
+encrypt4-with-requires-2 : tie.Need-encrypt4-with-requires-2
+encrypt4-with-requires-2 c κs = search needs
+
+joins-requires : tie.Need-joins-requires
+joins-requires c κs = search needs
+
+returns : tie.Need-returns
+returns c =
+    let second = c .before in
+    let first = second .before .before in
+    let w = first .before .lefts .ensures in
+    let p = first .encrypt4-with .ensures in
+    let z = second .before .chains .ensures in
+    let q = second .encrypt4-with2 .ensures in
+    let out = c .joins .ensures in
+    let x = first .before .before .args in (
+      bl1-steps (now (x .ka)) (x .x .a) (w .0) (p .0) (z .0) (q .0) (out .0),
+      bl1-steps (now (x .kb)) (x .x .b) (w .1) (p .1) (z .1) (q .1) (out .1),
+      bl1-steps (now (x .kc)) (x .x .c) (w .2) (p .2) (z .2) (q .2) (out .2),
+      bl1-steps (now (x .kd)) (x .x .d) (w .3) (p .3) (z .3) (q .3) (out .3),
+    )
+
+pub bl1-four-with-spec : {M : Type 1} → statement M
+bl1-four-with-spec =
+    tie.close
+    (tie.spec
+    lefts-requires
+    encrypt4-with-requires
+    chains-requires
+    encrypt4-with-requires-2
+    joins-requires
+    returns)

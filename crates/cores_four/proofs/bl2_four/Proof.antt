@@ -1,0 +1,46 @@
+-- `cores_four::bl2_four` meets its contract.
+-- Assumes nothing.
+use borrow.Author.Needs.{needs}
+use Rattle.cores.proofs.CoreSteps.{bl2-under}
+use Rattle.cores_four.proofs.bl2_four.Statement.{statement}
+use Rattle.cores_four.proofs.bl2_four.Tie as tie
+
+schedule-requires : tie.Need-schedule-requires
+schedule-requires c κs = search needs
+
+schedule-requires-2 : tie.Need-schedule-requires-2
+schedule-requires-2 c κs = search needs
+
+schedule-requires-3 : tie.Need-schedule-requires-3
+schedule-requires-3 c κs = search needs
+
+schedule-requires-4 : tie.Need-schedule-requires-4
+schedule-requires-4 c κs = search needs
+
+bl2-four-with-requires : tie.Need-bl2-four-with-requires
+bl2-four-with-requires c κs = search needs
+
+returns : tie.Need-returns
+returns c =
+    let fourth = c .before .before .before .before .before in
+    let third = fourth .before in
+    let second = third .before in
+    let first = second .before in
+    let out = c .bl2-four-with .ensures in
+    let x = first .before .before .before .before .before .args in (
+      bl2-under (x .k .a) (x .y .a) (first .schedule .ensures) (out .0),
+      bl2-under (x .k .b) (x .y .b) (second .schedule2 .ensures) (out .1),
+      bl2-under (x .k .c) (x .y .c) (third .schedule3 .ensures) (out .2),
+      bl2-under (x .k .d) (x .y .d) (fourth .schedule4 .ensures) (out .3),
+    )
+
+pub bl2-four-spec : {M : Type 1} → statement M
+bl2-four-spec =
+    tie.close
+    (tie.spec
+    schedule-requires
+    schedule-requires-2
+    schedule-requires-3
+    schedule-requires-4
+    bl2-four-with-requires
+    returns)

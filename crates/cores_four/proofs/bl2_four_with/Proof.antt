@@ -1,0 +1,49 @@
+-- `cores_four::bl2_four_with` meets its contract.
+-- Assumes nothing.
+use denote.Ref.{now}
+use borrow.Author.Needs.{needs}
+use Rattle.cores.proofs.CoreSteps.{bl2-steps}
+use Rattle.cores_four.proofs.bl2_four_with.Statement.{statement}
+use Rattle.cores_four.proofs.bl2_four_with.Tie as tie
+
+rights-requires : tie.Need-rights-requires
+rights-requires c κs = search needs
+
+decrypt4-with-requires : tie.Need-decrypt4-with-requires
+decrypt4-with-requires c κs = search needs
+
+mends-requires : tie.Need-mends-requires
+mends-requires c κs = search needs
+
+decrypt4-with-requires-2 : tie.Need-decrypt4-with-requires-2
+decrypt4-with-requires-2 c κs = search needs
+
+joins7-requires : tie.Need-joins7-requires
+joins7-requires c κs = search needs
+
+returns : tie.Need-returns
+returns c =
+    let second = c .before in
+    let first = second .before .before in
+    let w = first .before .rights .ensures in
+    let p = first .decrypt4-with .ensures in
+    let z = second .before .mends .ensures in
+    let q = second .decrypt4-with2 .ensures in
+    let out = c .joins7 .ensures in
+    let x = first .before .before .args in (
+      bl2-steps (now (x .ka)) (x .y .a) (w .0) (p .0) (z .0) (q .0) (out .0),
+      bl2-steps (now (x .kb)) (x .y .b) (w .1) (p .1) (z .1) (q .1) (out .1),
+      bl2-steps (now (x .kc)) (x .y .c) (w .2) (p .2) (z .2) (q .2) (out .2),
+      bl2-steps (now (x .kd)) (x .y .d) (w .3) (p .3) (z .3) (q .3) (out .3),
+    )
+
+pub bl2-four-with-spec : {M : Type 1} → statement M
+bl2-four-with-spec =
+    tie.close
+    (tie.spec
+    rights-requires
+    decrypt4-with-requires
+    mends-requires
+    decrypt4-with-requires-2
+    joins7-requires
+    returns)

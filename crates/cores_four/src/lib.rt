@@ -1,0 +1,199 @@
+// BL1 and BL2 of four strings side by side, one to a lane, each lane under a key of its own.
+use cores::chained;
+use cores::joined;
+use cores::joined7;
+use cores::left;
+use cores::mended;
+use cores::right;
+use hurdle::Blocks;
+use hurdle::decrypt4_with;
+use hurdle::encrypt4_with;
+use hurdle::schedule;
+ghost use mathlib.Core.List.{[], _∷_, _++_};
+ghost use mathlib.Core.Path.{_≡_};
+ghost use Rattle.cores.specs.Steps.{bl2With};
+ghost use Rattle.standard.specs.Bytes.{_!_, _⊕_, part, xors};
+ghost use Rattle.standard.specs.Cores.{bl1With, bl1, bl2};
+
+// A string of sixteen bytes for each lane: keys, or the cores' inputs and outputs.
+pub struct Strings16 {
+    pub a: [u8; 16],
+    pub b: [u8; 16],
+    pub c: [u8; 16],
+    pub d: [u8; 16],
+}
+
+// What BL2 gives in each lane.
+pub struct Strings15 {
+    pub a: [u8; 15],
+    pub b: [u8; 15],
+    pub c: [u8; 15],
+    pub d: [u8; 15],
+}
+
+fn lefts(x: Strings16) -> Blocks
+    ensures { λ r. ⌜ (r .a ≡ part 0 8 (x .a)) × (r .b ≡ part 0 8 (x .b)) × (r .c ≡ part 0 8 (x .c)) × (r .d ≡ part 0 8 (x .d)) ⌝ }
+{
+    let xa = x.a;
+    let xb = x.b;
+    let xc = x.c;
+    let xd = x.d;
+    Blocks {
+        a: left(xa),
+        b: left(xb),
+        c: left(xc),
+        d: left(xd),
+    }
+}
+
+fn chains(x: Strings16, l: Blocks) -> Blocks
+    ensures { λ r. ⌜ (r .a ≡ xors 8 (part 8 8 (x .a)) (l .a)) × (r .b ≡ xors 8 (part 8 8 (x .b)) (l .b)) × (r .c ≡ xors 8 (part 8 8 (x .c)) (l .c)) × (r .d ≡ xors 8 (part 8 8 (x .d)) (l .d)) ⌝ }
+{
+    let xa = x.a;
+    let xb = x.b;
+    let xc = x.c;
+    let xd = x.d;
+    let la = l.a;
+    let lb = l.b;
+    let lc = l.c;
+    let ld = l.d;
+    Blocks {
+        a: chained(xa, la),
+        b: chained(xb, lb),
+        c: chained(xc, lc),
+        d: chained(xd, ld),
+    }
+}
+
+fn joins(l: Blocks, r: Blocks) -> Strings16
+    ensures { λ o. ⌜ (o .a ≡ part 0 8 (l .a) ++ part 0 8 (r .a)) × (o .b ≡ part 0 8 (l .b) ++ part 0 8 (r .b)) × (o .c ≡ part 0 8 (l .c) ++ part 0 8 (r .c)) × (o .d ≡ part 0 8 (l .d) ++ part 0 8 (r .d)) ⌝ }
+{
+    let la = l.a;
+    let lb = l.b;
+    let lc = l.c;
+    let ld = l.d;
+    let ra = r.a;
+    let rb = r.b;
+    let rc = r.c;
+    let rd = r.d;
+    Strings16 {
+        a: joined(la, ra),
+        b: joined(lb, rb),
+        c: joined(lc, rc),
+        d: joined(ld, rd),
+    }
+}
+
+// BL1 in each lane, under round keys that were laid out before.
+pub fn bl1_four_with(
+    ka: &[u8; 192],
+    kb: &[u8; 192],
+    kc: &[u8; 192],
+    kd: &[u8; 192],
+    x: Strings16,
+) -> Strings16
+    ensures { λ r. ⌜ (r .a ≡ bl1With (now (ka .entry)) (x .a)) × (r .b ≡ bl1With (now (kb .entry)) (x .b)) × (r .c ≡ bl1With (now (kc .entry)) (x .c)) × (r .d ≡ bl1With (now (kd .entry)) (x .d)) ⌝ }
+{
+    let l = encrypt4_with(ka, kb, kc, kd, lefts(x));
+    let r = encrypt4_with(ka, kb, kc, kd, chains(x, l));
+    joins(l, r)
+}
+
+pub fn bl1_four(k: Strings16, x: Strings16) -> Strings16
+    ensures { λ r. ⌜ (r .a ≡ bl1 (k .a) (x .a)) × (r .b ≡ bl1 (k .b) (x .b)) × (r .c ≡ bl1 (k .c) (x .c)) × (r .d ≡ bl1 (k .d) (x .d)) ⌝ }
+{
+    let a = k.a;
+    let b = k.b;
+    let c = k.c;
+    let d = k.d;
+    let ka = schedule(a);
+    let kb = schedule(b);
+    let kc = schedule(c);
+    let kd = schedule(d);
+    bl1_four_with(&ka, &kb, &kc, &kd, x)
+}
+
+fn rights(y: Strings16) -> Blocks
+    ensures { λ r. ⌜ (r .a ≡ part 8 8 (y .a)) × (r .b ≡ part 8 8 (y .b)) × (r .c ≡ part 8 8 (y .c)) × (r .d ≡ part 8 8 (y .d)) ⌝ }
+{
+    let ya = y.a;
+    let yb = y.b;
+    let yc = y.c;
+    let yd = y.d;
+    Blocks {
+        a: right(ya),
+        b: right(yb),
+        c: right(yc),
+        d: right(yd),
+    }
+}
+
+fn mends(y: Strings16, r: Blocks) -> Blocks
+    ensures { λ w. ⌜ (w .a ≡ part 0 7 (y .a) ++ ((y .a ! 7 ⊕ r .a ! 7) ∷ [])) × (w .b ≡ part 0 7 (y .b) ++ ((y .b ! 7 ⊕ r .b ! 7) ∷ [])) × (w .c ≡ part 0 7 (y .c) ++ ((y .c ! 7 ⊕ r .c ! 7) ∷ [])) × (w .d ≡ part 0 7 (y .d) ++ ((y .d ! 7 ⊕ r .d ! 7) ∷ [])) ⌝ }
+{
+    let ya = y.a;
+    let yb = y.b;
+    let yc = y.c;
+    let yd = y.d;
+    let ra = r.a;
+    let rb = r.b;
+    let rc = r.c;
+    let rd = r.d;
+    Blocks {
+        a: mended(ya, ra),
+        b: mended(yb, rb),
+        c: mended(yc, rc),
+        d: mended(yd, rd),
+    }
+}
+
+fn joins7(l: Blocks, r: Blocks, y: Strings16) -> Strings15
+    ensures { λ o. ⌜ (o .a ≡ part 0 8 (l .a) ++ xors 7 (r .a) (part 0 7 (y .a))) × (o .b ≡ part 0 8 (l .b) ++ xors 7 (r .b) (part 0 7 (y .b))) × (o .c ≡ part 0 8 (l .c) ++ xors 7 (r .c) (part 0 7 (y .c))) × (o .d ≡ part 0 8 (l .d) ++ xors 7 (r .d) (part 0 7 (y .d))) ⌝ }
+{
+    let la = l.a;
+    let lb = l.b;
+    let lc = l.c;
+    let ld = l.d;
+    let ra = r.a;
+    let rb = r.b;
+    let rc = r.c;
+    let rd = r.d;
+    let ya = y.a;
+    let yb = y.b;
+    let yc = y.c;
+    let yd = y.d;
+    Strings15 {
+        a: joined7(la, ra, ya),
+        b: joined7(lb, rb, yb),
+        c: joined7(lc, rc, yc),
+        d: joined7(ld, rd, yd),
+    }
+}
+
+fn bl2_four_with(
+    ka: &[u8; 192],
+    kb: &[u8; 192],
+    kc: &[u8; 192],
+    kd: &[u8; 192],
+    y: Strings16,
+) -> Strings15
+    ensures { λ r. ⌜ (r .a ≡ bl2With (now (ka .entry)) (y .a)) × (r .b ≡ bl2With (now (kb .entry)) (y .b)) × (r .c ≡ bl2With (now (kc .entry)) (y .c)) × (r .d ≡ bl2With (now (kd .entry)) (y .d)) ⌝ }
+{
+    let r = decrypt4_with(ka, kb, kc, kd, rights(y));
+    let l = decrypt4_with(ka, kb, kc, kd, mends(y, r));
+    joins7(l, r, y)
+}
+
+pub fn bl2_four(k: Strings16, y: Strings16) -> Strings15
+    ensures { λ r. ⌜ (r .a ≡ bl2 (k .a) (y .a)) × (r .b ≡ bl2 (k .b) (y .b)) × (r .c ≡ bl2 (k .c) (y .c)) × (r .d ≡ bl2 (k .d) (y .d)) ⌝ }
+{
+    let a = k.a;
+    let b = k.b;
+    let c = k.c;
+    let d = k.d;
+    let ka = schedule(a);
+    let kb = schedule(b);
+    let kc = schedule(c);
+    let kd = schedule(d);
+    bl2_four_with(&ka, &kb, &kc, &kd, y)
+}
