@@ -2,12 +2,13 @@
 -- Assumes nothing.
 use mathlib.Core.Bool.{Bool, true, false}
 use mathlib.Core.List.{List}
-use mathlib.Core.Path.{_≡_, refl}
+use mathlib.Core.Path.{_≡_, refl, ap, ap₂, _∙_}
 use Prim.Native.Nat.{ℕ, _+_, _*_, _<_, _≤_}
 use native.Mathlib.Omega.{arith}
 use lib.Dec.{eqb}
 use lib.ListN.{length}
-use Rattle.records.specs.Steps.{sealedBy, openedBy}
+use Rattle.lists.proofs.WalkLaws.{ends}
+use Rattle.records.specs.Steps.{coreKey, plainInput, sealedWith, openedWith}
 use Rattle.standard.proofs.AnswerLaws.{pass-most}
 use Rattle.standard.proofs.RunLaws.{look-most}
 use Rattle.standard.specs.Books.{commonKey, sealRecord, openRecord}
@@ -15,13 +16,18 @@ use Rattle.standard.specs.Bytes.{choose}
 use Rattle.standard.specs.Identity.{bc}
 use Rattle.standard.specs.Lists.{each}
 use Rattle.standard.specs.Runs.{firstPass, secondPass}
-use Rattle.books.specs.Steps.{sizeOf, toOf, recordOf, convertOf, faultAt, lookOf, lookAt}
+use Rattle.standard.specs.Seals.{seal, sealed, unseal, opened}
+use Rattle.books.specs.Steps.{sizeOf, toOf, recordOf, inputOf, coreOf, madeOf, convertOf, faultAt, lookOf, lookAt}
 use Rattle.books.specs.declared.walk.Way.{Way}
 use Rattle.books.specs.declared.walk.Way.the-variants.{Sealing, Opening}
 
 pub sizes : (w : Way) → (0 < sizeOf w) × (sizeOf w ≤ 21) × (toOf w ≤ 21)
 sizes Sealing = omega arith
 sizes Opening = omega arith
+
+-- a record's part lies within a list of n, by the size v that the way names
+pub fits : (v i n s most : ℕ) → s ≡ v → i < n → v * n ≤ most → s * i + s ≤ most
+fits v i n s most e h r = rw e (omega (arith, ends v i n h, r))
 
 -- the cipher runs: two for a look at most, and none for a look at a plain record
 pub looks-most : (w : Way) (x : List ℕ) → lookOf w x ≤ 2
@@ -47,14 +53,21 @@ both-fit r w xs n size h = go (eqb n 0)
     go true = omega (arith, looks-few r w xs n, runs-fit w n size h)
     go false = omega (arith, looks-few r w xs n, runs-fit w n size h)
 
+pub made-length : (w : Way) (b x o : List ℕ) → length (madeOf w b x o) ≡ toOf w
+unfolding sealedWith openedWith
+made-length Sealing b x o = refl
+made-length Opening b x o = refl
+
+-- what the core takes of a record, the core, and what is made of its output
+pub converted-by : (w : Way) (r b x : List ℕ) {k y o : List ℕ} → k ≡ coreKey r x → y ≡ inputOf w x → o ≡ coreOf w k y → madeOf w b x o ≡ convertOf r b w x
+converted-by w r b x ek ey eo = ap (madeOf w b x) (eo ∙ ap₂ (coreOf w) ek ey)
+
 pub converted-length : (r b : List ℕ) (w : Way) (x : List ℕ) → length (convertOf r b w x) ≡ toOf w
-unfolding sealedBy openedBy
-converted-length r b Sealing x = refl
-converted-length r b Opening x = refl
+converted-length r b w x = made-length w b x _
 
 -- from the cipher run of the ring's common key they are the records of the definitions
 pub converted-is : (r : List ℕ) (w : Way) (n : ℕ) (xs : List ℕ)
     → each n (sizeOf w) (convertOf r (bc (commonKey r)) w) xs ≡ each n (sizeOf w) (recordOf r w) xs
-unfolding sealedBy openedBy sealRecord openRecord
+unfolding coreKey plainInput sealedWith openedWith sealRecord openRecord seal sealed unseal opened
 converted-is r Sealing n xs = refl
 converted-is r Opening n xs = refl

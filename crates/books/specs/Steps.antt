@@ -2,9 +2,12 @@
 -- Assumes nothing.
 use mathlib.Core.List.{List}
 use Prim.Native.Nat.{ℕ}
-use Rattle.records.specs.Steps.{sealedBy, openedBy}
+use Rattle.records.specs.Steps.{coreKey, plainInput, sealedWith, openedWith}
 use Rattle.standard.specs.Books.{plainFault, sealRecord, openFault, openLook, openRecord, Way as WayOf}
+use Rattle.standard.specs.Bytes.{part}
+use Rattle.standard.specs.Cores.{bl1, bl2}
 use Rattle.standard.specs.Lists.{recordAt}
+use Rattle.standard.specs.Seals.{with8, without8}
 use Rattle.standard.specs.Sizes.{plainSize, sealedSize}
 use Rattle.books.specs.declared.walk.Way.{Way}
 use Rattle.books.specs.declared.walk.Way.the-variants.{Sealing, Opening}
@@ -40,7 +43,19 @@ faultAt r w xs i = faultOf r w (recordAt (sizeOf w) xs i)
 abbrev pub lookAt : Way → List ℕ → ℕ → ℕ
 lookAt w xs i = lookOf w (recordAt (sizeOf w) xs i)
 
--- what a record becomes, from the output b of the cipher run that gives the ring's identity strings
+-- what a record becomes, from the output b of the cipher run that gives the ring's identity strings: the core's input, the core, and
+-- what is made of its output
+abbrev pub inputOf : Way → List ℕ → List ℕ
+inputOf Sealing x = plainInput x
+inputOf Opening x = with8 (part 6 15 x)
+
+abbrev pub coreOf : Way → List ℕ → List ℕ → List ℕ
+coreOf Sealing k x = without8 (bl1 k x)
+coreOf Opening k x = bl2 k x
+
+abbrev pub madeOf : Way → (b x o : List ℕ) → List ℕ
+madeOf Sealing = sealedWith
+madeOf Opening = openedWith
+
 abbrev pub convertOf : List ℕ → List ℕ → Way → List ℕ → List ℕ
-convertOf r b Sealing = sealedBy r b
-convertOf r b Opening = openedBy r b
+convertOf r b w x = madeOf w b x (coreOf w (coreKey r x) (inputOf w x))

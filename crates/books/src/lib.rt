@@ -1,4 +1,5 @@
 // The book calls: sealing, opening, and checking a plain book.
+mod convert;
 mod walk;
 
 use crate::walk::Way;

@@ -1,8 +1,9 @@
-// The walk over a book's records: each record is handed, as a part of the book, to a function that knows one record only.
+// The walk over a book's records. A scan hands each record, as a part of the book, to a function that knows one record only; the pass
+// that writes leaves that to `convert`, for one record or for four.
+use crate::convert::convert_four;
+use crate::convert::convert_one;
 use records::open_fault;
-use records::open_record;
 use records::plain_fault;
-use records::seal_record;
 use records::strings_of;
 use standard::IDENTITY_RUNS;
 use standard::PLAIN_RECORD;
@@ -12,7 +13,7 @@ use standard::TEXT_RUNS;
 ghost use mathlib.Core.List.{_++_};
 ghost use mathlib.Core.Path.{_≡_};
 ghost use Prim.Native.Nat.{_*_, _≤_};
-ghost use lib.ListN.{length, take, drop};
+ghost use lib.ListN.{length, drop};
 ghost use Rattle.lists.specs.Walks.{Stopped};
 ghost use Rattle.standard.specs.Books.{plainFault};
 ghost use Rattle.standard.specs.Lists.{recordAt, each};
@@ -117,17 +118,7 @@ pub(crate) fn scan(way: Way, ring: &RingBytes, book: &[u8], n: usize) -> Stop
     }
 }
 
-// What a record becomes, into its own part of the output.
-fn convert(way: Way, ring: &RingBytes, strings: [u8; 8], rec: &[u8], out: &mut [u8])
-    ensures { λ _. ⌜ now (out .exit) ≡ take (length (now (out .entry))) (convertOf (now (ring .entry)) strings way (now (rec .entry))) ++ drop (toOf way) (now (out .entry)) ⌝ }
-{
-    match way {
-        Way::Sealing => seal_record(ring, strings, rec, out),
-        Way::Opening => open_record(ring, strings, rec, out),
-    }
-}
-
-// The converted records, each into its own part of the output; the block cipher runs that they took.
+// The converted records, each at its own place in the output, four at a time and then the rest; the block cipher runs that they took.
 fn write_with(
     way: Way,
     ring: &RingBytes,
@@ -140,14 +131,15 @@ fn write_with(
     ensures { λ r. ⌜ (now (out .exit) ≡ each n (sizeOf way) (convertOf (now (ring .entry)) strings way) (now (book .entry)) ++ drop (toOf way * n) (now (out .entry)))
         × (r ≡ textRuns * n) ⌝ }
 {
-    let size = way.size() as usize;
-    let to = way.to() as usize;
     let mut runs = 0;
     let mut i = 0;
+    while n - i >= 4 {
+        convert_four(way, ring, strings, book, n, i, out);
+        runs += 4 * TEXT_RUNS;
+        i += 4;
+    }
     while i < n {
-        let a = size * i;
-        let b = to * i;
-        convert(way, ring, strings, &book[a..a + size], &mut out[b..b + to]);
+        convert_one(way, ring, strings, book, n, i, out);
         runs += TEXT_RUNS;
         i += 1;
     }

@@ -1,6 +1,6 @@
 -- The steps of the two loops over a list, for records of any size: a scan that looks for a fault, and a pass that writes.
 -- Assumes nothing.
-use mathlib.Core.List.{List, [], _∷_, _++_, append-assoc, append-nil}
+use mathlib.Core.List.{List, _++_, append-assoc, append-nil}
 use mathlib.Core.Logic.{_⊎_, inl, inr}
 use mathlib.Core.Path.{_≡_, refl, sym, ap, _∙_, subst}
 use Prim.Native.Nat.{ℕ, _+_, _*_, _-_, _<_, _≤_}
@@ -9,11 +9,11 @@ use native.Mathlib.Numerals.{add-one}
 use native.Mathlib.Omega.{arith}
 use lib.ListN.{length, take, drop, length-append, length-take, length-drop, drop-of-length-le}
 use lib.Seq.{take-at, take-all, drop-at, drop-drop}
-use Rattle.standard.proofs.AnswerLaws.{IsFirst, first-fault, first-one}
+use Rattle.standard.proofs.AnswerLaws.{first-fault, first-one}
 use Rattle.standard.proofs.BookLaws.{joined-length, joined-at}
 use Rattle.standard.proofs.BytesLaws.{part-lent, part-left}
-use Rattle.standard.specs.Lists.{recordAt, joined, firstFault}
-use Rattle.lists.specs.Walks.{Clean, Stopped}
+use Rattle.standard.specs.Lists.{recordAt, joined}
+use Rattle.lists.specs.Walks.{Clean, Stopped, putAt, putFour}
 
 -- the end of record i of n
 pub ends : (w i n : ℕ) → i < n → w * i + w ≤ w * n
@@ -22,6 +22,14 @@ ends w i n h = subst (λ (k : ℕ). k ≤ w * n) (mul-suc w i) (mul-le-mul-left 
 -- the part that a turn lends, from w * i to w * i + w, is record i
 pub lent : (w i : ℕ) (xs : List ℕ) → w * i + w ≤ length xs → take (w * i + w - w * i) (drop (w * i) xs) ≡ recordAt w xs i
 lent w i xs h = ap (λ (k : ℕ). take k (drop (w * i) xs)) (add-sub-cancel-left (w * i) w) ∙ part-lent (w * i) w xs h
+
+-- and has w bytes
+lent-length : (w i : ℕ) (xs : List ℕ) → w * i + w ≤ length xs → length (take (w * i + w - w * i) (drop (w * i) xs)) ≡ w
+lent-length w i xs h = simp (length-take, length-drop) (omega (arith, h))
+
+-- a part of v bytes is overwritten whole by a string of as many
+overwritten : (v : ℕ) (own y exit : List ℕ) → length own ≡ v → length y ≡ v → exit ≡ take (length own) y ++ drop v own → exit ≡ y
+overwritten v own y exit h l e = e ∙ rw (drop-of-length-le own {i = v} (omega (arith, h)), append-nil) (take-all (length own) y (omega (arith, h, l)))
 
 -- ---- the scan
 
@@ -81,12 +89,7 @@ module _ (v : ℕ) (g : ℕ → List ℕ) (long : (i : ℕ) → length (g i) ≡
     own = take (v * i + v - v * i) (drop (v * i) out)
 
     pub own-length : length own ≡ v
-    own-length = simp (length-take, length-drop) (omega (arith, room, h .kept))
-
-    -- a part of v bytes is overwritten whole
-    overwritten : (y exit : List ℕ) → length y ≡ v → exit ≡ take (length own) y ++ drop v own → exit ≡ y
-    overwritten y exit l e =
-        e ∙ rw (drop-of-length-le own {i = v} (omega (arith, own-length)), append-nil) (take-all (length own) y (omega (arith, own-length)))
+    own-length = lent-length v i out (omega (arith, room, h .kept))
 
     -- string i in its own part
     pub laid-next : (exit : List ℕ) → exit ≡ g i
@@ -107,7 +110,35 @@ module _ (v : ℕ) (g : ℕ → List ℕ) (long : (i : ℕ) → length (g i) ≡
     -- string i put into its own part
     pub laid-more : (y exit : List ℕ) → y ≡ g i → exit ≡ take (length own) y ++ drop v own
         → Laid v g out₀ (i + 1) (take (v * i) out ++ (exit ++ drop (v * i + v - v * i) (drop (v * i) out)))
-    laid-more y exit q e = laid-next exit (overwritten y exit (ap length q ∙ long i) e ∙ q)
+    laid-more y exit q e = laid-next exit (overwritten v own y exit own-length (ap length q ∙ long i) e ∙ q)
+
+-- ---- strings put at their places
+
+-- the part from v * i on, lent and overwritten whole by y, puts y at place i
+pub put-lent : (v i : ℕ) (out y exit : List ℕ) → v * i + v ≤ length out → length y ≡ v
+    → exit ≡ take (length (take (v * i + v - v * i) (drop (v * i) out))) y ++ drop v (take (v * i + v - v * i) (drop (v * i) out))
+    → take (v * i) out ++ (exit ++ drop (v * i + v - v * i) (drop (v * i) out)) ≡ putAt v i y out
+put-lent v i out y exit room l e =
+    let whole : exit ≡ y = overwritten v (take (v * i + v - v * i) (drop (v * i) out)) y exit (lent-length v i out room) l e in
+    rw (whole, add-sub-cancel-left (v * i) v, drop-drop v (v * i) out)
+
+pub four-put : (v i : ℕ) (g : ℕ → List ℕ) (out : List ℕ) {x₀ x₁ x₂ x₃ : List ℕ} → x₀ ≡ g i → x₁ ≡ g (i + 1) → x₂ ≡ g (i + 2) → x₃ ≡ g (i + 3)
+    → putAt v (i + 3) x₃ (putAt v (i + 2) x₂ (putAt v (i + 1) x₁ (putAt v i x₀ out))) ≡ putFour v i g out
+four-put v i g out e₀ e₁ e₂ e₃ = rw (e₀, e₁, e₂, e₃)
+
+-- string i at its place; then the four from i on at theirs
+module _ (v : ℕ) (g : ℕ → List ℕ) (long : (i : ℕ) → length (g i) ≡ v) (out₀ : List ℕ) where
+  laid-put : (i j : ℕ) → j ≡ i + 1 → (out : List ℕ) → Laid v g out₀ i out → v * i + v ≤ length out₀ → Laid v g out₀ j (putAt v i (g i) out)
+  laid-put i j e out h room =
+      rw e (rw (add-sub-cancel-left (v * i) v, drop-drop v (v * i) out) at (laid-next v g long out₀ i out h room (g i) refl))
+
+  laid-four : (i n : ℕ) → i + 4 ≤ n → v * n ≤ length out₀ → (out : List ℕ) → Laid v g out₀ i out → Laid v g out₀ (i + 4) (putFour v i g out)
+  laid-four i n few room out h =
+      let fits : (j : ℕ) → j < n → v * j + v ≤ length out₀ = λ j l. omega (arith, room, ends v j n l) in
+      let one = laid-put i (i + 1) refl out h (fits i (omega arith)) in
+      let two = laid-put (i + 1) (i + 2) (omega arith) _ one (fits (i + 1) (omega arith)) in
+      let three = laid-put (i + 2) (i + 3) (omega arith) _ two (fits (i + 2) (omega arith)) in
+      laid-put (i + 3) (i + 4) (omega arith) _ three (fits (i + 3) (omega arith))
 
 -- ---- where f makes the records of v bytes from records of w
 
@@ -118,9 +149,12 @@ module _ (w v : ℕ) (f : List ℕ → List ℕ) (long : (x : List ℕ) → leng
   pub wrote-none : Wrote w v f xs out₀ 0 out₀
   wrote-none = laid-none v (λ j. f (recordAt w xs j)) (λ j. long (recordAt w xs j)) out₀
 
-  -- record i put into its own part
-  pub wrote-more : (i : ℕ) (out : List ℕ) → Wrote w v f xs out₀ i out → v * i + v ≤ length out₀
-      → (x exit : List ℕ) → x ≡ recordAt w xs i → exit ≡ take (length (take (v * i + v - v * i) (drop (v * i) out))) (f x) ++ drop v (take (v * i + v - v * i) (drop (v * i) out))
-      → Wrote w v f xs out₀ (i + 1) (take (v * i) out ++ (exit ++ drop (v * i + v - v * i) (drop (v * i) out)))
-  wrote-more i out h room x exit ex e =
-      laid-more v (λ j. f (recordAt w xs j)) (λ j. long (recordAt w xs j)) out₀ i out h room (f x) exit (ap f ex) e
+  -- record i of n at its place; then four of them
+  pub wrote-one : (i n : ℕ) → i < n → v * n ≤ length out₀ → (out : List ℕ) → Wrote w v f xs out₀ i out → {exit : List ℕ} → exit ≡ putAt v i (f (recordAt w xs i)) out
+      → Wrote w v f xs out₀ (i + 1) exit
+  wrote-one i n h room out k e =
+      rw e (laid-put v (λ j. f (recordAt w xs j)) (λ j. long (recordAt w xs j)) out₀ i (i + 1) refl out k (omega (arith, room, ends v i n h)))
+
+  pub wrote-four : (i n : ℕ) → i + 4 ≤ n → v * n ≤ length out₀ → (out : List ℕ) → Wrote w v f xs out₀ i out → {exit : List ℕ} → exit ≡ putFour v i (λ j. f (recordAt w xs j)) out
+      → Wrote w v f xs out₀ (i + 4) exit
+  wrote-four i n few room out k e = rw e (laid-four v (λ j. f (recordAt w xs j)) (λ j. long (recordAt w xs j)) out₀ i n few room out k)

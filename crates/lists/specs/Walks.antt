@@ -1,7 +1,9 @@
--- Where a walk over the records of a list stops.
+-- Where a walk over the records of a list stops, and what it writes.
 -- Assumes nothing.
+use mathlib.Core.List.{List, _++_}
 use mathlib.Core.Path.{_≡_}
-use Prim.Native.Nat.{ℕ, _<_, _≤_}
+use Prim.Native.Nat.{ℕ, _+_, _*_, _<_, _≤_}
+use lib.ListN.{take, drop}
 use Rattle.standard.specs.Lists.{firstFault}
 
 -- none of the first n records has a fault
@@ -14,3 +16,11 @@ pub record Stopped (n : ℕ) (g : ℕ → ℕ) (number index : ℕ) : Type 0 whe
   pub within : index ≤ n
   pub none : number ≡ 0 → Clean g n
   pub some : (number ≡ 0 → ⊥) → (index < n) × (number ≡ g index)
+
+-- the string x at place i of an output of strings of v bytes
+abbrev pub putAt : (v i : ℕ) → List ℕ → List ℕ → List ℕ
+putAt v i x out = take (v * i) out ++ (x ++ drop (v * i + v) out)
+
+-- four strings, from place i on
+abbrev pub putFour : (v i : ℕ) → (ℕ → List ℕ) → List ℕ → List ℕ
+putFour v i g out = putAt v (i + 3) (g (i + 3)) (putAt v (i + 2) (g (i + 2)) (putAt v (i + 1) (g (i + 1)) (putAt v i (g i) out)))

@@ -1,20 +1,20 @@
 -- What the steps on one record add up to.
 -- Assumes nothing.
 use mathlib.Core.Bool.{Bool, true, false, not}
-use mathlib.Core.List.{List, [], _∷_, _++_}
+use mathlib.Core.List.{List, _∷_, _++_}
 use mathlib.Core.Path.{_≡_, sym, ap, _∙_}
 use Prim.Native.Nat.{ℕ}
 use lib.ListN.{length, take, drop}
 use borrow.Author.Tests.{not-true, not-false}
-use Rattle.standard.specs.Books.{sealingKey, named, recordKind, plainFault, openFault, openLook}
+use Rattle.standard.specs.Books.{sealingKey, named, plainFault, openFault, openLook}
 use Rattle.standard.specs.Bytes.{_!_, part, bytesOf}
 use Rattle.standard.specs.Identity.{hide, reveal}
-use Rattle.standard.specs.Seals.{clear, kindOf, form, sealed, opened, seal, unseal, fails, clears}
+use Rattle.standard.specs.Seals.{clear, kindOf, form, opened, fails, clears}
 use Rattle.standard.specs.Sizes.{plainSize, sealedSize}
 use Rattle.standard.specs.declared.Kind.{Kind}
 use Rattle.standard.specs.declared.Named.{Named}
 use Rattle.standard.specs.declared.Named.the-variants.{Known, Unknown}
-use Rattle.records.specs.Steps.{sealedBy, openedBy}
+use Rattle.records.specs.Steps.{coreKey, plainInput, sealedWith, openedWith}
 
 -- the kind byte is read from a copy x of the record's first n bytes
 pub named-by : (rec x : List ℕ) {found : Named} → x ! 0 ≡ rec ! 0 → found ≡ kindOf (x ! 0) → kindOf (rec ! 0) ≡ found
@@ -57,27 +57,27 @@ module _ (r t : List ℕ) (k : Kind) (e : kindOf (t ! 0) ≡ Known k) (key : Lis
   unfolding openFault
   open-clear f = rw (e, cleared true (not-false _ f))
 
--- ---- what a record becomes
+-- ---- what the core takes of a record, from a copy x of its bytes
 
-module _ (r b : List ℕ) (k : Kind) (v : ℕ) (head key id : List ℕ) where
-  pub sealed-is : (p text : List ℕ) → head ≡ part 0 6 p → k ≡ named (kindOf (head ! 0)) → bytesOf 2 v ≡ part 4 2 head
-      → key ≡ form k .key (sealingKey k r) (bytesOf 2 v) → text ≡ sealed (form k) key (part 6 12 p) → id ≡ hide b (part 1 3 head)
-      → part 0 6 (head ! 0 ∷ part 0 3 id ++ part 4 2 head) ++ part 0 15 text ≡ sealedBy r b p
-  unfolding sealedBy seal
-  sealed-is p text eh ek ev eq et ei = rw (et, eq, ei, ev, ek, eh)
+module _ (r rec x : List ℕ) (k : Kind) (head : List ℕ) (ek : k ≡ named (kindOf (head ! 0))) (eh : head ≡ part 0 6 x) where
+  pub key-taken : (v : ℕ) (key : List ℕ) → part 0 6 x ≡ part 0 6 rec → bytesOf 2 v ≡ part 4 2 head → key ≡ form k .key (sealingKey k r) (bytesOf 2 v) → key ≡ coreKey r rec
+  unfolding coreKey
+  key-taken v key ex ev eq = rw (eq, ev, ek, eh ∙ ex)
 
-  pub opened-is : (t body : List ℕ) → head ≡ part 0 6 t → k ≡ named (kindOf (head ! 0)) → bytesOf 2 v ≡ part 4 2 head
-      → key ≡ form k .key (sealingKey k r) (bytesOf 2 v) → body ≡ form k .shrink (opened key (part 6 15 t)) → id ≡ reveal b (part 1 3 head)
-      → part 0 6 (head ! 0 ∷ part 0 3 id ++ part 4 2 head) ++ part 0 12 body ≡ openedBy r b t
-  unfolding openedBy unseal
-  opened-is t body eh ek ev eq eb ei = rw (eb, eq, ei, ev, ek, eh)
+  pub input-taken : (body input : List ℕ) → x ≡ part 0 plainSize rec → body ≡ part 6 12 x → input ≡ form k .input body → input ≡ plainInput rec
+  unfolding plainInput
+  input-taken body input ex eb ei = rw (ei, eb, ek, eh, ex)
 
--- it is made from a copy of the record's bytes, and has a known length
-module _ (r b rec made out exit : List ℕ) (e : exit ≡ take (length out) made ++ drop (length made) out) where
-  pub sealed-copied : made ≡ sealedBy r b (part 0 plainSize rec) → exit ≡ take (length out) (sealedBy r b rec) ++ drop sealedSize out
-  unfolding sealedBy
-  sealed-copied m = e ∙ rw m
+-- ---- what is made of the core's output: the head with another identity, and what stands behind it
 
-  pub opened-copied : made ≡ openedBy r b (part 0 sealedSize rec) → exit ≡ take (length out) (openedBy r b rec) ++ drop plainSize out
-  unfolding openedBy
-  opened-copied m = e ∙ rw m
+module _ (b rec x head id h out exit made : List ℕ) (eh : head ≡ part 0 6 x) (e : h ≡ head ! 0 ∷ part 0 3 id ++ part 4 2 head)
+    (ec : exit ≡ take (length out) made ++ drop (length made) out) where
+  pub sealed-put : (text : List ℕ) → x ≡ part 0 plainSize rec → id ≡ hide b (part 1 3 head) → made ≡ part 0 6 h ++ part 0 15 text
+      → exit ≡ take (length out) (sealedWith b rec text) ++ drop sealedSize out
+  unfolding sealedWith
+  sealed-put text ex ei em = ec ∙ rw (em, e, ei, eh, ex)
+
+  pub opened-put : (k : Kind) (u body : List ℕ) → x ≡ part 0 sealedSize rec → k ≡ named (kindOf (head ! 0)) → id ≡ reveal b (part 1 3 head) → body ≡ form k .shrink u
+      → made ≡ part 0 6 h ++ part 0 12 body → exit ≡ take (length out) (openedWith b rec u) ++ drop plainSize out
+  unfolding openedWith
+  opened-put k u body ex ek ei eb em = ec ∙ rw (em, eb, e, ei, ek, eh, ex)

@@ -25,27 +25,26 @@ use standard::FLAG_SET;
 use standard::Kind;
 use standard::NOT_ZERO;
 use standard::Named;
-use standard::PLAIN_RECORD;
 use standard::RingBytes;
 use standard::RingKey;
-use standard::SEALED_RECORD;
 use standard::TEXT_RUNS;
 use standard::WRONG_KIND;
 use standard::WRONG_NUMBER;
+use texts::body_of;
 use texts::flag_of;
-use texts::open_text;
-use texts::seal_body;
+use texts::input_of;
+use texts::with8;
 ghost use mathlib.Core.List.{[], _∷_, _++_};
 ghost use mathlib.Core.Path.{_≡_};
 ghost use lib.Dec.{eqb, leb};
 ghost use lib.ListN.{length, take, drop};
 ghost use Rattle.standard.specs.Books.{commonKey, named, plainFault, openFault, openLook};
-ghost use Rattle.standard.specs.Bytes.{_!_};
+ghost use Rattle.standard.specs.Bytes.{_!_, part};
 ghost use Rattle.standard.specs.Identity.{bc as bcOf};
 ghost use Rattle.standard.specs.Refusals.{notZero, wrongNumber, first};
-ghost use Rattle.standard.specs.Seals.{form, form31, kindOf};
+ghost use Rattle.standard.specs.Seals.{form, form31, kindOf, with8 as with8Of};
 ghost use Rattle.standard.specs.Sizes.{plainSize, sealedSize};
-ghost use Rattle.records.specs.Steps.{sealedBy, openedBy};
+ghost use Rattle.records.specs.Steps.{coreKey, plainInput, sealedWith, openedWith};
 
 // The cipher run from which a ring's identity strings come.
 pub fn strings_of(ring: &RingBytes) -> [u8; 8]
@@ -153,43 +152,58 @@ pub fn kind_of(b: u8) -> Kind
     }
 }
 
-// The sealed record of a plain one. `strings` are the ring's.
-fn sealed_of(ring: &RingBytes, strings: [u8; 8], p: [u8; PLAIN_RECORD]) -> [u8; SEALED_RECORD]
-    ensures { λ t. ⌜ t ≡ sealedBy (now (ring .entry)) strings p ⌝ }
+// What the core takes of a record.
+pub struct Task {
+    pub key: [u8; 16],
+    pub input: [u8; 16],
+}
+
+// BL1's key and input for a plain record.
+pub fn seal_task(ring: &RingBytes, rec: &[u8]) -> Task
+    ensures { λ t. ⌜ (t .key ≡ coreKey (now (ring .entry)) (now (rec .entry))) × (t .input ≡ plainInput (now (rec .entry))) ⌝ }
 {
+    let p = array18(rec);
     let head = plain_head(p);
     let kind = kind_of(head[0]);
     let algorithm = kind.algorithm;
-    let key = core_key(kind, ring, version_of(head));
-    let text = seal_body(algorithm, key, body_part(p));
-    let hidden = hide(strings, identity_of(head));
-    sealed_record(with_identity(head, hidden), text)
+    Task {
+        key: core_key(kind, ring, version_of(head)),
+        input: input_of(algorithm, body_part(p)),
+    }
 }
 
-// The plain record of a sealed one.
-fn opened_of(ring: &RingBytes, strings: [u8; 8], t: [u8; SEALED_RECORD]) -> [u8; PLAIN_RECORD]
-    ensures { λ p. ⌜ p ≡ openedBy (now (ring .entry)) strings t ⌝ }
+// BL2's key and input for a sealed record.
+pub fn open_task(ring: &RingBytes, rec: &[u8]) -> Task
+    ensures { λ t. ⌜ (t .key ≡ coreKey (now (ring .entry)) (now (rec .entry))) × (t .input ≡ with8Of (part 6 15 (now (rec .entry)))) ⌝ }
 {
+    let t = array21(rec);
     let head = sealed_head(t);
     let kind = kind_of(head[0]);
+    Task {
+        key: core_key(kind, ring, version_of(head)),
+        input: with8(text_part(t)),
+    }
+}
+
+// The sealed record of a plain one and its sealed text, into its own part of the output. `strings` are the ring's.
+pub fn put_sealed(strings: [u8; 8], rec: &[u8], text: [u8; 15], out: &mut [u8])
+    ensures { λ _. ⌜ now (out .exit) ≡ take (length (now (out .entry))) (sealedWith strings (now (rec .entry)) text) ++ drop sealedSize (now (out .entry)) ⌝ }
+{
+    let head = plain_head(array18(rec));
+    let hidden = hide(strings, identity_of(head));
+    copy(&sealed_record(with_identity(head, hidden), text), out);
+}
+
+// The plain record of a sealed one and what BL2 gives for it, into its own part of the output.
+pub fn put_opened(strings: [u8; 8], rec: &[u8], u: [u8; 15], out: &mut [u8])
+    ensures { λ _. ⌜ now (out .exit) ≡ take (length (now (out .entry))) (openedWith strings (now (rec .entry)) u) ++ drop plainSize (now (out .entry)) ⌝ }
+{
+    let head = sealed_head(array21(rec));
+    let kind = kind_of(head[0]);
     let algorithm = kind.algorithm;
-    let key = core_key(kind, ring, version_of(head));
-    let opened = open_text(algorithm, key, text_part(t));
-    let body = opened.body;
     let revealed = reveal(strings, identity_of(head));
-    plain_record(with_identity(head, revealed), body)
-}
-
-// The sealed record of a plain one, into its own part of the output.
-pub fn seal_record(ring: &RingBytes, strings: [u8; 8], rec: &[u8], out: &mut [u8])
-    ensures { λ _. ⌜ now (out .exit) ≡ take (length (now (out .entry))) (sealedBy (now (ring .entry)) strings (now (rec .entry))) ++ drop sealedSize (now (out .entry)) ⌝ }
-{
-    copy(&sealed_of(ring, strings, array18(rec)), out);
-}
-
-// The plain record of a sealed one, into its own part of the output.
-pub fn open_record(ring: &RingBytes, strings: [u8; 8], rec: &[u8], out: &mut [u8])
-    ensures { λ _. ⌜ now (out .exit) ≡ take (length (now (out .entry))) (openedBy (now (ring .entry)) strings (now (rec .entry))) ++ drop plainSize (now (out .entry)) ⌝ }
-{
-    copy(&opened_of(ring, strings, array21(rec)), out);
+    copy(
+        &plain_record(with_identity(head, revealed), body_of(algorithm, u)),
+        out,
+    );
 }

@@ -75,7 +75,8 @@ fn input81(b: [u8; 12]) -> [u8; 16]
     ]
 }
 
-pub(crate) fn input_of(algorithm: Algorithm, b: [u8; 12]) -> [u8; 16]
+// BL1's input from a body.
+pub fn input_of(algorithm: Algorithm, b: [u8; 12]) -> [u8; 16]
     ensures { λ r. ⌜ r ≡ formOf algorithm .input b ⌝ }
 {
     match algorithm {
@@ -143,7 +144,8 @@ fn body81(u: [u8; 15]) -> [u8; 12]
     ]
 }
 
-pub(crate) fn body_of(algorithm: Algorithm, u: [u8; 15]) -> [u8; 12]
+// The body of BL2's output.
+pub fn body_of(algorithm: Algorithm, u: [u8; 15]) -> [u8; 12]
     ensures { λ r. ⌜ r ≡ formOf algorithm .shrink u ⌝ }
 {
     match algorithm {

@@ -2,9 +2,13 @@
 mod forms;
 mod text;
 
+pub use forms::body_of;
+pub use forms::input_of;
 pub use text::Opened;
 pub use text::flag_of;
 pub use text::key10;
 pub use text::key16;
 pub use text::open_text;
 pub use text::seal_body;
+pub use text::with8;
+pub use text::without8;

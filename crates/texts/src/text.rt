@@ -76,7 +76,8 @@ pub fn key16(sealing_key: [u8; 16], version: Version) -> [u8; 16]
     mixed16(sealing_key, bytes_of(version))
 }
 
-fn without8(o: [u8; 16]) -> [u8; 15]
+// The core's output without its eighth byte: the sealed text.
+pub fn without8(o: [u8; 16]) -> [u8; 15]
     ensures { λ r. ⌜ r ≡ without8Of o ⌝ }
 {
     [
@@ -98,7 +99,8 @@ fn without8(o: [u8; 16]) -> [u8; 15]
     ]
 }
 
-fn with8(t: [u8; 15]) -> [u8; 16]
+// A sealed text with a zero byte in the eighth place, as BL2 takes it.
+pub fn with8(t: [u8; 15]) -> [u8; 16]
     ensures { λ r. ⌜ r ≡ with8Of t ⌝ }
 {
     [

@@ -1,129 +1,121 @@
 -- `books::walk::write_with` meets its contract: the first i parts of the output are the first i records, converted.
 -- Assumes nothing.
 use mathlib.Core.List.{List}
-use mathlib.Core.Path.{_≡_, refl, sym, ap, _∙_}
+use mathlib.Core.Path.{_≡_, refl}
 use Prim.Native.Nat.{ℕ, _+_, _*_, _-_, _<_, _≤_, zero-le}
 use native.Mathlib.Omega.{arith}
-use lib.ListN.{length}
 use denote.Ref.{now}
-use borrow.Author.Needs.{needs}
-use Rattle.lists.proofs.WalkLaws.{ends, lent, Wrote, wrote-none, wrote-more}
+use Rattle.lists.proofs.WalkLaws.{Wrote, wrote-none, wrote-one, wrote-four}
 use Rattle.books.proofs.WayLaws.{converted-length, runs-fit}
-use Rattle.books.specs.Steps.{toOf, convertOf}
+use Rattle.books.specs.Steps.{sizeOf, toOf, convertOf}
 use Rattle.standard.specs.Runs.{textRuns}
 use Rattle.books.proofs.walk.write_with.Statement.{statement}
 use Rattle.books.proofs.walk.write_with.Tie as tie
 
 abbrev Inv-loop : tie.InvT-loop
-Inv-loop way ring strings book n out₀ size to runs₀ i₀ out runs i =
-    (i ≤ n) × Wrote size to (convertOf ring strings way) book out₀ i out × (runs ≡ textRuns * i)
+Inv-loop way ring strings book n out₀ runs₀ i₀ out runs i = (i ≤ n) × Wrote (sizeOf way) (toOf way) (convertOf ring strings way) book out₀ i out × (runs ≡ textRuns * i)
 
 abbrev μ-loop : tie.MeasureT-loop
-μ-loop way ring strings book n out₀ size to runs₀ i₀ out runs i = n - i
+μ-loop way ring strings book n out₀ runs₀ i₀ out runs i = n - i
 
-size-requires : tie.Need-size-requires Inv-loop μ-loop
-size-requires c κs = search needs
+-- out₀ is the output where the second loop begins: what the first wrote over an output o stays, and the rest comes behind it
+abbrev Inv-loop2 : tie.InvT-loop2
+Inv-loop2 way ring strings book n out₀ runs₀ i₀ out runs i =
+    (i ≤ n)
+    × ((o : List ℕ) → Wrote (sizeOf way) (toOf way) (convertOf ring strings way) book o i₀ out₀ → Wrote (sizeOf way) (toOf way) (convertOf ring strings way) book o i out)
+    × (runs ≡ textRuns * i)
 
-cast-size : tie.Need-cast-size Inv-loop μ-loop
-cast-size c = search needs
+abbrev μ-loop2 : tie.MeasureT-loop2
+μ-loop2 way ring strings book n out₀ runs₀ i₀ out runs i = n - i
 
-to-requires : tie.Need-to-requires Inv-loop μ-loop
-to-requires c κs = search needs
-
-cast-to : tie.Need-cast-to Inv-loop μ-loop
-cast-to c = search needs
-
--- the two parts of a turn lie within book and output
-room-in : (c : tie.In-loop Inv-loop μ-loop)
-    → c .before .before .before .size .result * c .before .loop .i + c .before .before .before .size .result ≤ length (now (c .before .before .before .before .before .before .args .book))
-room-in c =
-    let s = c .before .before .before .size in
-    let start = c .before .before .before .before .before .before in
-    omega (arith, ends (s .result) (c .before .loop .i) (start .args .n) (c .loop-test .taken), ap (λ (k : ℕ). k * start .args .n) (s .ensures))
-
-room-out : (c : tie.In-loop Inv-loop μ-loop)
-    → c .before .before .to .result * c .before .loop .i + c .before .before .to .result ≤ length (now (c .before .before .before .before .before .before .args .out))
-room-out c =
-    let s = c .before .before .to in
-    let start = c .before .before .before .before .before .before in
-    omega (arith, ends (s .result) (c .before .loop .i) (start .args .n) (c .loop-test .taken), ap (λ (k : ℕ). k * start .args .n) (s .ensures))
-
-loop-holds : tie.Need-loop-holds Inv-loop μ-loop
+loop-holds : tie.Need-loop-holds Inv-loop μ-loop Inv-loop2 μ-loop2
 loop-holds c =
-    let x = c .before .before .before .before .args in
-    let made = convertOf (now (x .ring)) (x .strings) (x .way) in
-    let long : (y : List ℕ) → length (made y) ≡ c .to .result = λ y. converted-length (now (x .ring)) (x .strings) (x .way) y ∙ sym (c .to .ensures) in
-    (zero-le, wrote-none (c .before .size .result) (c .to .result) made long (now (x .book)) (now (x .out)), refl)
+    let x = c .before .before .args in
+    let w = x .way in
+    let made = convertOf (now (x .ring)) (x .strings) w in
+    (zero-le, wrote-none (sizeOf w) (toOf w) made (converted-length (now (x .ring)) (x .strings) w) (now (x .book)) (now (x .out)), refl)
 
-mul-a : tie.Need-mul-a Inv-loop μ-loop
-mul-a c = omega (arith, room-in c)
+sub-loop : tie.Need-sub-loop Inv-loop μ-loop Inv-loop2 μ-loop2
+sub-loop c = omega (arith, c .loop .inv .0)
 
-mul-b : tie.Need-mul-b Inv-loop μ-loop
-mul-b c = omega (arith, room-out c)
+convert-four-requires : tie.Need-convert-four-requires Inv-loop μ-loop Inv-loop2 μ-loop2
+convert-four-requires c κs =
+    let start = c .before .before .before .before .before in
+    let at = c .before .before .loop in
+    (omega (arith, at .inv .0, c .before .loop-test .taken), start .pre .0, omega (arith, start .pre .1, at .inv .1 .kept))
 
-add-convert : tie.Need-add-convert Inv-loop μ-loop
-add-convert c = omega (arith, room-in c)
+mul-runs : tie.Need-mul-runs Inv-loop μ-loop Inv-loop2 μ-loop2
+mul-runs c = omega arith
 
-sub-convert : tie.Need-sub-convert Inv-loop μ-loop
-sub-convert c = omega (arith, room-in c)
-
-part-convert-start : tie.Need-part-convert-start Inv-loop μ-loop
-part-convert-start c = omega (arith, room-in c)
-
-part-convert-end : tie.Need-part-convert-end Inv-loop μ-loop
-part-convert-end c = omega (arith, room-in c)
-
-add-convert-2 : tie.Need-add-convert-2 Inv-loop μ-loop
-add-convert-2 c = omega (arith, room-out (c .before))
-
-sub-convert-2 : tie.Need-sub-convert-2 Inv-loop μ-loop
-sub-convert-2 c = omega (arith, room-out (c .before))
-
-part-convert-start-2 : tie.Need-part-convert-start-2 Inv-loop μ-loop
-part-convert-start-2 c = omega (arith, room-out (c .before), c .before .before .loop .inv .1 .kept)
-
-part-convert-end-2 : tie.Need-part-convert-end-2 Inv-loop μ-loop
-part-convert-end-2 c = omega (arith, room-out (c .before), c .before .before .loop .inv .1 .kept)
-
-convert-requires : tie.Need-convert-requires Inv-loop μ-loop
-convert-requires c κs = search needs
-
-add-runs : tie.Need-add-runs Inv-loop μ-loop
+add-runs : tie.Need-add-runs Inv-loop μ-loop Inv-loop2 μ-loop2
 add-runs c =
-    let turn = c .before .before .before .before .before in
-    let start = turn .before .before .before .before .before .before in
-    omega (arith, turn .before .loop .inv .2, turn .loop-test .taken, runs-fit (start .args .way) (start .args .n) _ (start .pre .0), start .good)
+    let start = c .before .before .before .before .before .before .before .before in
+    omega (arith, c .before .before .before .before .before .loop .inv .2, c .before .before .before .before .loop-test .taken, runs-fit (start .args .way) (start .args .n) _ (start .pre .0), start .good)
 
-add-i : tie.Need-add-i Inv-loop μ-loop
-add-i c = search needs
+add-i : tie.Need-add-i Inv-loop μ-loop Inv-loop2 μ-loop2
+add-i c = omega (arith, c .before .before .before .before .before .loop .inv .0, c .before .before .before .before .loop-test .taken)
 
-loop-less : tie.Need-loop-less Inv-loop μ-loop
-loop-less c = search needs
+loop-less : tie.Need-loop-less Inv-loop μ-loop Inv-loop2 μ-loop2
+loop-less c = omega (arith, c .before .before .before .before .before .loop .inv .0, c .before .before .before .before .loop-test .taken)
 
-loop-again : tie.Need-loop-again Inv-loop μ-loop
+loop-again : tie.Need-loop-again Inv-loop μ-loop Inv-loop2 μ-loop2
 loop-again c =
-    let turn = c .before .before .before .before .before in
-    let at = turn .before .loop in
-    let to = turn .before .before .to in
-    let size = turn .before .before .before .size in
-    let x = turn .before .before .before .before .before .before .args in
-    let f : List ℕ → List ℕ = convertOf (now (x .ring)) (x .strings) (x .way) in
-    let long : (y : List ℕ) → length (f y) ≡ to .result = λ y. converted-length (now (x .ring)) (x .strings) (x .way) y ∙ sym (to .ensures) in (
-      omega arith,
-      wrote-more (size .result) (to .result) f long (now (x .book)) (now (x .out)) (at .i) (at .out) (at .inv .1) (room-out turn) _ _
-          (lent (size .result) (at .i) (now (x .book)) (room-in turn)) (rw (← to .ensures) at (c .before .before .convert .ensures)),
+    let at = c .before .before .before .before .before .loop in
+    let start = c .before .before .before .before .before .before .before .before in
+    let x = start .args in
+    let w = x .way in
+    let few : at .i + 4 ≤ x .n = omega (arith, at .inv .0, c .before .before .before .before .loop-test .taken) in (
+      few,
+      wrote-four (sizeOf w) (toOf w) (convertOf (now (x .ring)) (x .strings) w) (converted-length (now (x .ring)) (x .strings) w) (now (x .book)) (now (x .out)) (at .i) (x .n) few (start .pre .1)
+          (at .out) (at .inv .1) (c .before .before .convert-four .ensures),
       omega (arith, at .inv .2),
     )
 
-same-length : tie.Need-same-length Inv-loop μ-loop
-same-length c = c .before .loop .inv .1 .kept
+loop2-holds : tie.Need-loop2-holds Inv-loop μ-loop Inv-loop2 μ-loop2
+loop2-holds c = (c .before .loop .inv .0, λ o h. h, c .before .loop .inv .2)
 
-returns : tie.Need-returns Inv-loop μ-loop
+convert-one-requires : tie.Need-convert-one-requires Inv-loop μ-loop Inv-loop2 μ-loop2
+convert-one-requires c κs =
+    let start = c .before .before .before .before .before .before .before in
+    let wrote = c .before .before .loop2 .inv .1 (now (start .args .out)) (c .before .before .before .before .loop .inv .1) in
+    (omega (arith, c .before .before .loop2 .inv .0, c .before .loop2-test .taken), start .pre .0, omega (arith, start .pre .1, wrote .kept))
+
+add-runs-2 : tie.Need-add-runs-2 Inv-loop μ-loop Inv-loop2 μ-loop2
+add-runs-2 c =
+    let start = c .before .before .before .before .before .before .before .before .before .before in
+    omega (arith, c .before .before .before .before .before .loop2 .inv .2, c .before .before .before .before .loop2-test .taken, runs-fit (start .args .way) (start .args .n) _ (start .pre .0), start .good)
+
+add-i-2 : tie.Need-add-i-2 Inv-loop μ-loop Inv-loop2 μ-loop2
+add-i-2 c = omega (arith, c .before .before .before .before .before .loop2 .inv .0, c .before .before .before .before .loop2-test .taken)
+
+loop2-less : tie.Need-loop2-less Inv-loop μ-loop Inv-loop2 μ-loop2
+loop2-less c = omega (arith, c .before .before .before .before .before .loop2 .inv .0, c .before .before .before .before .loop2-test .taken)
+
+loop2-again : tie.Need-loop2-again Inv-loop μ-loop Inv-loop2 μ-loop2
+loop2-again c =
+    let at = c .before .before .before .before .before .loop2 in
+    let start = c .before .before .before .before .before .before .before .before .before .before in
+    let x = start .args in
+    let w = x .way in
+    let one : at .i < x .n = omega (arith, at .inv .0, c .before .before .before .before .loop2-test .taken) in
+    let kept = c .before .before .before .before .before .before .before .loop .inv .1 .kept in (
+      omega (arith, one),
+      λ o h.
+          wrote-one (sizeOf w) (toOf w) (convertOf (now (x .ring)) (x .strings) w) (converted-length (now (x .ring)) (x .strings) w) (now (x .book)) o (at .i) (x .n) one
+          (omega (arith, start .pre .1, kept, h .kept)) (at .out) (at .inv .1 o h) (c .before .before .convert-one .ensures),
+      omega (arith, at .inv .2),
+    )
+
+same-length : tie.Need-same-length Inv-loop μ-loop Inv-loop2 μ-loop2
+same-length c = c .before .loop2 .inv .1 (now (c .before .before .before .before .before .before .args .out)) (c .before .before .before .loop .inv .1) .kept
+
+returns : tie.Need-returns Inv-loop μ-loop Inv-loop2 μ-loop2
 returns c =
-    let at = c .before .loop in
+    let at = c .before .loop2 in
     let x = c .before .before .before .before .before .before .args in
-    let e : at .i ≡ x .n = omega arith in
-    (rw (e, c .before .before .to .ensures, c .before .before .before .size .ensures) at (at .inv .1 .bytes), omega (arith, at .inv .2, e))
+    let wrote = at .inv .1 (now (x .out)) (c .before .before .before .loop .inv .1) in
+    let e : at .i ≡ x .n = omega (arith, at .inv .0, c .loop2-test .left) in
+    (rw e at (wrote .bytes), omega (arith, at .inv .2, e))
 
 pub write-with-spec : {M : Type 1} → statement M
 write-with-spec =
@@ -131,25 +123,21 @@ write-with-spec =
     (tie.spec
     Inv-loop
     μ-loop
-    size-requires
-    cast-size
-    to-requires
-    cast-to
+    Inv-loop2
+    μ-loop2
     loop-holds
-    mul-a
-    mul-b
-    add-convert
-    sub-convert
-    part-convert-start
-    part-convert-end
-    add-convert-2
-    sub-convert-2
-    part-convert-start-2
-    part-convert-end-2
-    convert-requires
+    sub-loop
+    convert-four-requires
+    mul-runs
     add-runs
     add-i
     loop-less
     loop-again
+    loop2-holds
+    convert-one-requires
+    add-runs-2
+    add-i-2
+    loop2-less
+    loop2-again
     same-length
     returns)

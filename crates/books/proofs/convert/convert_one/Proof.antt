@@ -1,0 +1,35 @@
+-- `books::convert::convert_one` meets its contract.
+-- Assumes nothing.
+use mathlib.Core.List.{List}
+use mathlib.Core.Path.{ap, _∙_}
+use Prim.Native.Nat.{ℕ}
+use denote.Ref.{now}
+use borrow.Author.Needs.{needs}
+use Rattle.books.proofs.WayLaws.{converted-by}
+use Rattle.books.specs.Steps.{toOf}
+use Rattle.lists.specs.Walks.{putAt}
+use Rattle.books.proofs.convert.convert_one.Statement.{statement}
+use Rattle.books.proofs.convert.convert_one.Tie as tie
+
+task-at-requires : tie.Need-task-at-requires
+task-at-requires c κs = search needs
+
+core-requires : tie.Need-core-requires
+core-requires c κs = search needs
+
+put-at-requires : tie.Need-put-at-requires
+put-at-requires c κs = search needs
+
+same-length : tie.Need-same-length
+same-length c = search needs
+
+returns : tie.Need-returns
+returns c =
+    let x = c .before .before .before .before .before .before .before .before .before .before .args in
+    let task = c .before .before .before .before .before .before .before .task-at .ensures in
+    c .before .before .put-at .ensures
+    ∙ ap (λ (y : List ℕ). putAt (toOf (x .way)) (x .i) y (now (x .out))) (converted-by (x .way) (now (x .ring)) (x .strings) _ (task .0) (task .1) (c .before .before .before .before .core .ensures))
+
+pub convert-one-spec : {M : Type 1} → statement M
+convert-one-spec =
+    tie.close (tie.spec task-at-requires core-requires put-at-requires same-length returns)

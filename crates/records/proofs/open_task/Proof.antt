@@ -1,0 +1,63 @@
+-- `records::open_task` meets its contract.
+-- Assumes nothing.
+use mathlib.Core.List.{List}
+use mathlib.Core.Path.{ap, _∙_}
+use Prim.Native.Nat.{ℕ}
+use denote.Ref.{now}
+use borrow.Author.Needs.{needs}
+use Rattle.records.proofs.StepLaws.{key-taken}
+use Rattle.standard.specs.Bytes.{part}
+use Rattle.records.proofs.open_task.Statement.{statement}
+use Rattle.records.proofs.open_task.Tie as tie
+
+array21-requires : tie.Need-array21-requires
+array21-requires c κs = search needs
+
+sealed-head-requires : tie.Need-sealed-head-requires
+sealed-head-requires c κs = search needs
+
+array-read-kind-of : tie.Need-array-read-kind-of
+array-read-kind-of c = search needs
+
+kind-of-requires : tie.Need-kind-of-requires
+kind-of-requires c κs = search needs
+
+version-of-requires : tie.Need-version-of-requires
+version-of-requires c κs = search needs
+
+core-key-requires : tie.Need-core-key-requires
+core-key-requires c κs = search needs
+
+text-part-requires : tie.Need-text-part-requires
+text-part-requires c κs = search needs
+
+with8-requires : tie.Need-with8-requires
+with8-requires c κs = search needs
+
+returns : tie.Need-returns
+returns c =
+    let text = c .before in
+    let core = text .before in
+    let kind = core .before .before in
+    let head = kind .before in
+    let copied = head .before in
+    let x = copied .before .before .args in (
+      key-taken (now (x .ring)) (now (x .rec)) (copied .array21 .result) (kind .kind-of .result) (head .sealed-head .result) (kind .kind-of .ensures) (head .sealed-head .ensures)
+          (core .before .version-of .result .0) (core .core-key .result)
+          (ap (λ (y : List ℕ). part 0 6 y) (copied .array21 .ensures)) (core .before .version-of .ensures) (core .core-key .ensures),
+      c .with8 .ensures ∙ rw (text .text-part .ensures, copied .array21 .ensures),
+    )
+
+pub open-task-spec : {M : Type 1} → statement M
+open-task-spec =
+    tie.close
+    (tie.spec
+    array21-requires
+    sealed-head-requires
+    array-read-kind-of
+    kind-of-requires
+    version-of-requires
+    core-key-requires
+    text-part-requires
+    with8-requires
+    returns)
