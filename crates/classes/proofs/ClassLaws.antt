@@ -1,11 +1,11 @@
 -- A class's records are those of single calls, and the ways in which the call returns.
 -- Assumes nothing.
-use mathlib.Core.Bool.{Bool, true}
-use mathlib.Core.List.{List, [], _∷_, _++_}
+use mathlib.Core.Bool.{Bool}
+use mathlib.Core.List.{List, _++_}
 use mathlib.Core.Path.{_≡_, refl, sym, ap, _∙_}
-use Prim.Native.Nat.{ℕ, _*_, _/_, _<_, _≤_}
+use Prim.Native.Nat.{ℕ, _*_, _/_, _≤_}
 use native.Mathlib.Omega.{arith}
-use lib.ListN.{length, take, drop}
+use lib.ListN.{length, drop}
 use borrow.Author.Tests.{eq-eqb, ne-eqb, leb-true}
 use Rattle.lists.proofs.CallLaws.{call-refused, call-done}
 use Rattle.standard.proofs.BookLaws.{each-same}
@@ -19,22 +19,31 @@ use Rattle.standard.specs.Hurdle.{schedule}
 use Rattle.standard.specs.Lists.{recordAt, each, listTests, refused}
 use Rattle.standard.specs.Refusals.{wrongLength, maskTests, first}
 use Rattle.standard.specs.Sizes.{challengeSize, authenticationSize}
-use Rattle.classes.specs.Steps.{recordWith}
+use Rattle.standard.specs.declared.Authentication.{Authentication}
+use Rattle.classes.specs.Steps.{answerOf, recordFrom, recordWith}
+
+from-length : (rm km : ℕ) (o : List ℕ) → length (recordFrom rm km o) ≡ authenticationSize
+unfolding recordFrom
+from-length rm km o = refl
 
 pub record-length : (keys : List ℕ) (rm km : ℕ) (x : List ℕ) → length (recordWith keys rm km x) ≡ authenticationSize
 unfolding recordWith
-record-length keys rm km x = refl
+record-length keys rm km x = from-length rm km (bl1With keys (exp2 x))
 
--- a record is made from a copy of the challenge's bytes
-pub record-copied : (keys : List ℕ) (rm km : ℕ) (x made out exit : List ℕ) → exit ≡ take (length out) made ++ drop (length made) out
-    → made ≡ recordWith keys rm km (part 0 challengeSize x) → exit ≡ take (length out) (recordWith keys rm km x) ++ drop authenticationSize out
-unfolding recordWith exp2
-record-copied keys rm km x made out exit e m = e ∙ rw m
+-- the response and the key, one after the other
+pub record-made : (rm km : ℕ) (o : List ℕ) {a : Authentication} → a ≡ answerOf rm km o → part 0 4 (a .response) ++ part 0 10 (a .key) ≡ recordFrom rm km o
+unfolding recordFrom
+record-made rm km o e = rw e
+
+-- the core's output for a challenge gives its record
+pub record-by : (keys : List ℕ) (rm km : ℕ) (x : List ℕ) {y o : List ℕ} → y ≡ exp2 x → o ≡ bl1With keys y → recordFrom rm km o ≡ recordWith keys rm km x
+unfolding recordWith
+record-by keys rm km x ey eo = ap (recordFrom rm km) (eo ∙ ap (bl1With keys) ey)
 
 module _ (ks xs : List ℕ) (rm km : ℕ) (h : length ks ≡ 16) where
   -- under the session key's round keys the record of a challenge is what TA12 answers
   same-record : (x : List ℕ) → length x ≡ 10 → recordWith (schedule ks) rm km x ≡ classRecord ks rm km x
-  unfolding recordWith classRecord ta12Call bl1
+  unfolding recordWith recordFrom classRecord ta12Call bl1
   same-record x l = rw (eq-eqb _ _ h, eq-eqb _ _ l)
 
   pub same-records : (n : ℕ) → each n challengeSize (recordWith (schedule ks) rm km) xs ≡ each n challengeSize (classRecord ks rm km) xs

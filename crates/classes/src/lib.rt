@@ -1,9 +1,12 @@
-// A whole class of challenges under one session key: for each the response and the key that TA12 answers. The round keys are made once.
+// A whole class of challenges under one session key: for each the response and the key that TA12 answers. The round keys are made once,
+// and four challenges go side by side.
 use arrays::array10;
 use arrays::array16;
 use arrays::copy;
 use cores::bl1_with;
 use cores::exp2;
+use cores_four::Strings16;
+use cores_four::bl1_four_with;
 use hurdle::schedule;
 use keys::authenticate;
 use keys::mask_refusal;
@@ -15,13 +18,15 @@ use standard::CHALLENGE;
 use standard::WRONG_LENGTH;
 ghost use mathlib.Core.List.{_++_};
 ghost use mathlib.Core.Path.{_≡_};
-ghost use Prim.Native.Nat.{_*_, _≤_};
-ghost use lib.ListN.{length, take, drop};
+ghost use Prim.Native.Nat.{_+_, _*_, _<_, _≤_};
+ghost use lib.ListN.{length, drop};
+ghost use Rattle.lists.specs.Walks.{putAt, putFour};
 ghost use Rattle.standard.specs.Bytes.{part};
 ghost use Rattle.standard.specs.Classes.{ta12ClassCall};
-ghost use Rattle.standard.specs.Lists.{each};
+ghost use Rattle.standard.specs.Expansions.{exp2 as exp2Of};
+ghost use Rattle.standard.specs.Lists.{recordAt, each};
 ghost use Rattle.standard.specs.Sizes.{challengeSize, authenticationSize};
-ghost use Rattle.classes.specs.Steps.{recordWith};
+ghost use Rattle.classes.specs.Steps.{recordFrom, recordWith};
 
 fn joined(response: [u8; 4], key: [u8; 10]) -> [u8; AUTHENTICATION]
     ensures { λ r. ⌜ r ≡ part 0 4 response ++ part 0 10 key ⌝ }
@@ -44,38 +49,92 @@ fn joined(response: [u8; 4], key: [u8; 10]) -> [u8; AUTHENTICATION]
     ]
 }
 
-// The record of a challenge, under the session key's round keys.
-fn record_of(
-    keys: &[u8; 192],
-    challenge: [u8; CHALLENGE],
-    response_mask: u16,
-    key_mask: u16,
-) -> [u8; AUTHENTICATION]
-    ensures { λ r. ⌜ r ≡ recordWith (now (keys .entry)) «response_mask» «key_mask» challenge ⌝ }
+// The record of an output of the core, at place i of n.
+fn put_at(o: [u8; 16], response_mask: u16, key_mask: u16, n: usize, i: usize, out: &mut [u8])
+    requires { ⌜ (i < n) × (authenticationSize * n ≤ length (now out)) ⌝ }
+    ensures { λ _. ⌜ now (out .exit) ≡ putAt authenticationSize i (recordFrom «response_mask» «key_mask» o) (now (out .entry)) ⌝ }
 {
-    let a = authenticate(bl1_with(keys, exp2(challenge)), response_mask, key_mask);
+    let a = authenticate(o, response_mask, key_mask);
     let response = a.response;
     let key = a.key;
-    joined(response, key)
+    let b = AUTHENTICATION * i;
+    copy(&joined(response, key), &mut out[b..b + AUTHENTICATION]);
 }
 
-// The record of a challenge, into its own part of the output.
-fn write_record(
+// Challenge i of n, expanded.
+fn input_at(challenges: &[u8], n: usize, i: usize) -> [u8; 16]
+    requires { ⌜ (i < n) × (challengeSize * n ≤ length (now challenges)) ⌝ }
+    ensures { λ r. ⌜ r ≡ exp2Of (recordAt challengeSize (now (challenges .entry)) i) ⌝ }
+{
+    let a = CHALLENGE * i;
+    exp2(array10(&challenges[a..a + CHALLENGE]))
+}
+
+// The record of challenge i of n, under the session key's round keys.
+fn write_one(
     keys: &[u8; 192],
-    challenge: &[u8],
+    challenges: &[u8],
     response_mask: u16,
     key_mask: u16,
+    n: usize,
+    i: usize,
     out: &mut [u8],
 )
-    ensures { λ _. ⌜ now (out .exit) ≡ take (length (now (out .entry))) (recordWith (now (keys .entry)) «response_mask» «key_mask» (now (challenge .entry))) ++ drop authenticationSize (now (out .entry)) ⌝ }
+    requires { ⌜ (i < n) × (challengeSize * n ≤ length (now challenges)) × (authenticationSize * n ≤ length (now out)) ⌝ }
+    ensures { λ _. ⌜ now (out .exit) ≡ putAt authenticationSize i (recordWith (now (keys .entry)) «response_mask» «key_mask» (recordAt challengeSize (now (challenges .entry)) i)) (now (out .entry)) ⌝ }
 {
-    copy(
-        &record_of(keys, array10(challenge), response_mask, key_mask),
-        out,
-    );
+    let o = bl1_with(keys, input_at(challenges, n, i));
+    put_at(o, response_mask, key_mask, n, i, out);
 }
 
-// The records of n challenges, each into its own part of the output.
+fn inputs_at(challenges: &[u8], n: usize, i: usize) -> Strings16
+    requires { ⌜ (i + 4 ≤ n) × (challengeSize * n ≤ length (now challenges)) ⌝ }
+    ensures { λ r. ⌜ (r .a ≡ exp2Of (recordAt challengeSize (now (challenges .entry)) i)) × (r .b ≡ exp2Of (recordAt challengeSize (now (challenges .entry)) (i + 1)))
+        × (r .c ≡ exp2Of (recordAt challengeSize (now (challenges .entry)) (i + 2))) × (r .d ≡ exp2Of (recordAt challengeSize (now (challenges .entry)) (i + 3))) ⌝ }
+{
+    Strings16 {
+        a: input_at(challenges, n, i),
+        b: input_at(challenges, n, i + 1),
+        c: input_at(challenges, n, i + 2),
+        d: input_at(challenges, n, i + 3),
+    }
+}
+
+fn put_four(o: Strings16, response_mask: u16, key_mask: u16, n: usize, i: usize, out: &mut [u8])
+    requires { ⌜ (i + 4 ≤ n) × (authenticationSize * n ≤ length (now out)) ⌝ }
+    ensures { λ _. ⌜ now (out .exit) ≡ putAt authenticationSize (i + 3) (recordFrom «response_mask» «key_mask» (o .d))
+        (putAt authenticationSize (i + 2) (recordFrom «response_mask» «key_mask» (o .c))
+        (putAt authenticationSize (i + 1) (recordFrom «response_mask» «key_mask» (o .b))
+        (putAt authenticationSize i (recordFrom «response_mask» «key_mask» (o .a)) (now (out .entry))))) ⌝ }
+{
+    let oa = o.a;
+    let ob = o.b;
+    let oc = o.c;
+    let od = o.d;
+    put_at(oa, response_mask, key_mask, n, i, out);
+    put_at(ob, response_mask, key_mask, n, i + 1, out);
+    put_at(oc, response_mask, key_mask, n, i + 2, out);
+    put_at(od, response_mask, key_mask, n, i + 3, out);
+}
+
+// The records of challenges i to i + 3.
+fn write_four(
+    keys: &[u8; 192],
+    challenges: &[u8],
+    response_mask: u16,
+    key_mask: u16,
+    n: usize,
+    i: usize,
+    out: &mut [u8],
+)
+    requires { ⌜ (i + 4 ≤ n) × (challengeSize * n ≤ length (now challenges)) × (authenticationSize * n ≤ length (now out)) ⌝ }
+    ensures { λ _. ⌜ now (out .exit) ≡ putFour authenticationSize i (λ j. recordWith (now (keys .entry)) «response_mask» «key_mask» (recordAt challengeSize (now (challenges .entry)) j)) (now (out .entry)) ⌝ }
+{
+    let o = bl1_four_with(keys, keys, keys, keys, inputs_at(challenges, n, i));
+    put_four(o, response_mask, key_mask, n, i, out);
+}
+
+// The records of n challenges, each at its own place in the output, four at a time and then the rest.
 fn write(
     keys: &[u8; 192],
     challenges: &[u8],
@@ -88,16 +147,12 @@ fn write(
     ensures { λ _. ⌜ now (out .exit) ≡ each n challengeSize (recordWith (now (keys .entry)) «response_mask» «key_mask») (now (challenges .entry)) ++ drop (authenticationSize * n) (now (out .entry)) ⌝ }
 {
     let mut i = 0;
+    while n - i >= 4 {
+        write_four(keys, challenges, response_mask, key_mask, n, i, out);
+        i += 4;
+    }
     while i < n {
-        let a = CHALLENGE * i;
-        let b = AUTHENTICATION * i;
-        write_record(
-            keys,
-            &challenges[a..a + CHALLENGE],
-            response_mask,
-            key_mask,
-            &mut out[b..b + AUTHENTICATION],
-        );
+        write_one(keys, challenges, response_mask, key_mask, n, i, out);
         i += 1;
     }
 }

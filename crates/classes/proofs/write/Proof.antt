@@ -1,11 +1,11 @@
--- `classes::write` meets its contract.
+-- `classes::write` meets its contract: the first i parts of the output are the records of the first i challenges.
 -- Assumes nothing.
+use mathlib.Core.List.{List}
 use mathlib.Core.Path.{_≡_}
-use Prim.Native.Nat.{_-_, _≤_, zero-le}
+use Prim.Native.Nat.{ℕ, _+_, _-_, _≤_, zero-le}
 use native.Mathlib.Omega.{arith}
 use denote.Ref.{now}
-use borrow.Author.Needs.{needs}
-use Rattle.lists.proofs.WalkLaws.{lent, Wrote, wrote-none, wrote-more}
+use Rattle.lists.proofs.WalkLaws.{Wrote, wrote-none, wrote-one, wrote-four}
 use Rattle.standard.specs.Sizes.{challengeSize, authenticationSize}
 use Rattle.classes.proofs.ClassLaws.{record-length}
 use Rattle.classes.specs.Steps.{recordWith}
@@ -18,70 +18,84 @@ Inv-loop keys challenges rm km n out₀ i₀ out i = (i ≤ n) × Wrote challeng
 abbrev μ-loop : tie.MeasureT-loop
 μ-loop keys challenges rm km n out₀ i₀ out i = n - i
 
-loop-holds : tie.Need-loop-holds Inv-loop μ-loop
+-- out₀ is the output where the second loop begins: what the first wrote over an output o stays, and the rest comes behind it
+abbrev Inv-loop2 : tie.InvT-loop2
+Inv-loop2 keys challenges rm km n out₀ i₀ out i =
+    (i ≤ n) × ((o : List ℕ) → Wrote challengeSize authenticationSize (recordWith keys rm km) challenges o i₀ out₀ → Wrote challengeSize authenticationSize (recordWith keys rm km) challenges o i out)
+
+abbrev μ-loop2 : tie.MeasureT-loop2
+μ-loop2 keys challenges rm km n out₀ i₀ out i = n - i
+
+loop-holds : tie.Need-loop-holds Inv-loop μ-loop Inv-loop2 μ-loop2
 loop-holds c =
     let x = c .before .before .args in
     let made = recordWith (now (x .keys)) (x .response-mask) (x .key-mask) in
     (zero-le, wrote-none challengeSize authenticationSize made (record-length (now (x .keys)) (x .response-mask) (x .key-mask)) (now (x .challenges)) (now (x .out)))
 
-mul-a : tie.Need-mul-a Inv-loop μ-loop
-mul-a c = search needs
+sub-loop : tie.Need-sub-loop Inv-loop μ-loop Inv-loop2 μ-loop2
+sub-loop c = omega (arith, c .loop .inv .0)
 
-mul-b : tie.Need-mul-b Inv-loop μ-loop
-mul-b c = search needs
+write-four-requires : tie.Need-write-four-requires Inv-loop μ-loop Inv-loop2 μ-loop2
+write-four-requires c κs =
+    let start = c .before .before .before .before .before in
+    let at = c .before .before .loop in
+    (omega (arith, at .inv .0, c .before .loop-test .taken), start .pre .0, omega (arith, start .pre .1, at .inv .1 .kept))
 
-add-write-record : tie.Need-add-write-record Inv-loop μ-loop
-add-write-record c = search needs
+add-i : tie.Need-add-i Inv-loop μ-loop Inv-loop2 μ-loop2
+add-i c = omega (arith, c .before .before .before .before .before .loop .inv .0, c .before .before .before .before .loop-test .taken)
 
-sub-write-record : tie.Need-sub-write-record Inv-loop μ-loop
-sub-write-record c = search needs
+loop-less : tie.Need-loop-less Inv-loop μ-loop Inv-loop2 μ-loop2
+loop-less c = omega (arith, c .before .before .before .before .before .loop .inv .0, c .before .before .before .before .loop-test .taken)
 
-part-write-record-start : tie.Need-part-write-record-start Inv-loop μ-loop
-part-write-record-start c = search needs
-
-part-write-record-end : tie.Need-part-write-record-end Inv-loop μ-loop
-part-write-record-end c = search needs
-
-add-write-record-2 : tie.Need-add-write-record-2 Inv-loop μ-loop
-add-write-record-2 c = search needs
-
-sub-write-record-2 : tie.Need-sub-write-record-2 Inv-loop μ-loop
-sub-write-record-2 c = search needs
-
-part-write-record-start-2 : tie.Need-part-write-record-start-2 Inv-loop μ-loop
-part-write-record-start-2 c = omega (arith, c .before .before .loop .inv .1 .kept)
-
-part-write-record-end-2 : tie.Need-part-write-record-end-2 Inv-loop μ-loop
-part-write-record-end-2 c = omega (arith, c .before .before .loop .inv .1 .kept)
-
-write-record-requires : tie.Need-write-record-requires Inv-loop μ-loop
-write-record-requires c κs = search needs
-
-add-i : tie.Need-add-i Inv-loop μ-loop
-add-i c = search needs
-
-loop-less : tie.Need-loop-less Inv-loop μ-loop
-loop-less c = search needs
-
-loop-again : tie.Need-loop-again Inv-loop μ-loop
+loop-again : tie.Need-loop-again Inv-loop μ-loop Inv-loop2 μ-loop2
 loop-again c =
-    let turn = c .before .before .before .before .before in
-    let at = turn .before .loop in
-    let x = turn .before .before .before .before .args in (
-      omega arith,
-      wrote-more challengeSize authenticationSize (recordWith (now (x .keys)) (x .response-mask) (x .key-mask)) (record-length (now (x .keys)) (x .response-mask) (x .key-mask))
-          (now (x .challenges)) (now (x .out)) (at .i) (at .out) (at .inv .1) (search needs) _ _
-          (lent challengeSize (at .i) (now (x .challenges)) (search needs)) (c .before .before .write-record .ensures),
+    let at = c .before .before .before .before .before .loop in
+    let start = c .before .before .before .before .before .before .before .before in
+    let x = start .args in
+    let few : at .i + 4 ≤ x .n = omega (arith, at .inv .0, c .before .before .before .before .loop-test .taken) in (
+      few,
+      wrote-four challengeSize authenticationSize (recordWith (now (x .keys)) (x .response-mask) (x .key-mask)) (record-length (now (x .keys)) (x .response-mask) (x .key-mask))
+          (now (x .challenges)) (now (x .out)) (at .i) (x .n) few (start .pre .1) (at .out) (at .inv .1) (c .before .before .write-four .ensures),
     )
 
-same-length : tie.Need-same-length Inv-loop μ-loop
-same-length c = c .before .loop .inv .1 .kept
+loop2-holds : tie.Need-loop2-holds Inv-loop μ-loop Inv-loop2 μ-loop2
+loop2-holds c = (c .before .loop .inv .0, λ o h. h)
 
-returns : tie.Need-returns Inv-loop μ-loop
+write-one-requires : tie.Need-write-one-requires Inv-loop μ-loop Inv-loop2 μ-loop2
+write-one-requires c κs =
+    let start = c .before .before .before .before .before .before .before in
+    let wrote = c .before .before .loop2 .inv .1 (now (start .args .out)) (c .before .before .before .before .loop .inv .1) in
+    (c .before .loop2-test .taken, start .pre .0, omega (arith, start .pre .1, wrote .kept))
+
+add-i-2 : tie.Need-add-i-2 Inv-loop μ-loop Inv-loop2 μ-loop2
+add-i-2 c = omega (arith, c .before .before .before .before .loop2-test .taken)
+
+loop2-less : tie.Need-loop2-less Inv-loop μ-loop Inv-loop2 μ-loop2
+loop2-less c = omega (arith, c .before .before .before .before .loop2-test .taken)
+
+loop2-again : tie.Need-loop2-again Inv-loop μ-loop Inv-loop2 μ-loop2
+loop2-again c =
+    let at = c .before .before .before .before .before .loop2 in
+    let start = c .before .before .before .before .before .before .before .before .before .before in
+    let x = start .args in
+    let one = c .before .before .before .before .loop2-test .taken in
+    let kept = c .before .before .before .before .before .before .before .loop .inv .1 .kept in (
+      omega (arith, one),
+      λ o h.
+          wrote-one challengeSize authenticationSize (recordWith (now (x .keys)) (x .response-mask) (x .key-mask)) (record-length (now (x .keys)) (x .response-mask) (x .key-mask))
+          (now (x .challenges)) o (at .i) (x .n) one (omega (arith, start .pre .1, kept, h .kept)) (at .out) (at .inv .1 o h) (c .before .before .write-one .ensures),
+    )
+
+same-length : tie.Need-same-length Inv-loop μ-loop Inv-loop2 μ-loop2
+same-length c = c .before .loop2 .inv .1 (now (c .before .before .before .before .before .before .args .out)) (c .before .before .before .loop .inv .1) .kept
+
+returns : tie.Need-returns Inv-loop μ-loop Inv-loop2 μ-loop2
 returns c =
-    let at = c .before .loop in
-    let e : at .i ≡ c .before .before .before .before .args .n = omega arith in
-    rw e at (at .inv .1 .bytes)
+    let at = c .before .loop2 in
+    let x = c .before .before .before .before .before .before .args in
+    let wrote = at .inv .1 (now (x .out)) (c .before .before .before .loop .inv .1) in
+    let e : at .i ≡ x .n = omega (arith, at .inv .0, c .loop2-test .left) in
+    rw e at (wrote .bytes)
 
 pub write-spec : {M : Type 1} → statement M
 write-spec =
@@ -89,20 +103,18 @@ write-spec =
     (tie.spec
     Inv-loop
     μ-loop
+    Inv-loop2
+    μ-loop2
     loop-holds
-    mul-a
-    mul-b
-    add-write-record
-    sub-write-record
-    part-write-record-start
-    part-write-record-end
-    add-write-record-2
-    sub-write-record-2
-    part-write-record-start-2
-    part-write-record-end-2
-    write-record-requires
+    sub-loop
+    write-four-requires
     add-i
     loop-less
     loop-again
+    loop2-holds
+    write-one-requires
+    add-i-2
+    loop2-less
+    loop2-again
     same-length
     returns)

@@ -1,0 +1,70 @@
+-- `classes::put_at` meets its contract.
+-- Assumes nothing.
+use mathlib.Core.List.{List}
+use mathlib.Core.Path.{_≡_, ap, _∙_}
+use Prim.Native.Nat.{ℕ}
+use lib.ListN.{length}
+use denote.Ref.{now}
+use borrow.Author.Needs.{needs}
+use Rattle.lists.proofs.WalkLaws.{put-lent}
+use Rattle.lists.specs.Walks.{putAt}
+use Rattle.standard.specs.Sizes.{authenticationSize}
+use Rattle.classes.proofs.ClassLaws.{record-made}
+use Rattle.classes.specs.Steps.{recordFrom}
+use Rattle.classes.proofs.put_at.Statement.{statement}
+use Rattle.classes.proofs.put_at.Tie as tie
+
+authenticate-requires : tie.Need-authenticate-requires
+authenticate-requires c κs = search needs
+
+mul-b : tie.Need-mul-b
+mul-b c = search needs
+
+joined-requires : tie.Need-joined-requires
+joined-requires c κs = search needs
+
+slice-aggregate-copy : tie.Need-slice-aggregate-copy
+slice-aggregate-copy c = search needs
+
+add-copy : tie.Need-add-copy
+add-copy c = search needs
+
+sub-copy : tie.Need-sub-copy
+sub-copy c = search needs
+
+part-copy-start : tie.Need-part-copy-start
+part-copy-start c = search needs
+
+part-copy-end : tie.Need-part-copy-end
+part-copy-end c = search needs
+
+copy-requires : tie.Need-copy-requires
+copy-requires c κs = search needs
+
+same-length : tie.Need-same-length
+same-length c = search needs
+
+returns : tie.Need-returns
+returns c =
+    let made = c .before .before .before .before .before .before .before .before .authenticate .ensures in
+    let x = c .before .before .before .before .before .before .before .before .before .before .args in
+    let laid : c .before .before .before .before .before .joined .result ≡ recordFrom (x .response-mask) (x .key-mask) (x .o) = c .before .before .before .before .before .joined .ensures ∙ record-made (x .response-mask) (x .key-mask) (x .o) made in
+    let long : length (c .before .before .before .before .before .joined .result) ≡ authenticationSize = search needs in
+    put-lent authenticationSize (x .i) (now (x .out)) (c .before .before .before .before .before .joined .result) _ (search needs) long (rw long at (c .before .before .copy .ensures))
+    ∙ ap (λ (y : List ℕ). putAt authenticationSize (x .i) y (now (x .out))) laid
+
+pub put-at-spec : {M : Type 1} → statement M
+put-at-spec =
+    tie.close
+    (tie.spec
+    authenticate-requires
+    mul-b
+    joined-requires
+    slice-aggregate-copy
+    add-copy
+    sub-copy
+    part-copy-start
+    part-copy-end
+    copy-requires
+    same-length
+    returns)

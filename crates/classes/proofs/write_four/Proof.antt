@@ -1,0 +1,41 @@
+-- `classes::write_four` meets its contract.
+-- Assumes nothing.
+use mathlib.Core.Path.{_∙_}
+use denote.Ref.{now}
+use borrow.Author.Needs.{needs}
+use Rattle.lists.proofs.WalkLaws.{four-put}
+use Rattle.standard.specs.Lists.{recordAt}
+use Rattle.standard.specs.Sizes.{challengeSize, authenticationSize}
+use Rattle.classes.proofs.ClassLaws.{record-by}
+use Rattle.classes.specs.Steps.{recordWith}
+use Rattle.classes.proofs.write_four.Statement.{statement}
+use Rattle.classes.proofs.write_four.Tie as tie
+
+inputs-at-requires : tie.Need-inputs-at-requires
+inputs-at-requires c κs = search needs
+
+bl1-four-with-requires : tie.Need-bl1-four-with-requires
+bl1-four-with-requires c κs = search needs
+
+put-four-requires : tie.Need-put-four-requires
+put-four-requires c κs = search needs
+
+same-length : tie.Need-same-length
+same-length c = search needs
+
+returns : tie.Need-returns
+returns c =
+    let x = c .before .before .before .before .before .before .before .before .args in
+    let keys = now (x .keys) in
+    let rm = x .response-mask in
+    let km = x .key-mask in
+    let y = c .before .before .before .before .before .inputs-at .ensures in
+    let o = c .before .before .before .before .bl1-four-with .ensures in
+    c .before .before .put-four .ensures
+    ∙ four-put authenticationSize (x .i) (λ j. recordWith keys rm km (recordAt challengeSize (now (x .challenges)) j)) (now (x .out))
+    (record-by keys rm km _ (y .0) (o .0)) (record-by keys rm km _ (y .1) (o .1)) (record-by keys rm km _ (y .2) (o .2)) (record-by keys rm km _ (y .3) (o .3))
+
+pub write-four-spec : {M : Type 1} → statement M
+write-four-spec =
+    tie.close
+    (tie.spec inputs-at-requires bl1-four-with-requires put-four-requires same-length returns)

@@ -1,0 +1,35 @@
+-- `classes::write_one` meets its contract.
+-- Assumes nothing.
+use mathlib.Core.List.{List}
+use mathlib.Core.Path.{ap, _∙_}
+use Prim.Native.Nat.{ℕ}
+use denote.Ref.{now}
+use borrow.Author.Needs.{needs}
+use Rattle.lists.specs.Walks.{putAt}
+use Rattle.standard.specs.Sizes.{authenticationSize}
+use Rattle.classes.proofs.ClassLaws.{record-by}
+use Rattle.classes.proofs.write_one.Statement.{statement}
+use Rattle.classes.proofs.write_one.Tie as tie
+
+input-at-requires : tie.Need-input-at-requires
+input-at-requires c κs = search needs
+
+bl1-with-requires : tie.Need-bl1-with-requires
+bl1-with-requires c κs = search needs
+
+put-at-requires : tie.Need-put-at-requires
+put-at-requires c κs = search needs
+
+same-length : tie.Need-same-length
+same-length c = search needs
+
+returns : tie.Need-returns
+returns c =
+    let x = c .before .before .before .before .before .before .before .before .args in
+    c .before .before .put-at .ensures
+    ∙ ap (λ (y : List ℕ). putAt authenticationSize (x .i) y (now (x .out)))
+    (record-by (now (x .keys)) (x .response-mask) (x .key-mask) _ (c .before .before .before .before .before .input-at .ensures) (c .before .before .before .before .bl1-with .ensures))
+
+pub write-one-spec : {M : Type 1} → statement M
+write-one-spec =
+    tie.close (tie.spec input-at-requires bl1-with-requires put-at-requires same-length returns)
