@@ -1,10 +1,10 @@
 -- Flips and the bits that change, under round keys laid out first; sums and extremes that go on from turn to turn; and the ways in which
 -- the call returns.
 -- Assumes nothing.
-use mathlib.Core.List.{List, [], _++_, foldl, foldl-append}
+use mathlib.Core.List.{List, [], _∷_, _++_, foldl, foldl-append}
 use mathlib.Core.Path.{_≡_, refl, sym, ap, ap₂, _∙_, subst}
 use Prim.Native.Nat.{ℕ, _+_, _*_, _/_, _%_, _^_, _<_, min, max}
-use native.Mathlib.Nat.{one-mul}
+use native.Mathlib.Nat.{add-zero, one-mul}
 use native.Mathlib.Numerals.{add-one}
 use native.Mathlib.Omega.{arith}
 use lib.Count.{ones, ones-cat}
@@ -56,25 +56,28 @@ module _ {t l g : ℕ} where
 
   module _ {t′ l′ g′ t″ l″ g″ : ℕ} where
     -- over further changes
-    counted-more : (cs ds : List ℕ) → Counted t l g cs t′ l′ g′ → Counted t′ l′ g′ ds t″ l″ g″ → Counted t l g (cs ++ ds) t″ l″ g″
-    counted-more cs ds h k = record {
+    pub counted-more : {cs ds : List ℕ} → Counted t l g cs t′ l′ g′ → Counted t′ l′ g′ ds t″ l″ g″ → Counted t l g (cs ++ ds) t″ l″ g″
+    counted-more {cs} {ds} h k = record {
       total = k .total ∙ ap (λ (n : ℕ). foldl _+_ n ds) (h .total) ∙ sym (foldl-append _+_ t cs ds);
       least = k .least ∙ ap (λ (n : ℕ). foldl min n ds) (h .least) ∙ sym (foldl-append min l cs ds);
       greatest = k .greatest ∙ ap (λ (n : ℕ). foldl max n ds) (h .greatest) ∙ sym (foldl-append max g cs ds);
       most = rw length-append (omega (arith, h .most, k .most));
     }
 
-    -- m entries of a table more
-    pub counted-table : (f : ℕ → ℕ) (i m : ℕ) (ds : List ℕ) → ds ≡ table m (λ j. f (i + j)) → Counted t l g (table i f) t′ l′ g′
-        → Counted t′ l′ g′ ds t″ l″ g″ → Counted t l g (table (i + m) f) t″ l″ g″
-    counted-table f i m ds e h k = rw (table-add i m f) (counted-more (table i f) (table m (λ j. f (i + j))) h (rw e at k))
+    -- four entries of a table more
+    pub counted-four : (f : ℕ → ℕ) (q : ℕ) {a b c d : ℕ} → (a ≡ f (4 * q)) × (b ≡ f (4 * q + 1)) × (c ≡ f (4 * q + 2)) × (d ≡ f (4 * q + 3))
+        → Counted t l g (table (4 * q) f) t′ l′ g′ → Counted t′ l′ g′ (a ∷ b ∷ c ∷ d ∷ []) t″ l″ g″
+        → Counted t l g (table (4 * (q + 1)) f) t″ l″ g″
+    counted-four f q e h k =
+        let next : 4 * (q + 1) ≡ 4 * q + 4 = omega arith in
+        let from : f (4 * q) ≡ f (4 * q + 0) = ap f (sym (add-zero (4 * q))) in
+        rw (next, table-add (4 * q) 4 f) (counted-more h (rw (e .0 ∙ from, e .1, e .2, e .3) at k))
 
     -- a record more
     pub counted-record : (xs : List ℕ) (i : ℕ) (x : List ℕ) → x ≡ recordAt diffusionSize xs i
         → Counted t l g (each i diffusionSize recordChanges xs) t′ l′ g′ → Counted t′ l′ g′ (recordChanges x) t″ l″ g″
         → Counted t l g (each (i + 1) diffusionSize recordChanges xs) t″ l″ g″
-    counted-record xs i x e h k =
-        rw add-one (counted-more (each i diffusionSize recordChanges xs) (recordChanges (recordAt diffusionSize xs i)) h (rw e at k))
+    counted-record xs i x e h k = rw add-one (counted-more h (rw e at k))
 
   -- a record's changes are those under its key's round keys
   pub counted-flips : {t′ l′ g′ : ℕ} (keys block r : List ℕ) → keys ≡ schedule (part 0 16 r) → block ≡ part 16 8 r

@@ -1,8 +1,10 @@
 // The diffusion tally: each bit of a record's block is flipped in turn, and the output bits that change under HURDLE-II are counted. The
-// round keys are made once for a record.
+// round keys are made once for a record, and the cipher takes four flips side by side.
 use arrays::array8;
 use arrays::array16;
+use hurdle::Blocks;
 use hurdle::encrypt_with;
+use hurdle::encrypt4_with;
 use hurdle::schedule;
 use lists::lengths;
 use standard::DIFFUSION_RECORD;
@@ -14,6 +16,7 @@ ghost use lib.Count.{ones};
 ghost use lib.ListN.{length};
 ghost use Rattle.standard.specs.Bytes.{table, xors, bytesOf};
 ghost use Rattle.standard.specs.Diffusion.{flipped, bitsSet, recordChanges, diffusionCall};
+ghost use Rattle.standard.specs.Hurdle.{encryptWith};
 ghost use Rattle.standard.specs.Lists.{each};
 ghost use Rattle.standard.specs.Sizes.{diffusionSize, mostRecords};
 ghost use Rattle.diffusion.specs.Steps.{changeWith, Counted};
@@ -57,6 +60,66 @@ fn changed(a: [u8; 8], b: [u8; 8]) -> u32
     l + r
 }
 
+// A change of each lane.
+struct Changes {
+    a: u32,
+    b: u32,
+    c: u32,
+    d: u32,
+}
+
+// The flips of four bits, from bit i on.
+fn flips(block: [u8; 8], i: u32) -> Blocks
+    requires { ⌜ i + 4 ≤ 64 ⌝ }
+    ensures { λ x. ⌜ (x .a ≡ flipped i block)
+        × (x .b ≡ flipped (i + 1) block)
+        × (x .c ≡ flipped (i + 2) block)
+        × (x .d ≡ flipped (i + 3) block) ⌝ }
+{
+    Blocks {
+        a: flip(block, i),
+        b: flip(block, i + 1),
+        c: flip(block, i + 2),
+        d: flip(block, i + 3),
+    }
+}
+
+// How many bits of each lane differ from those of the output.
+fn differences(output: [u8; 8], y: Blocks) -> Changes
+    ensures { λ r. ⌜ (r .a ≡ bitsSet (xors 8 output (y .a)))
+        × (r .b ≡ bitsSet (xors 8 output (y .b)))
+        × (r .c ≡ bitsSet (xors 8 output (y .c)))
+        × (r .d ≡ bitsSet (xors 8 output (y .d))) ⌝ }
+    ensures { λ r. ⌜ (r .a ≤ 64) × (r .b ≤ 64) × (r .c ≤ 64) × (r .d ≤ 64) ⌝ }
+{
+    let ya = y.a;
+    let yb = y.b;
+    let yc = y.c;
+    let yd = y.d;
+    Changes {
+        a: changed(output, ya),
+        b: changed(output, yb),
+        c: changed(output, yc),
+        d: changed(output, yd),
+    }
+}
+
+// The changes of four flips, from bit i on. `output` is the block's own.
+fn four_changes(keys: &[u8; 192], block: [u8; 8], output: [u8; 8], i: u32) -> Changes
+    requires { ⌜ output ≡ encryptWith (now keys) block ⌝ }
+    requires { ⌜ i + 4 ≤ 64 ⌝ }
+    ensures { λ r. ⌜ (r .a ≡ changeWith (now (keys .entry)) block i)
+        × (r .b ≡ changeWith (now (keys .entry)) block (i + 1))
+        × (r .c ≡ changeWith (now (keys .entry)) block (i + 2))
+        × (r .d ≡ changeWith (now (keys .entry)) block (i + 3)) ⌝ }
+    ensures { λ r. ⌜ (r .a ≤ 64) × (r .b ≤ 64) × (r .c ≤ 64) × (r .d ≤ 64) ⌝ }
+{
+    differences(
+        output,
+        encrypt4_with(keys, keys, keys, keys, flips(block, i)),
+    )
+}
+
 // The sum and the extremes of the changes so far.
 struct Figures {
     total: u32,
@@ -89,6 +152,18 @@ fn counted(t: Figures, change: u32) -> Figures
     }
 }
 
+// Four changes more.
+fn counted4(t: Figures, changes: Changes) -> Figures
+    requires { ⌜ t .total < 1073741824 ⌝ }
+    requires { ⌜ (changes .a ≤ 64) × (changes .b ≤ 64) × (changes .c ≤ 64) × (changes .d ≤ 64) ⌝ }
+    ensures { λ r. ⌜ Counted (t .total) (t .least) (t .greatest) (changes .a ∷ changes .b ∷ changes .c ∷ changes .d ∷ []) (r .total) (r .least) (r .greatest) ⌝ }
+{
+    let a = counted(t, changes.a);
+    let b = counted(a, changes.b);
+    let c = counted(b, changes.c);
+    counted(c, changes.d)
+}
+
 // The changes of a block's 64 flips, counted behind those so far.
 fn count_flips(keys: &[u8; 192], block: [u8; 8], t: Figures) -> Figures
     requires { ⌜ t .total ≤ 4096 * mostRecords ⌝ }
@@ -96,9 +171,8 @@ fn count_flips(keys: &[u8; 192], block: [u8; 8], t: Figures) -> Figures
 {
     let output = encrypt_with(keys, block);
     let mut figures = t;
-    for i in 0..64 {
-        let other = encrypt_with(keys, flip(block, i));
-        figures = counted(figures, changed(output, other));
+    for q in 0..16 {
+        figures = counted4(figures, four_changes(keys, block, output, 4 * q));
     }
     figures
 }
