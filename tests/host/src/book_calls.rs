@@ -1,6 +1,6 @@
 //! Books: sealing, opening, and the check of a plain book.
 
-use crate::edges::{self, rooms};
+use crate::edges::{self, counts, rooms};
 use host::both::{check_plain, sealed, Call, MOST, OPEN, PLAIN, RING, SEAL, SEALED};
 use host::damaged::{self, flipped, under_version};
 use host::engine::{self, null};
@@ -60,9 +60,9 @@ impl Book {
         Book::new(random.bytes(), random.plain_book(records))
     }
 
-    /// One record of each kind.
-    fn of_each_kind(random: &mut Random) -> Self {
-        let plain = KINDS.into_iter().flat_map(|kind| random.record(kind));
+    /// One record of each of these kinds.
+    fn of_kinds(random: &mut Random, kinds: impl IntoIterator<Item = u8>) -> Self {
+        let plain = kinds.into_iter().flat_map(|kind| random.record(kind));
         let plain = plain.collect();
         Book::new(random.bytes(), plain)
     }
@@ -96,7 +96,7 @@ pub fn run(tally: &mut Tally, random: &mut Random) {
         }
     });
     tally.group("books (numbers of records and outputs)", |group| {
-        for records in [0, 1, 2, 3, 4, 5, 17, MOST - 1, MOST, MOST + 1] {
+        for records in counts().chain([17]) {
             let book = Book::random(random, records);
             for (call, bytes) in book.forms() {
                 for room in rooms(call.room(bytes)) {
@@ -106,13 +106,26 @@ pub fn run(tally: &mut Tally, random: &mut Random) {
             check_plain(group, &book.plain);
         }
     });
+    tally.group("books (each kind at every place)", |group| {
+        for records in counts() {
+            for first in 0..KINDS.len() {
+                // Kinds in turn, and one kind all through.
+                for step in [1, KINDS.len()] {
+                    let kinds = KINDS.into_iter().cycle().skip(first).step_by(step);
+                    let book = Book::of_kinds(random, kinds.take(records));
+                    plain(group, &book.ring, &book.plain);
+                    OPEN.there_and_back(group, &book.ring, &book.sealed);
+                }
+            }
+        }
+    });
     tally.group("books (lengths)", |group| lengths(group, random));
     tally.group("books (rings, lengths and outputs at once)", |group| {
         orders(group, random);
     });
     tally.group("books (rings of every other length)", |group| {
         let bytes = random.bytes::<{ 2 * RING }>();
-        let book = Book::of_each_kind(random);
+        let book = Book::of_kinds(random, KINDS);
         for length in (0..RING).chain(RING + 1..=2 * RING) {
             for (call, records) in book.forms() {
                 for records in [records, &[]] {
@@ -126,20 +139,25 @@ pub fn run(tally: &mut Tally, random: &mut Random) {
     tally.group("books (three records, faults in any)", |group| {
         faults(group, random);
     });
+    tally.group("books (faults at every place)", |group| {
+        for records in 1..=9 {
+            placed_faults(group, random, records);
+        }
+    });
     tally.group("books (faults in a long book)", |group| {
-        for _ in 0..2 {
-            long_faults(group, random);
+        for records in MOST - 3..=MOST {
+            long_faults(group, random, records);
         }
     });
     tally.group("books (runs of refused ones, at every index)", |group| {
-        for records in [1, 2, 3, 4, 5, 40, MOST] {
+        for records in (1..=9).chain([40, MOST]) {
             runs(group, &Book::random(random, records));
         }
     });
     record_groups(tally, random);
     damage_groups(tally, random);
     tally.group("books (zeros, ones, single bits)", |group| {
-        let book = Book::of_each_kind(random);
+        let book = Book::of_kinds(random, KINDS);
         for ring in edges::strings::<RING>() {
             for (call, bytes) in book.forms() {
                 call.there_and_back(group, &ring, bytes);
@@ -319,18 +337,49 @@ fn sealed_records(random: &mut Random, ring: &[u8; RING]) -> Vec<[u8; SEALED]> {
     records
 }
 
-fn long_faults(group: &mut Group, random: &mut Random) {
-    let book = Book::random(random, MOST);
-    let places = [0, 1, MOST / 2, MOST - 2, MOST - 1];
-    for first in places {
+/// Each fault at every place, alone and with each fault behind it.
+fn placed_faults(group: &mut Group, random: &mut Random, records: usize) {
+    let book = Book::random(random, records);
+    let wrong_ends = ENDS[KINDS.len()..].iter();
+    let wrong_plain = wrong_ends.flat_map(|end| with_end(random, *end)).collect();
+    let wrong_sealed = sealed_records(random, &book.ring)[KINDS.len()..].concat();
+    for ((call, bytes), wrong) in book.forms().into_iter().zip([wrong_plain, wrong_sealed]) {
+        for first in 0..records {
+            for second in first..records {
+                for fault in wrong.chunks(call.from) {
+                    // At the same place only the first fault stands.
+                    let others = if second == first { 1 } else { wrong.len() };
+                    for other in wrong.chunks(call.from).take(others) {
+                        let mut list: Vec<&[u8]> = bytes.chunks(call.from).collect();
+                        list[second] = other;
+                        list[first] = fault;
+                        let bytes = list.concat();
+                        call.compare(group, &book.ring, &bytes, call.room(&bytes));
+                        if call.from == PLAIN {
+                            check_plain(group, &bytes);
+                        }
+                    }
+                }
+            }
+        }
+    }
+}
+
+fn long_faults(group: &mut Group, random: &mut Random, records: usize) {
+    let book = Book::random(random, records);
+    let places: Vec<usize> = (0..4)
+        .chain([MOST / 2])
+        .chain(records - 4..records)
+        .collect();
+    for &first in &places {
         for end in &ENDS[KINDS.len()..] {
             let mut bytes = book.plain.clone();
             bytes[PLAIN * first..][..PLAIN].copy_from_slice(&with_end(random, *end));
             // A second fault, of a lower number, here or elsewhere.
-            bytes[PLAIN * places[random.below(5)]] = 0;
+            bytes[PLAIN * places[random.below(places.len())]] = 0;
             plain(group, &book.ring, &bytes);
         }
-        for second in places {
+        for second in &places {
             let mut bytes = book.sealed.clone();
             bytes[SEALED * first + 6 + random.below(15)] ^= 1;
             OPEN.there_and_back(group, &book.ring, &bytes);
@@ -375,9 +424,10 @@ fn runs(group: &mut Group, book: &Book) {
 
 fn record_groups(tally: &mut Tally, random: &mut Random) {
     tally.group("books (every kind byte)", |group| {
-        let book = Book::random(random, 3);
+        let records = 7; // four, and a rest of three
+        let book = Book::random(random, records);
         for kind in 0..=255 {
-            for i in 0..3 {
+            for i in 0..records {
                 for (call, bytes) in book.forms() {
                     let mut bytes = bytes.to_vec();
                     bytes[call.from * i] = kind;
@@ -454,7 +504,7 @@ fn composed(ring: &[u8; RING], record: &[u8; PLAIN]) -> [u8; SEALED] {
 
 fn damage_groups(tally: &mut Tally, random: &mut Random) {
     tally.group("books (each byte changed to every other)", |group| {
-        let book = Book::of_each_kind(random);
+        let book = Book::of_kinds(random, KINDS);
         for (call, bytes) in book.forms() {
             for at in 0..bytes.len() {
                 for change in 1..=255 {
@@ -492,7 +542,7 @@ fn damage_groups(tally: &mut Tally, random: &mut Random) {
         }
     });
     tally.group("books (each bit of the ring flipped)", |group| {
-        let book = Book::of_each_kind(random);
+        let book = Book::of_kinds(random, KINDS);
         for bit in 0..8 * RING {
             let ring = flipped(book.ring, bit);
             for (call, bytes) in book.forms() {

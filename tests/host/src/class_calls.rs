@@ -1,6 +1,6 @@
 //! A class of challenges under one session key.
 
-use crate::edges::{self, list_lengths, long_lists, rooms, COUNTS};
+use crate::edges::{self, counts, list_lengths, long_lists, rooms};
 use crate::masks;
 use host::both::{same_output, Start, AUTHENTICATION, CHALLENGE, MOST};
 use host::class;
@@ -138,7 +138,7 @@ pub fn run(tally: &mut Tally, random: &mut Random) {
         pair,
     };
     tally.group("ta12_class (numbers of challenges and outputs)", |group| {
-        for count in COUNTS {
+        for count in counts() {
             let class = class(CHALLENGE * count, PAIR);
             for room in rooms(class.need()) {
                 class.compare(group, room);

@@ -1,6 +1,6 @@
 //! The diffusion tally.
 
-use crate::edges::{self, list_lengths, long_lists, COUNTS};
+use crate::edges::{self, counts, list_lengths, long_lists};
 use host::both::{Start, MOST};
 use host::damaged::flipped;
 use host::diffusion::{self, refused, Diffusion, RECORD};
@@ -19,7 +19,7 @@ pub fn run(tally: &mut Tally, random: &mut Random) {
         }
     });
     tally.group("diffusion (numbers of records)", |group| {
-        for count in COUNTS {
+        for count in counts() {
             compare(group, &bytes[..RECORD * count]);
         }
     });
@@ -39,7 +39,7 @@ pub fn run(tally: &mut Tally, random: &mut Random) {
         want(group, null(), || refused(0));
     });
     tally.group("diffusion (beside single encryptions)", |group| {
-        for count in [1, 2, 3, 4, 5, 50, MOST] {
+        for count in (1..=9).chain([50, MOST]) {
             let records = &bytes[..RECORD * count];
             want(group, records, || counted(records));
         }
@@ -49,6 +49,16 @@ pub fn run(tally: &mut Tally, random: &mut Random) {
             compare(group, &record);
         }
         compare(group, &edges::strings::<RECORD>().concat());
+    });
+    // So the records with the least and the greatest change come to every place.
+    tally.group("diffusion (each record at every place)", |group| {
+        for count in 2..=9 {
+            let mut records: Vec<&[u8]> = bytes.chunks(RECORD).take(count).collect();
+            for _ in 0..count {
+                records.rotate_left(1);
+                compare(group, &records.concat());
+            }
+        }
     });
     tally.group("diffusion (repeated and reordered records)", |group| {
         for count in [2, 3, 4, 5, MOST] {

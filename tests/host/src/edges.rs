@@ -44,8 +44,11 @@ pub fn lengths<const N: usize>(
     check([null(); N]);
 }
 
-/// Numbers of records: few, the most, and one more.
-pub const COUNTS: [usize; 9] = [0, 1, 2, 3, 4, 5, MOST - 1, MOST, MOST + 1];
+/// Numbers of records: few, the most and some fewer, and one more. Books and classes
+/// go four at a time, then the rest: every rest is there, behind few and many.
+pub fn counts() -> impl Iterator<Item = usize> {
+    (0..=9).chain(MOST - 4..=MOST + 1)
+}
 
 /// Lengths of lists of records of so many bytes: short ones, and around the most
 /// records.

@@ -1,6 +1,6 @@
 //! Calls that take a list of records and an output, and nothing else.
 
-use crate::edges::{list_lengths, long_lists, rooms, COUNTS};
+use crate::edges::{counts, list_lengths, long_lists, rooms};
 use host::books;
 use host::both::{same_output, Start, MOST};
 use host::engine::{null, null_out, BookAnswer};
@@ -86,7 +86,7 @@ impl List {
         let name = |about| format!("{} ({about})", self.name);
         let most = MOST * self.from;
         tally.group(&name("numbers of records and outputs"), |group| {
-            for count in COUNTS {
+            for count in counts() {
                 self.compare_rooms(group, &bytes[..count * self.from]);
             }
         });
