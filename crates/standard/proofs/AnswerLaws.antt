@@ -187,13 +187,6 @@ module _ (W : Way) (r xs out : List ℕ) where
   pub call-lengths : bookCall W r xs out .0 .refusal ≡ 0 → (length r ≡ ringSize) × (W .to * n ≤ length out)
   call-lengths e = let t = call-tests e .0 in (eqb-true _ _ (t 0), leb-true _ _ (t 3))
 
-  -- what is written fits the output
-  pub written-fits : bookCall W r xs out .0 .refusal ≡ 0 → bookCall W r xs out .0 .written ≤ length out
-  unfolding bookCall written
-  written-fits e =
-      let a = is-accepted (first tests) n g (W .to * n) e in
-      rw (accepted (first tests) n g (W .to * n) (a .0) (a .1)) (call-lengths e .1)
-
   pub call-refuses : (bookCall W r xs out .0 .refusal ≡ 0 → ⊥) → (bookCall W r xs out .0 .written ≡ 0) × (bookCall W r xs out .1 ≡ out)
   unfolding bookCall written
   call-refuses e = (refusal-writes _ _ _ _ e, rw (ne-eqb _ 0 e))

@@ -4,8 +4,7 @@ use mathlib.Core.Bool.{Bool, true, false}
 use mathlib.Core.List.{List, [], _∷_, _++_}
 use mathlib.Core.Path.{_≡_}
 use Prim.Native.Nat.{ℕ, _*_, _/_, _%_, _<_, _≤_}
-use lib.Dec.{eqb}
-use lib.ListN.{length, take}
+use lib.ListN.{length}
 use Rattle.standard.specs.Bytes.{_!_, part, choose}
 use Rattle.standard.specs.Identity.{ta61, ta61⁻¹}
 use Rattle.standard.specs.Lists.{recordAt, each, lengthTests, listTests, answer, written}
@@ -131,10 +130,3 @@ openBook r s out = bookCall (opening r) r s out
 unfoldable pub checkPlain : List ℕ → BookAnswer
 checkPlain p =
     answer (first (lengthTests plainSize (length p))) (length p / plainSize) (λ i. plainFault (recordAt plainSize p i)) 0
-
--- a book opened, and what was written sealed again: the last call's answer and both outputs at exit
-unfoldable pub reseal : (r s plain out : List ℕ) → CountedAnswer × List ℕ × List ℕ
-reseal r s plain out =
-    let o : CountedAnswer × List ℕ = openBook r s plain in
-    let q : CountedAnswer × List ℕ = sealBook r (take (o .0 .written) (o .1)) out in
-    choose (eqb (o .0 .refusal) 0) (q .0, o .1, q .1) (o .0, o .1, out)
