@@ -1,5 +1,8 @@
 """The TAA1 engine for Python hosts, over a shared object made from libengine.a."""
 
+# The structs of the answers are made from a table, so a checker can't know what a call answers.
+# mypy: no-warn-return-any
+
 from __future__ import annotations
 
 import ctypes
@@ -330,7 +333,7 @@ class _Number(ctypes.Structure):
 
 # What C takes for a parameter of each kind; any other kind is C's own type.
 # `bytes` is an input and `bytearray` an output.
-_PASSED = {
+_PASSED: dict[Any, tuple[Any, ...]] = {
     bytes: (c_char_p, c_size_t),
     bytearray: (c_char_p, c_size_t),
     Version: (_Number,),

@@ -9,6 +9,7 @@ searched for one that gives exactly its bytes.
 from __future__ import annotations
 
 from bisect import bisect_left
+from dataclasses import dataclass
 from typing import NamedTuple, Optional
 
 from .desk import Desk
@@ -36,7 +37,8 @@ class Difference(NamedTuple):
     wants: str
 
 
-class Marked(NamedTuple):
+@dataclass(frozen=True)
+class Marked:
     """One record of a candidate's book."""
 
     index: int

@@ -51,9 +51,9 @@ def core_input(desk: Desk, entry: Entry, ring: Ring) -> bytes:
     kinds 2 to 6, its expansion for kind 1."""
     sealing_key = getattr(ring, KINDS[entry.kind].sealing_key)
     if len(sealing_key) == 16:
-        return desk.call("tb3", sealing_key, entry.version, 16)["bytes"]
+        return bytes(desk.call("tb3", sealing_key, entry.version, 16)["bytes"])
     repeated = desk.call("tb1", entry.version, 16)["bytes"]
-    return desk.call("tb4", sealing_key, repeated[:10])["bytes"]
+    return bytes(desk.call("tb4", sealing_key, repeated[:10])["bytes"])
 
 
 def model_answer(desk: Desk, sitting: Sitting, plain: bytes, where: str) -> dict[str, Any]:

@@ -190,11 +190,11 @@ def class_page(sheets: list[Sheet], of: Summary, links: list[str]) -> str:
     """The class: its numbers, pictures, and a line for each candidate."""
     rows = []
     for sheet, link in zip(sheets, links):
-        slips = "; ".join(slip.name for slip in sheet.slips)
+        named = "; ".join(slip.name for slip in sheet.slips)
         name = tag("td", tag("a", escape(sheet.name), href=link))
-        rest = (f"{sheet.right} of {sheet.size}", verdict(sheet).partition("; ")[2], slips)
+        rest = (f"{sheet.right} of {sheet.size}", verdict(sheet).partition("; ")[2], named)
         if sheet.problem:
-            rest = ("-", verdict(sheet), slips)
+            rest = ("-", verdict(sheet), named)
         rows.append(tag("tr", name + "".join(tag("td", escape(cell)) for cell in rest)))
     numbers = (
         f"{of.candidates} candidates: {of.perfect} all right, "

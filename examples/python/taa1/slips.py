@@ -183,7 +183,7 @@ SLIPS: tuple[Slip, ...] = (
     Slip("G and O exchanged", ring=lambda desk, s, r: r._replace(g=r.o, o=r.g)),
     Slip(
         "group key filled with zeros for its TB7 form",
-        ring=lambda desk, s, r: r._replace(g=s.group_key.ljust(16, b"\0")),
+        ring=lambda desk, s, r: r._replace(g=bytes(s.group_key).ljust(16, b"\0")),
     ),
     Slip("root for O", ring=lambda desk, s, r: r._replace(o=s.root)),
     # the entries
