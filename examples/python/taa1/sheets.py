@@ -2,10 +2,13 @@
 
 from __future__ import annotations
 
-from typing import Any, NamedTuple
+from typing import Any, Iterable, NamedTuple
 
-from .mark import Explained, Marked, Sheet
+from .mark import Explained, Marked, Opened, Sheet
 from .records import KINDS
+
+MOST_LINES = 24  # of what is wrong with one book's entries
+MOST_SPANS = 12  # of entries in one line
 
 
 def verdict(sheet: Sheet) -> str:
@@ -19,37 +22,99 @@ def verdict(sheet: Sheet) -> str:
     return f"{sheet.right} of {sheet.size} entries right; {opens}"
 
 
-def fault(entry: Marked) -> str:
-    """What is wrong with an entry, in a few words."""
-    if entry.state == "doubled":
-        return f"is the model's entry {entry.model} again"
-    faults = [f"{d.field} {d.has}, not {d.wants}" for d in entry.differences]
-    if entry.opened and entry.opened.failed:
-        failed = " ".join(map(str, entry.opened.failed))
-        checks = KINDS[entry.opened.kind].checks
-        faults.append(f"seals no key: checks {failed} of {checks} fail")
-    if entry.opened and entry.opened.kind not in KINDS:
+def spans(indexes: Iterable[int]) -> str:
+    """Rising numbers in words: `0 to 3 and 19`; of very many spans, the first ones."""
+    runs: list[list[int]] = []
+    for index in indexes:
+        if runs and index == runs[-1][-1] + 1:
+            runs[-1].append(index)
+        else:
+            runs.append([index])
+    said = []
+    for run in runs[:MOST_SPANS]:
+        said += [f"{run[0]} to {run[-1]}"] if len(run) > 2 else list(map(str, run))
+    more = sum(map(len, runs[MOST_SPANS:]))
+    if more:
+        said.append(f"{more} more")
+    return said[0] if len(said) == 1 else f"{', '.join(said[:-1])} and {said[-1]}"
+
+
+def _entries(indexes: list[int]) -> str:
+    return f"{'entry' if len(indexes) == 1 else 'entries'} {spans(indexes)}"
+
+
+def failed_checks(opened: Opened) -> str:
+    """Which checks of the redundancy fail; bytes are counted from the left."""
+    kind, failed = KINDS[opened.kind], list(opened.failed)
+    if len(failed) == kind.checks:
+        return f"all {kind.checks} checks fail"
+    zero_bits = kind.number == 1 and failed[-1] == kind.checks - 1
+    bytes_ = failed[:-1] if zero_bits else failed
+    said = [f"redundancy byte{'s' * (len(bytes_) > 1)} {spans(bytes_)}"] if bytes_ else []
+    said += ["the three zero bits"] if zero_bits else []
+    fail = "fails" if len(failed) == 1 else "fail"
+    return f"{len(failed)} of {kind.checks} checks {fail}: {' and '.join(said)}"
+
+
+def _like(entry: Marked) -> tuple[Any, ...]:
+    """Entries that are equal in this have one line: what is wrong with them, and how far
+    from the model's entry they stand."""
+    opened = entry.opened
+    failed = failed_checks(opened) if opened and opened.failed else ""
+    no_kind = opened is not None and opened.kind not in KINDS
+    shift = 0 if entry.model is None else entry.model - entry.index
+    return entry.state, shift, entry.differences, failed, no_kind
+
+
+def fault(*entries: Marked) -> str:
+    """What is wrong with an entry, or with each of entries that are alike, in a few words."""
+    state, _, differences, failed, no_kind = _like(entries[0])
+    one = len(entries) == 1
+    if state == "doubled":
+        models = [entry.model for entry in entries if entry.model is not None]
+        return f"{'is' if one else 'are'} the model's {_entries(models)} again"
+    faults = [f"{d.field} {d.has}, not {d.wants}" for d in differences]
+    if failed:
+        faults.append(f"seal{'s' * one} no key: {failed}")
+    if no_kind:
         faults.append("there is no such kind")
-    if entry.state == "extra":
-        faults.insert(0, "one more than the model has")
+    if state == "extra":
+        faults.insert(0, f"{'one ' * one}more than the model has")
     return "; ".join(faults)
+
+
+def faults(sheet: Sheet) -> list[str]:
+    """What is wrong with a book's entries, a line for all that are alike; of very many
+    lines, the first ones."""
+    alike: dict[tuple[Any, ...], list[Marked]] = {}
+    for entry in sheet.entries:
+        if entry.state != "right":
+            alike.setdefault(_like(entry), []).append(entry)
+    groups = list(alike.values())
+    shown = groups if len(groups) <= MOST_LINES else groups[: MOST_LINES - 1]
+    said = []
+    for group in shown:
+        models = [entry.model for entry in group if entry.model is not None]
+        away = group[0].state == "wrong" and models[0] != group[0].index
+        like = f" (the model's {spans(models)})" if away else ""
+        said.append(f"{_entries([entry.index for entry in group])}{like}: {fault(*group)}")
+    more = sum(map(len, groups[len(shown) :]))
+    if more:
+        said.append(f"{more} more entries are wrong: --json and --html list each")
+    return said
 
 
 def others(sheet: Sheet) -> list[str]:
     """What is to be said of a book as a whole."""
     said = []
-    moved = [str(entry.index) for entry in sheet.entries if entry.moved]
+    moved = [entry.index for entry in sheet.entries if entry.moved]
     if moved:
         said.append(f"in another order: {_entries(moved)}")
     if sheet.missing and not sheet.problem:
-        said.append(f"missing: the model's {_entries(list(map(str, sheet.missing)))}")
+        said.append(f"missing: the model's {_entries(list(sheet.missing))}")
     if sheet.left:
         said.append(f"{sheet.left} bytes behind the last whole entry")
     return said
-
-
-def _entries(indexes: list[str]) -> str:
-    return f"{'entry' if len(indexes) == 1 else 'entries'} {' '.join(indexes)}"
 
 
 def explanation(slip: Explained, sheet: Sheet) -> str:
@@ -62,13 +127,7 @@ def explanation(slip: Explained, sheet: Sheet) -> str:
 def sheet_text(sheet: Sheet) -> str:
     """A mark sheet as lines of text."""
     lines = [f"{sheet.name}: {verdict(sheet)}"]
-    for entry in sheet.entries:
-        if entry.state != "right":
-            like = ""
-            if entry.state == "wrong" and entry.model != entry.index:
-                like = f" (the model's {entry.model})"
-            lines.append(f"  entry {entry.index}{like}: {fault(entry)}")
-    lines += [f"  {line}" for line in others(sheet)]
+    lines += [f"  {line}" for line in faults(sheet) + others(sheet)]
     lines += [f"  slip: {explanation(slip, sheet)}" for slip in sheet.slips]
     return "\n".join(lines) + "\n"
 

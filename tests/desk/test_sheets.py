@@ -1,0 +1,128 @@
+"""The words of a mark sheet: which checks fail, and one line for many like entries."""
+
+from __future__ import annotations
+
+import random
+import unittest
+
+from common import DESK, ENTRIES, PLAIN_BOOK, SITTING
+from taa1.mark import Marker, Opened
+from taa1.records import SEALED
+from taa1.sheets import MOST_LINES, failed_checks, sheet_text, spans
+
+MARKER = Marker(DESK, SITTING, PLAIN_BOOK)
+MODEL = MARKER.model
+
+
+def said(*records: bytes) -> list[str]:
+    """The lines of a book's sheet."""
+    return sheet_text(MARKER.mark("book", b"".join(records))).splitlines()
+
+
+def failing(kind: int, *failed: int) -> str:
+    return failed_checks(Opened(kind, 0, 0, None, None, failed))
+
+
+class Words(unittest.TestCase):
+    """What is said, word for word."""
+
+    def test_spans(self) -> None:
+        for words, indexes in (
+            ("7", [7]),
+            ("0 and 1", [0, 1]),
+            ("0 to 2", [0, 1, 2]),
+            ("0 to 3 and 19", [0, 1, 2, 3, 19]),
+            ("0, 1, 3 to 5 and 9", [0, 1, 3, 4, 5, 9]),
+            ("0, 2, 4, 6, 8, 10, 12, 14, 16, 18, 20, 22 and 3 more", list(range(0, 30, 2))),
+        ):
+            self.assertEqual(spans(indexes), words)
+
+    def test_checks(self) -> None:
+        """How many fail, and which: kinds 2 and 5 have the three zero bits for the last."""
+        for words, kind, failed in (
+            ("1 of 5 checks fails: the three zero bits", 2, (4,)),
+            ("1 of 5 checks fails: the three zero bits", 5, (4,)),
+            ("1 of 5 checks fails: redundancy byte 4", 1, (4,)),
+            ("1 of 3 checks fails: redundancy byte 2", 3, (2,)),
+            ("3 of 5 checks fail: redundancy bytes 0 and 2 and the three zero bits", 5, (0, 2, 4)),
+            ("2 of 3 checks fail: redundancy bytes 0 and 1", 4, (0, 1)),
+            ("4 of 5 checks fail: redundancy bytes 0 to 3", 2, (0, 1, 2, 3)),
+            ("all 5 checks fail", 2, (0, 1, 2, 3, 4)),
+            ("all 3 checks fail", 6, (0, 1, 2)),
+        ):
+            self.assertEqual(failing(kind, *failed), words)
+
+    def test_number_above_31(self) -> None:
+        """A number with bits above the fifth fails that check alone."""
+        entry = ENTRIES[2]
+        number = bytes([entry.number | 0x20])  # type: ignore[operator]
+        stretched = b"".join(
+            part + bytes([_xor(part)])
+            for part in _cut(entry.key + number, (2, 3, 3, 3))
+        )
+        text = _core(stretched + b"\0", MARKER.ring.o, entry.version)
+        record = MODEL[2][:6] + text
+        self.assertIn(
+            "  entry 2: seals no key: 1 of 5 checks fails: the three zero bits",
+            said(*MODEL[:2], record, *MODEL[3:]),
+        )
+
+
+class Lines(unittest.TestCase):
+    """Like entries have one line."""
+
+    def test_like(self) -> None:
+        noise = [record[:6] + bytes(15) for record in MODEL]
+        book = [*noise[:2], *MODEL[2:8], *noise[8:10], *MODEL[10:]]
+        self.assertEqual(said(*book)[1:], ["  entries 0, 1, 8 and 9: seal no key: all 5 checks fail"])
+
+    def test_away(self) -> None:
+        """Entries in other places than the model's, all as far away."""
+        noise = [record[:6] + bytes(15) for record in MODEL]
+        lines = said(MODEL[0], *noise[2:4], *MODEL[4:])
+        self.assertIn("  entries 1 and 2 (the model's 2 and 3): seal no key: all 5 checks fail", lines)
+
+    def test_twice(self) -> None:
+        """A book stapled to itself."""
+        lines = said(*MODEL, *MODEL)
+        self.assertEqual(lines[1:], ["  entries 12 to 23: are the model's entries 0 to 11 again"])
+
+    def test_more(self) -> None:
+        extra = [bytes([9]) + MODEL[0][1:], bytes([9]) + MODEL[0][1:]]
+        words = "more than the model has; there is no such kind"
+        self.assertIn(f"  entries 12 and 13: {words}", said(*MODEL, *extra))
+        self.assertIn(f"  entry 12: one {words}", said(*MODEL, extra[0]))
+
+    def test_very_many(self) -> None:
+        """A book of 1,025 records: some lines, and every record is counted."""
+        draw = random.Random(3)
+        entries = [entry._replace(identity=draw.getrandbits(24)) for entry in ENTRIES * 10]
+        marker = Marker(DESK, SITTING, b"".join(entry.data for entry in entries))
+        noise = b"".join(draw.randbytes(SEALED) for _ in range(1025))
+        lines = sheet_text(marker.mark("book", noise)).splitlines()
+        self.assertLess(len(lines), 5 + MOST_LINES)
+        self.assertRegex(lines[MOST_LINES], "[0-9]+ more entries are wrong: --json and --html list each")
+        self.assertLess(max(map(len, lines)), 300)
+        self.assertLess(len(said(*(MODEL * 86)[:1025])), 5 + MOST_LINES)
+
+
+def _xor(part: bytes) -> int:
+    made = 0
+    for byte in part:
+        made ^= byte
+    return made
+
+
+def _cut(data: bytes, lengths: tuple[int, ...]) -> list[bytes]:
+    ends = [sum(lengths[: i + 1]) for i in range(len(lengths))]
+    return [data[end - length : end] for end, length in zip(ends, lengths)]
+
+
+def _core(text: bytes, sealing_key: bytes, version: int) -> bytes:
+    """A text under a sealing key and version: two encryptions, byte 8 dropped."""
+    pair = version.to_bytes(2, "big")
+    key = bytes(byte ^ pair[at % 2] for at, byte in enumerate(sealing_key))
+    left = DESK.call("encrypt", key, text[:8])["bytes"]
+    right = DESK.call("encrypt", key, bytes(a ^ b for a, b in zip(text[8:], left)))["bytes"]
+    out = left + right
+    return out[:7] + out[8:]
