@@ -1,4 +1,4 @@
-// Books filed by column: the first byte of every record, then the second of every record, and so on; and back.
+// Books filed by column: byte 0 of each record, in the records' order, then byte 1 of each, up to the last byte; and back.
 use lists::lengths_and_output;
 use lists::refused;
 use standard::BookAnswer;

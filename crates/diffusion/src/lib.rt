@@ -1,4 +1,4 @@
-// The diffusion tally: each bit of a record's block is flipped in turn, and the output bits that change under HURDLE-II are counted. The
+// The diffusion tally: each bit of a record's block is flipped in turn, and the bits by which HURDLE-II's output changes are counted. The
 // round keys are made once for a record, and the cipher takes four flips side by side.
 use arrays::array8;
 use arrays::array16;

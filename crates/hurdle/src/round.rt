@@ -60,7 +60,7 @@ fn nibbles(t: Four) -> u32
     spread(t.0) + 2 * spread(t.1) + 4 * spread(t.2) + 8 * spread(t.3)
 }
 
-// Bit m of byte n is bit n of T(m+4).
+// Byte n, whose bit m T(m+4) has as bit n.
 pub(crate) fn gather(q: Four, r: Four) -> u32
     ensures { λ y. ⌜ Gathered (q .0) (q .1) (q .2) (q .3) (r .0) (r .1) (r .2) (r .3) y ⌝ }
 {

@@ -1,4 +1,4 @@
-// Prints the inverse of S and the running rotations of the key schedule. Reads nothing.
+// Prints S's inverse and the key schedule's running rotations. Reads nothing.
 use libc::STDERR_FILENO;
 use programs::write_output;
 use tables::TABLES_TEXT;

@@ -135,7 +135,7 @@ comes-back r s plain out br bs e h =
     let room : sealedSize * (length p / plainSize) ≤ length out = omega (arith, sealed-length r hr s bs p (q .1), h) in
     rw (d .writes p (q .1), take-at p (drop (length p) plain) (length p) refl, d .back p (q .1) out room)
 
--- ---- a plain book is well formed exactly if the checks answer 0, and exactly if sealing it into an output long enough does
+-- ---- the checks answer 0 exactly for the well-formed plain books, and so does sealing into an output long enough
 
 pub checks-exactly : (p : List ℕ) → ((i : ℕ) → p ! i < 256) → (checkPlain p .refusal ≡ 0) ↔ WellFormed p
 unfolding checkPlain

@@ -1,4 +1,4 @@
--- Books filed by column (02, 9): the first byte of every record, then the second of every record, and so on; and back.
+-- Books filed by column (02, 9): byte 0 of each record, in the records' order, then byte 1 of each, up to the last byte; and back.
 -- Assumes nothing.
 use mathlib.Core.List.{List, _++_}
 use mathlib.Core.Path.{_≡_}

@@ -22,8 +22,8 @@ use Rattle.standard.specs.declared.Kind.{Kind}
 
 -- ---- one-sided authentication (02, 1)
 
--- with 3 sides the whole answer is 01's recipe: D is TB4 of the keys from TA12(TA11(root, RS), RAND1) and TA22(TA21(root, RS), RAND2), O is
--- TA41(root, RSO), G is TB7 of the group key (02, 4), and both responses are returned with the ring
+-- with 3 sides the whole answer is 01's recipe: the ring is TB4 of both sides' keys, TA41 of the root and RSO, C, and the group key's TB7
+-- form (02, 4), and each side's response stands beside it
 abbrev pub BothSides : Type 0
 BothSides = (root rs rso rand1 rand2 c gk : List ℕ) (rm km : ℕ)
     → let a : Authentication = ta12Call (ta11 root rs) rand1 rm km in
@@ -50,7 +50,7 @@ pub record OneSide : Type 0 where
 
 -- ---- the flag without branches (02, 3)
 
--- 01's flag is clear exactly if every inserted ⊕ byte is right and, for TA52, the number byte's top three bits are zero
+-- 01's flag is clear: each inserted byte is the ⊕ of its group, and the number byte that TA52 finds is below 32
 abbrev pub flagClear : Algorithm → List ℕ → Bool
 flagClear Ta31 u = same (inserted exp1Groups 0 u) (expected exp1Groups 0 u)
 flagClear Ta51 u = same (inserted exp3Groups 0 u) (expected exp3Groups 0 u) && eqb (u ! 13 / 32) 0
@@ -83,7 +83,7 @@ flagFault r t =
     let k : Kind = recordKind t in
     first ((isKnown (kindOf (t ! 0)), wrongKind) ∷ (flagClear (k .algorithm) (opened (form k .key (sealingKey k r) (part 4 2 t)) (part 6 15 t)), flagSet) ∷ [])
 
--- a book is refused in the same cases, with the same number and index, as by 01's flag
+-- by 01's flag every book gets the same answer: it opens, or is refused, with the same number and index
 abbrev pub SameBooks : Type 0
 SameBooks = (r s out : List ℕ)
     → openBook r s out ≡ bookCall (record { size = sealedSize; to = plainSize; fault = flagFault r; look = openLook; convert = openRecord r }) r s out

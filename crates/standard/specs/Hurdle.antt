@@ -63,7 +63,7 @@ T x k (suc j) = S ! ((E x (suc j) ⊞ byte 12 k (suc j)) ⊕ T x k j)
 abbrev pub ofBits : (ℕ → ℕ) → ℕ
 ofBits b = b 0 + 2 * b 1 + 4 * b 2 + 8 * b 3 + 16 * b 4 + 32 * b 5 + 64 * b 6 + 128 * b 7
 
--- bit m of output byte n is bit n of T(m+4) (6.4.3, 6.4.4)
+-- output byte n, whose bit m T(m+4) has as bit n (6.4.3, 6.4.4)
 abbrev pub Y : List ℕ → List ℕ → ℕ → ℕ
 Y x k n = ofBits (λ m. bit n (T x k (m + 4)))
 
@@ -75,7 +75,7 @@ f x k = Y x k 3 ∷ Y x k 2 ∷ Y x k 1 ∷ Y x k 0 ∷ []
 abbrev pub Halves : Type 0
 Halves = List ℕ × List ℕ
 
--- new L is R; new R is L ⊕ f(R, round key)
+-- from (L, R) to (R, L ⊕ f(R, k))
 unfoldable pub round : List ℕ → Halves → Halves
 round k h = (h .1, xors 4 (h .0) (f (h .1) k))
 

@@ -14,8 +14,8 @@ use Rattle.standard.specs.Refusals.{wrongFilling, wrongParent, parentLen
 use Rattle.standard.specs.Sizes.{sheetSize, valueSize}
 use Rattle.standard.specs.declared.BookAnswer.{BookAnswer}
 
--- ---- a record: operation 1, first parent 2, second parent 2, length 1, value 16. Operation 0 is a given key, and 1 to 5 are TA11, TA21,
--- TA41, TB4 and TA71 of the parents, which are record indexes, big-endian
+-- ---- a record: the operation in byte 0, the parents' indexes in two bytes each, big-endian, the length in byte 5, and sixteen bytes of
+-- value. Operation 0 has the key itself; the others derive it from the parents, by TA11 (1), TA21 (2), TA41 (3), TB4 (4) or TA71 (5)
 
 abbrev pub operation : List ℕ → ℕ
 operation p = p ! 0

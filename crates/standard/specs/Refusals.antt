@@ -53,6 +53,14 @@ wrongNumber = 5
 abbrev pub flagSet : ℕ
 flagSet = 6
 
+-- (02, 11) a group of a card has more than one unreadable byte
+abbrev pub groupUnreadable : ℕ
+groupUnreadable = 18
+
+-- (02, 11) a group of a card is readable and disagrees with itself
+abbrev pub groupDisagrees : ℕ
+groupDisagrees = 19
+
 -- ---- the setter's
 
 -- a mask has too few or too many ones
@@ -71,18 +79,6 @@ wrongWidth = 9
 abbrev pub valueWide : ℕ
 valueWide = 10
 
--- ---- the host's
-
--- an input has another length than its call takes
-abbrev pub wrongLength : ℕ
-wrongLength = 11
-
--- the output has fewer bytes than the result
-abbrev pub outputShort : ℕ
-outputShort = 12
-
--- ---- of the requests (02)
-
 -- (02, 1) the number of sides is none of 1, 2 and 3
 abbrev pub wrongSides : ℕ
 wrongSides = 13
@@ -99,17 +95,19 @@ wrongParent = 15
 abbrev pub parentLength : ℕ
 parentLength = 16
 
--- (02, 10) no input of the stated widths gives the result
+-- (02, 10) no values that fit their fields give the result
 abbrev pub noInput : ℕ
 noInput = 17
 
--- (02, 11) a group of a card has more than one unreadable byte
-abbrev pub groupUnreadable : ℕ
-groupUnreadable = 18
+-- ---- the host's
 
--- (02, 11) a group of a card is readable and disagrees with itself
-abbrev pub groupDisagrees : ℕ
-groupDisagrees = 19
+-- an input has another length than its call takes
+abbrev pub wrongLength : ℕ
+wrongLength = 11
+
+-- the output has fewer bytes than the result
+abbrev pub outputShort : ℕ
+outputShort = 12
 
 -- ---- tests
 

@@ -9,7 +9,7 @@ use Rattle.standard.specs.Hurdle.{Halves, round, D, a, rotl, next, encry
 use Rattle.standard.specs.Refusals.{wrongLength, long, first, answer16}
 use Rattle.standard.specs.declared.Bytes16.{Bytes16}
 
--- the step after round i + 1: rotated left by a(i+1) bytes, then ⊕ D
+-- the step after round i + 1, as from one Q to the next: by a(i+1) bytes to the left, then ⊕ D
 abbrev pub step : ℕ → List ℕ → List ℕ
 step i q = next (a ! i) q
 
@@ -73,7 +73,7 @@ pub record StepBack : Type 0 where
   pub undone : (i : ℕ) (q : List ℕ) → i < 16 → length q ≡ 16 → stepBack i (step i q) ≡ q
   pub redone : (i : ℕ) (q : List ℕ) → i < 16 → length q ≡ 16 → step i (stepBack i q) ≡ q
 
--- after sixteen steps the register holds the key again
+-- sixteen steps lead back to the key
 abbrev pub Returns : Type 0
 Returns = (key : List ℕ) → length key ≡ 16 → turned key 16 ≡ key
 
@@ -81,7 +81,7 @@ Returns = (key : List ℕ) → length key ≡ 16 → turned key 16 ≡ key
 abbrev pub BeginsAnew : Type 0
 BeginsAnew = (key : List ℕ) (n : ℕ) → length key ≡ 16 → turned key n ≡ turned key (n % 16)
 
--- both forms agree, for every key and block
+-- either form gives what the other gives, for every block under every key
 pub record SameCipher : Type 0 where
   pub encrypting : (key b : List ℕ) → encryptRegister key b ≡ encrypt key b
   pub decrypting : (key b : List ℕ) → length key ≡ 16 → decryptRegister key b ≡ decrypt key b

@@ -94,7 +94,7 @@ failedOf (d ∷ ds) = choose (eqb d 0) 0 1 + 2 * failedOf ds
 abbrev pub failed : Form → List ℕ → ℕ
 failed F u = failedOf (checks F u)
 
--- the standard's flag is that number being non-zero
+-- 000's flag is clear where no check fails
 abbrev pub clear : Form → List ℕ → Bool
 clear F u = eqb (failed F u) 0
 

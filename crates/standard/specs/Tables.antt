@@ -1,4 +1,4 @@
--- The printed tables (02, 13): the inverse of S and the running rotations of the schedule, and the text that printtables writes.
+-- The printed tables (02, 13): S's inverse, the schedule's running rotations, and the text that printtables writes.
 -- Assumes nothing.
 use mathlib.Core.List.{List, [], _∷_, _++_}
 use mathlib.Core.Path.{_≡_}

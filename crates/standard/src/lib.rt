@@ -35,7 +35,7 @@ pub const TEXT_RUNS: usize = 2;
 
 pub const IDENTITY_RUNS: usize = 1;
 
-// The refusals: the candidate's, the setter's, the host's.
+// The refusals; specs/Refusals has them by who causes them.
 pub const BOOK_TOO_LONG: u32 = 1;
 
 pub const BOOK_NOT_WHOLE: u32 = 2;
@@ -60,7 +60,6 @@ pub const WRONG_LENGTH: u32 = 11;
 
 pub const OUTPUT_SHORT: u32 = 12;
 
-// The refusals of the requests.
 pub const WRONG_SIDES: u32 = 13;
 
 pub const WRONG_FILLING: u32 = 14;

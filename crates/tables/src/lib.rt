@@ -1,4 +1,4 @@
-// The printed tables (02, 13): the inverse of S, made from S, and the running rotations of the schedule, made from the sequence a.
+// The printed tables (02, 13): the inverse, made from S, and the running rotations, made from the sequence a.
 use hurdle::S;
 use register::A;
 use standard::OUTPUT_SHORT;
