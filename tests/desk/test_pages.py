@@ -9,11 +9,13 @@ from pathlib import Path
 from typing import Optional
 
 from common import CLASS, Case, taa1
+from taa1.page import grouped
+from taa1.records import SEALED, split
 
 VOID = {"meta", "rect", "br"}
 ALLOWED = {
     "html", "head", "meta", "title", "style", "body", "h1", "h2", "p", "ul", "li", "a",
-    "table", "thead", "tbody", "tr", "th", "td", "svg", "rect", "text",
+    "header", "h3", "section", "span", "table", "thead", "tbody", "tr", "th", "td", "svg", "rect", "text",
 }  # fmt: skip
 
 
@@ -35,7 +37,7 @@ class Page(HTMLParser):
         self.count[tag] = self.count.get(tag, 0) + 1
         for name, value in attrs:
             assert name in ("class", "lang", "charset", "name", "content", "href", "viewbox", "width",
-                            "height", "role", "x", "y", "fill", "text-anchor"), name
+                            "height", "role", "x", "y", "fill", "text-anchor", "data-head"), name
             if name == "href":
                 self.links.append(value or "")
         if tag not in VOID:
@@ -68,12 +70,13 @@ class Pages(Case):
         path = self.folder / "model.html"
         self.accepted("model", CLASS / "sitting.txt", CLASS / "model.txt", "--html", "-o", path)
         page = Page(path)
-        said = "\n".join(page.texts)
         for line in self.accepted("ring", "--names", CLASS / "sitting.txt").decode().splitlines():
-            self.assertIn(line.split(" = ")[1], said)
-        digits = self.accepted("seal", "--hex", CLASS / "sitting.txt", CLASS / "model.txt").decode().strip()
-        for at in range(0, len(digits), 42):
-            self.assertIn(digits[at + 12 : at + 42], said)
+            self.assertIn(grouped(bytes.fromhex(line.split(" = ")[1])), page.texts)
+        for record in split(self.accepted("seal", CLASS / "sitting.txt", CLASS / "model.txt"), SEALED):
+            self.assertIn(grouped(record[6:]), page.texts)
+            self.assertIn(grouped(record[1:4]), page.texts)
+        for name in ("session key 2 (KS')", "G (EGSKO)", "text (SGSKO)", "encrypted identity (ESI)"):
+            self.assertIn(name, page.texts)
         self.assertEqual(page.links, [])
 
     def test_class(self) -> None:

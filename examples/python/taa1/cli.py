@@ -14,7 +14,7 @@ import subprocess
 import sys
 from typing import Any, Callable, NoReturn, Optional, Sequence
 
-from . import files, pages, texts
+from . import files, names, pages, texts
 from .calls import CALLS, Call, Parameter
 from .desk import Desk, RefusedFile, refusals
 from .engine import Refused
@@ -405,6 +405,14 @@ def _write_pages(folder: str, sheets: list[Sheet]) -> None:
     files.write_file(os.path.join(folder, "index.html"), page.encode())
 
 
+def run_help(args: argparse.Namespace) -> int:
+    """A command's help, or that of a topic: kinds."""
+    if args.topic == ["kinds"]:
+        files.write_out(names.kinds_text().encode())
+        return ACCEPTED
+    return main([*args.topic, "--help"])
+
+
 def run_slips(args: argparse.Namespace) -> int:
     """The names of the slips that marking looks for."""
     _emit_text(args, "".join(f"{slip.name}\n" for slip in SLIPS))
@@ -416,14 +424,14 @@ def run_slips(args: argparse.Namespace) -> int:
 _KINDS: dict[str, tuple[Callable[[str], Any], str, str]] = {
     "bytes": (_bytes, "HEX", "in hexadecimal, or @FILE"),
     "version": (_number, "N", "a version of 16 bits"),
-    "number": (_number, "N", "a key number of 16 bits"),
+    "number": (_number, "N", "a key number"),
     "mask": (_number, "N", "a mask of 16 bits"),
     "value": (_number, "N", "a number"),
     "out": (_number, "N", "bytes of room for the output; as many as it can need by default"),
 }
 
 
-def _option(parser: Parser, parameter: Parameter) -> None:
+def _option(parser: Parser, call: str, parameter: Parameter) -> None:
     """The option for a call's parameter."""
     take, metavar, what = _KINDS[parameter.kind]
     output = parameter.kind == "out"
@@ -431,6 +439,8 @@ def _option(parser: Parser, parameter: Parameter) -> None:
     if parameter.kind == "bytes":
         length = "any number of bytes" if parameter.length is None else f"{parameter.length} bytes"
         what = f"{length} {what}"
+    field = names.parameter_field(call, parameter.name)
+    what = f"{what} ({field})" if field else what
     flag = "--" + name.replace("_", "-")
     parser.add_argument(
         flag, dest=parameter.name, type=take, metavar=metavar, help=what, required=not output
@@ -466,11 +476,11 @@ def parser() -> Parser:
         return made
 
     call = command("call", run_call)
-    names = call.add_subparsers(dest="call", metavar="NAME", required=True)
+    calls = call.add_subparsers(dest="call", metavar="NAME", required=True)
     for each in CALLS.values():
-        made = names.add_parser(each.name, help=each.purpose, description=f"{each.purpose}.")
+        made = calls.add_parser(each.name, help=each.purpose, description=f"{each.purpose}.")
         for parameter in each.parameters:
-            _option(made, parameter)
+            _option(made, each.name, parameter)
         _common(made, json="")
 
     draw = command("draw", run_draw)
@@ -552,6 +562,11 @@ def parser() -> Parser:
     _common(mark, bytes="", json="")
 
     _common(command("slips", run_slips))
+
+    help_ = command("help", run_help)
+    help_.add_argument(
+        "topic", nargs="*", metavar="TOPIC", help="a command, as in call ta51; or kinds"
+    )
     return top
 
 

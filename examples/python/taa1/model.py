@@ -6,6 +6,7 @@ from typing import Any, Optional
 
 from .desk import Desk, refusals
 from .engine import Sitting
+from .names import KIND_NAMES, SIDES, both, field, parameter_field, sealing
 from .records import KINDS, PLAIN, SEALED, Entry, Ring, split, whole
 from .texts import make_ring
 
@@ -78,7 +79,12 @@ def model_answer(desk: Desk, sitting: Sitting, plain: bytes, where: str) -> dict
     return {
         "sitting": sitting._asdict(),
         "keys": [
-            {"name": name, "how": how if sitting.sides & side else IDLE, "value": values[name]}
+            {
+                "name": name,
+                "field_name": field(name),
+                "how": how if sitting.sides & side else IDLE,
+                "value": values[name],
+            }
             for name, how, side in STEPS
         ],
         "entries": [
@@ -93,11 +99,15 @@ def model_answer(desk: Desk, sitting: Sitting, plain: bytes, where: str) -> dict
 
 
 def _entry(desk: Desk, index: int, entry: Entry, record: bytes, ring: Ring) -> dict[str, Any]:
-    kind = KINDS[entry.kind]
+    kind, names = KINDS[entry.kind], KIND_NAMES[entry.kind]
     return {
         "entry": index,
         "kind": entry.kind,
         "call": kind.seal.upper(),
+        "key_name": names.key,
+        "version_name": names.version,
+        "number_name": names.number,
+        "sealed_name": names.sealed,
         "identity": f"{entry.identity:06x}",
         "version": entry.version,
         "key": entry.key,
@@ -111,31 +121,56 @@ def _entry(desk: Desk, index: int, entry: Entry, record: bytes, ring: Ring) -> d
 
 
 def model_text(model: dict[str, Any]) -> str:
-    """The model answer as lines of text."""
+    """The model answer as lines of text, with the field's names beside the desk's."""
     lines = ["sitting"]
-    for name, value in model["sitting"].items():
-        lines.append(f"  {name:14} {sitting_value(name, value)}")
+    for name, value in sitting_values(model["sitting"]):
+        lines.append(f"  {name:14} {parameter_field('ring', name):6} {_shown(value)}")
     lines.append("keys")
     for key in model["keys"]:
         value = "-" if key["value"] is None else key["value"].hex()
-        lines.append(f"  {key['name']:14} {value:32}  {key['how']}")
+        lines.append(f"  {key['name']:14} {key['field_name']:6} {value:32}  {key['how']}")
     lines.append(f"entries, {len(model['entries'])}; {model['runs']} cipher runs")
     for entry in model["entries"]:
-        number = "-" if entry["number"] is None else entry["number"]
         lines += [
-            f"  entry {entry['entry']}: kind {entry['kind']}, {entry['call']} "
-            f"under {entry['sealing_key']}, version {entry['version']}",
-            f"    key            {entry['key'].hex()} number {number}",
-            f"    core key input {entry['core_key_input'].hex()}",
-            f"    identity       {entry['identity']} encrypted {entry['encrypted_identity']}",
-            f"    text           {entry['text'].hex()}",
-            f"    record         {entry['record'].hex()}",
+            f"  entry {entry['entry']}: {entry_title(entry)}",
+            *(
+                f"    {name:24} {_shown(value)}" for name, value in entry_values(entry)
+            ),
         ]
     return "\n".join(lines) + "\n"
 
 
-def sitting_value(name: str, value: Any) -> str:
-    """A sitting's value as its file has it."""
-    if isinstance(value, bytes):
-        return value.hex()
-    return f"{value:04x}" if name.endswith("mask") else str(value)
+def entry_title(entry: dict[str, Any]) -> str:
+    """An entry's kind, what it seals under what, and by which algorithm."""
+    return f"kind {entry['kind']}, {sealing(entry['kind'])} by {entry['call']}"
+
+
+def entry_values(entry: dict[str, Any]) -> list[tuple[str, Any]]:
+    """An entry's values, each with both names."""
+    values = [
+        (f"version ({entry['version_name']})", entry["version"]),
+        (f"number ({entry['number_name']})", entry["number"]),
+        (f"key ({entry['key_name']})", entry["key"]),
+        ("core key input", entry["core_key_input"]),
+        (both("identity"), bytes.fromhex(entry["identity"])),
+        (both("encrypted identity"), bytes.fromhex(entry["encrypted_identity"])),
+        (f"text ({entry['sealed_name']})", entry["text"]),
+        ("record", entry["record"]),
+    ]
+    return [(name, value) for name, value in values if value is not None]
+
+
+def sitting_values(sitting: dict[str, Any]) -> list[tuple[str, Any]]:
+    """A sitting's values with their names; masks as bytes, and what the sides mean."""
+    values = []
+    for name, value in sitting.items():
+        if name == "sides":
+            value = f"{value}: {SIDES[value]}"
+        elif isinstance(value, int):
+            value = value.to_bytes(2, "big")
+        values.append((name, value))
+    return values
+
+
+def _shown(value: Any) -> str:
+    return value.hex() if isinstance(value, bytes) else str(value)

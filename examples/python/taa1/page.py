@@ -1,0 +1,166 @@
+"""What every page of HTML shares: the style, the frame, tables, and bytes in groups.
+
+A page is whole in itself, without script, font or picture from elsewhere. It is black
+on white, prints on A4 and Letter, and below 40 em, as on a phone, the rows of its wide
+tables stand as blocks, each cell behind its head.
+"""
+
+from __future__ import annotations
+
+from html import escape
+from typing import Any, Iterable, NamedTuple, Sequence
+
+STYLE = """
+* { box-sizing: border-box; }
+html { -webkit-text-size-adjust: 100%; }
+body { font: 11pt/1.4 Arial, "Liberation Sans", sans-serif; color: #000; background: #fff;
+  margin: 0 auto; max-width: 60em; padding: 1em; overflow-wrap: break-word; }
+header { border-bottom: 2px solid #000; margin-bottom: 1em; padding-bottom: .4em; }
+header p { margin: 0; }
+h1 { font-size: 1.5em; line-height: 1.2; margin: 0; }
+h2 { font-size: 1.2em; margin: 1.6em 0 .4em; }
+h3 { font-size: 1em; margin: 1.2em 0 .3em; }
+h1, h2, h3, caption { break-after: avoid; break-inside: avoid; }
+p, li { orphans: 3; widows: 3; }
+ul, ol { padding-left: 1.4em; }
+table { border-collapse: collapse; width: 100%; margin: .3em 0 .8em; }
+thead { display: table-header-group; }
+tr { break-inside: avoid; }
+th, td { border-bottom: 1px solid #999; padding: .25em .8em .25em 0; text-align: left;
+  vertical-align: baseline; }
+th { border-bottom: 1.5px solid #000; }
+th:last-child, td:last-child { padding-right: 0; }
+th.number, td.number { text-align: right; font-variant-numeric: tabular-nums; }
+.hex { font-family: "Liberation Mono", "DejaVu Sans Mono", Consolas, monospace; font-size: .9em;
+  line-height: 1.55; }
+td.hex, .keys td:first-child { white-space: nowrap; }
+.pairs th { border-bottom: 1px solid #999; font-weight: normal; white-space: nowrap; width: 1%; }
+section { break-inside: avoid; }
+a { color: inherit; }
+@media screen and (max-width: 40em) {
+  .wide thead { display: none; }
+  .wide tr, .wide td, .wide td.number { display: block; text-align: left; }
+  .wide tr { border-bottom: 1px solid #999; padding: .4em 0; }
+  .wide td { border: 0; padding: 0; }
+  .wide td:first-child { font-weight: bold; }
+  .wide td::before { content: attr(data-head) " "; font: 11pt/1.4 Arial, "Liberation Sans",
+    sans-serif; color: #444; }
+  .wide td:first-child:not(.number)::before { content: none; }
+  td.hex, .keys td:first-child, .pairs th { white-space: normal; }
+}
+@media print {
+  body { font-size: 9.5pt; max-width: none; padding: 0; }
+}
+"""
+
+# The foot of each printed page; a browser that knows no margin boxes leaves it out.
+FOOT = """
+@page { margin: 15mm 15mm 18mm;
+  @bottom-left { content: "%s"; font: 8pt Arial, "Liberation Sans", sans-serif; }
+  @bottom-right { content: counter(page) " of " counter(pages);
+    font: 8pt Arial, "Liberation Sans", sans-serif; } }
+"""
+
+
+class Html(str):
+    """Text that is HTML already."""
+
+
+class Row(NamedTuple):
+    """A row of a table, and its class."""
+
+    cells: Sequence[Any]
+    class_: str = ""
+
+
+def tag(name: str, content: str, **attributes: Any) -> Html:
+    """An element around content that is HTML already; attributes are text, and an empty one
+    is left out."""
+    given = "".join(
+        f' {key.rstrip("_").replace("_", "-")}="{escape(str(value))}"'
+        for key, value in attributes.items()
+        if value != ""
+    )
+    return Html(f"<{name}{given}>{content}</{name}>")
+
+
+def text(name: str, content: str, **attributes: Any) -> Html:
+    """An element around text."""
+    return tag(name, escape(content), **attributes)
+
+
+def grouped(data: bytes) -> str:
+    """Bytes in hexadecimal, in groups of four digits; three, an identity, in one."""
+    digits = data.hex()
+    if len(data) <= 3:
+        return digits
+    return " ".join(digits[at : at + 4] for at in range(0, len(digits), 4))
+
+
+def code(data: bytes) -> Html:
+    """Bytes within a sentence."""
+    return text("span", grouped(data), class_="hex")
+
+
+def _cell(value: Any, head: str, number: bool) -> Html:
+    """A cell: bytes in groups, a column of numbers to the right, text as text."""
+    if isinstance(value, bytes):
+        return text("td", grouped(value), class_="hex", data_head=head)
+    said = value if isinstance(value, Html) else escape("-" if value is None else str(value))
+    return tag("td", said, class_="number" if number else "", data_head=head)
+
+
+def table(heads: Sequence[str], rows: Iterable[Any], class_: str = "") -> Html:
+    """A table; a row is a sequence of cells or a Row. A column of numbers stands to the
+    right with its head; a table of more than two columns is wide."""
+    made = [each if isinstance(each, Row) else Row(each) for each in rows]
+    columns = list(zip(*(each.cells for each in made))) or [()] * len(heads)
+    numbers = [
+        any(isinstance(value, int) for value in column)
+        and all(value is None or isinstance(value, int) for value in column)
+        for column in columns
+    ]
+    head = "".join(
+        text("th", each, class_="number" if number else "") for each, number in zip(heads, numbers)
+    )
+    body = "\n".join(
+        tag("tr", "".join(map(_cell, each.cells, heads, numbers)), class_=each.class_)
+        for each in made
+    )
+    classes = f"{'wide' if len(heads) > 2 else ''} {class_}".strip()
+    return tag("table", tag("thead", tag("tr", head)) + tag("tbody", body), class_=classes)
+
+
+def pairs(rows: Iterable[tuple[str, Any]], class_: str = "") -> Html:
+    """A table of names and values, without heads."""
+    body = "\n".join(
+        tag("tr", text("th", name) + _cell(value, "", False)) for name, value in rows
+    )
+    return tag("table", tag("tbody", body), class_=f"pairs {class_}".strip())
+
+
+def _in_css(said: str) -> str:
+    """Text for a string of the style: all but letters and digits by their numbers."""
+    return "".join(
+        letter if letter.isascii() and letter.isalnum() else f"\\{ord(letter):x} " for letter in said
+    )
+
+
+def page(title: str, *parts: str, above: str = "", style: str = "") -> str:
+    """A page of these parts; `above` stands over its title, and at the foot in print."""
+    foot = FOOT % _in_css(f"{title} · {above}" if above else title)
+    return "\n".join(
+        [
+            "<!DOCTYPE html>",
+            '<html lang="en">',
+            '<head><meta charset="utf-8">',
+            '<meta name="viewport" content="width=device-width, initial-scale=1">',
+            text("title", f"{title} · {above}" if above else title),
+            f"<style>{STYLE}{style}{foot}</style></head>",
+            "<body>",
+            tag("header", (text("p", above) if above else "") + text("h1", title)),
+            *parts,
+            "</body>",
+            "</html>\n",
+        ]
+    )
