@@ -70,12 +70,14 @@ enum taa1_refusal {
     TAA1_ACCEPTED = 0,
 
     /* caused by the candidate */
-    TAA1_BOOK_TOO_LONG = 1,  /* a list is longer than TAA1_MOST_RECORDS records */
-    TAA1_BOOK_NOT_WHOLE = 2, /* its length is not a whole number of records */
-    TAA1_WRONG_KIND = 3,     /* a kind is not 1 to 6 */
-    TAA1_NOT_ZERO = 4,       /* a byte that fills up a body is not zero */
-    TAA1_WRONG_NUMBER = 5,   /* a kind 2 or 5 number is above 31 */
-    TAA1_FLAG_SET = 6,       /* the flag is set while a book is opened */
+    TAA1_BOOK_TOO_LONG = 1,     /* a list is longer than TAA1_MOST_RECORDS records */
+    TAA1_BOOK_NOT_WHOLE = 2,    /* its length is not a whole number of records */
+    TAA1_WRONG_KIND = 3,        /* a kind is not 1 to 6 */
+    TAA1_NOT_ZERO = 4,          /* a byte that fills up a body is not zero */
+    TAA1_WRONG_NUMBER = 5,      /* a kind 2 or 5 number is above 31 */
+    TAA1_FLAG_SET = 6,          /* the flag is set while a book is opened */
+    TAA1_GROUP_UNREADABLE = 18, /* two bytes or more of a card's group are unreadable */
+    TAA1_GROUP_DISAGREES = 19,  /* a card's group is readable, and its xor is not zero */
 
     /* caused by the setter */
     TAA1_WRONG_MASK = 7,     /* a mask has too few or too many ones */
@@ -86,15 +88,11 @@ enum taa1_refusal {
     TAA1_WRONG_FILLING = 14, /* a sheet's operation is above 5, or its record wrongly filled */
     TAA1_WRONG_PARENT = 15,  /* a parent's index is not below that of its own record */
     TAA1_PARENT_LENGTH = 16, /* a parent has another length than the operation takes */
-    TAA1_NO_INPUT = 17,      /* no input of the stated widths gives the result */
+    TAA1_NO_INPUT = 17,      /* no values that fit their fields give the result */
 
     /* caused by the host */
     TAA1_WRONG_LENGTH = 11, /* an input has another length than its call takes */
-    TAA1_OUTPUT_SHORT = 12, /* the output is shorter than the result */
-
-    /* of a smudged card */
-    TAA1_GROUP_UNREADABLE = 18, /* a group has more than one unreadable byte */
-    TAA1_GROUP_DISAGREES = 19   /* a group is readable, and its xor is not zero */
+    TAA1_OUTPUT_SHORT = 12  /* the output is shorter than the result */
 };
 
 /* What a refusal means, in the words of the programs. */
@@ -225,9 +223,10 @@ typedef struct {
 } taa1_card;
 
 /*
- * The index: in a refused book or sheet, that of the first offending record (0 for
- * 1, 2, 11 and 12); in an accepted one, how many records it has. For a class it is 0 on
- * every refusal, else how many challenges there are.
+ * The index: of an accepted list (a book, its columns, a sheet, a class of
+ * challenges) how many records it has; in a refused book or sheet, that of the first
+ * offending record, and 0 for 1, 2, 11 and 12. For columns and for a class it is 0 on
+ * every refusal.
  */
 typedef struct {
     uint32_t refusal;
@@ -410,8 +409,8 @@ taa1_bytes16 taa1_ta101(const uint8_t *ks, size_t ks_length,
 /* ---- TB1 to TB7: keys mixed without the cipher ---- */
 
 /*
- * Copies of the value, each of a width of 16 to 32 bits: the leftmost 128 bits of
- * as many as that takes.
+ * The value over and over, each copy as many bits wide as the width says, 16 to 32:
+ * the leftmost 128 bits of that.
  */
 taa1_bytes16 taa1_tb1(uint64_t value, uint64_t width);
 
@@ -426,7 +425,7 @@ taa1_bytes16 taa1_tb3(const uint8_t *input, size_t input_length,
 taa1_bytes10 taa1_tb4(const uint8_t *input1, size_t input1_length,
                       const uint8_t *input2, size_t input2_length);
 
-/* A cipher key [10] for one cell: location area 14 bits, carrier 12, colour code 6. */
+/* A cipher key [10] for one cell: 14 bits of location area, 12 of carrier, 6 of colour code. */
 taa1_bytes10 taa1_tb5(const uint8_t *cipher_key, size_t cipher_key_length,
                       uint64_t location_area, uint64_t carrier, uint64_t colour_code);
 
@@ -439,9 +438,9 @@ taa1_bytes16 taa1_tb7(const uint8_t *group_key, size_t group_key_length);
 
 /*
  * A card [16] that has a group key in its TB7 form, with some bytes unreadable:
- * bit i of the mask is set where byte i is, and byte 0 is rightmost. One unreadable
- * byte in a group of four is restored from the other three. The answer is the key
- * and the whole card; what stands at the unreadable places is not looked at.
+ * bit i of the mask is set where byte i is, and byte 0 is rightmost. Where a group of
+ * four lacks one, the other three give it. The answer is the key and the whole card;
+ * what stands at the unreadable places is not looked at.
  */
 taa1_card taa1_restore_card(const uint8_t *card, size_t card_length, uint16_t unreadable);
 
@@ -518,12 +517,13 @@ taa1_book_answer taa1_check_plain(const uint8_t *plain, size_t plain_length);
 /*
  * ---- Lineage sheets: a tree of keys, up to TAA1_MOST_RECORDS ----
  *
- * A record has 22 bytes: operation (1), first parent (2), second parent (2), length
- * (1), value (16). Operation 0 is a given key: both parents zero, length 10 or 16,
- * and zero bytes behind the key. Operations 1 to 5 are TA11, TA21, TA41, TB4 and
- * TA71 of two records before it, the parents, whose indexes have the high byte
- * first; length and value are zero. 1 to 3 take a key [16] and a key [10] and give
- * 16 bytes, 4 and 5 take two keys [10] and give 10.
+ * A record has 22 bytes: the operation, the indexes of its two parents (two bytes
+ * each, the high one first), a length, and a value [16]. Operation 0 has the key
+ * itself as the value, 10 or 16 bytes as the length says, with zeros behind it and
+ * as the parents. The others derive the key from the parents, two records before
+ * it, and have zeros as length and value: 1 by TA11, 2 by TA21 and 3 by TA41, from
+ * a key [16] and a key [10] to one of 16 bytes; 4 by TB4 and 5 by TA71, from two
+ * keys [10] to one of 10.
  */
 
 /* The key of each record; writes TAA1_SHEET_VALUE_BYTES for each, zeros behind a key [10]. */
@@ -531,7 +531,7 @@ taa1_book_answer taa1_lineage(const uint8_t *sheet, size_t sheet_length,
                               uint8_t *out, size_t out_length);
 
 /*
- * ---- Books filed by column: the first byte of every record, then the second of every record, .. ----
+ * ---- Books filed by column: byte 0 of each record, in their order, then byte 1 of each, .. ----
  *
  * Each call takes up to TAA1_MOST_RECORDS, whose contents are not looked at, and
  * writes as many bytes as it takes.

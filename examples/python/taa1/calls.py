@@ -128,7 +128,7 @@ _ALL = (
         "ta12_class",
         "book_answer",
         (_SESSION_KEY, _bytes("challenges"), *_MASKS, _out(14)),
-        "ta12 for each of up to 1,024 challenges of 10 bytes",
+        "ta12 for each challenge of a class, up to 1,024",
     ),
     Call("ta31", "bytes15", (_CIPHER_KEY, _VERSION, _SEALING10), "a cipher key, sealed: kind 1"),
     Call("ta32", "unsealed", (_TEXT, _SEALING10, _VERSION), "the cipher key that ta31 sealed"),

@@ -309,7 +309,7 @@ def run_diffusion(args: argparse.Namespace) -> int:
 
 
 def run_schedule(args: argparse.Namespace) -> int:
-    """The register turning, round by round, until the key is back."""
+    """The key schedule's register and round key, round by round."""
     desk = Desk()
     with refusals("schedule"):
         turns = [desk.call("register", args.key, steps)["bytes"] for steps in range(17)]

@@ -166,7 +166,7 @@ class Sitting(NamedTuple):
     """What a ring is made from.
 
     A root of 16 bytes, five strings of 10, a group key of 12, the number of sides (1
-    for TA12 alone, 2 for TA22 alone, 3 for both) and two masks.
+    where TA12 runs, 2 where TA22 does, 3 where both do) and two masks.
     """
 
     root: Bytes
@@ -643,8 +643,9 @@ class Engine:
     def restore_card(self, card: Bytes, unreadable: int) -> Card:
         """The key and the whole card of 16 bytes, of which some are unreadable.
 
-        Bit i of the mask is set where byte i is, and byte 0 is rightmost. One in a
-        group of four is restored from the other three, and not looked at.
+        Bit i of the mask is set where byte i is, and byte 0 is rightmost. Where a
+        group of four lacks one, the other three give it; what stands in its place is
+        not looked at.
         """
         return self._call("restore_card", card, unreadable)
 
@@ -676,8 +677,7 @@ class Engine:
     def plain_to_columns(self, plain: Bytes) -> Book:
         """A plain book by column, whose contents are not looked at.
 
-        First the first byte of every record, then the second of every record, and
-        so on.
+        Byte 0 of each record, in their order, then byte 1 of each, up to the last.
         """
         return self._book("plain_to_columns", PLAIN_RECORD_BYTES, plain)
 

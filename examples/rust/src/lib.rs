@@ -79,7 +79,7 @@ pub struct Sitting<'a> {
     pub rand2: &'a [u8],
     pub c: &'a [u8],
     pub group_key: &'a [u8],
-    /// 1 for TA12 alone, 2 for TA22 alone, 3 for both.
+    /// 1 where TA12 runs, 2 where TA22 does, 3 where both do.
     pub sides: u64,
     pub response_mask: u16,
     pub key_mask: u16,
@@ -386,8 +386,8 @@ pub fn tb4(input1: &[u8], input2: &[u8]) -> Result<[u8; 10], Refusal> {
     bytes(call!(tb4([input1], [input2])))
 }
 
-/// A cipher key of 10 bytes for one cell: location area 14 bits, carrier 12,
-/// colour code 6.
+/// A cipher key of 10 bytes for one cell: 14 bits of location area, 12 of carrier,
+/// 6 of colour code.
 pub fn tb5(
     cipher_key: &[u8],
     location_area: u64,
@@ -446,8 +446,8 @@ pub fn tb6_inverse(cipher_key: &[u8], result: &[u8]) -> Result<CarrierIdentity, 
 }
 
 /// The key and the whole card of 16 bytes, of which some are unreadable: bit i of
-/// the mask is set where byte i is, and byte 0 is rightmost. One in a group of four
-/// is restored from the other three, and not looked at.
+/// the mask is set where byte i is, and byte 0 is rightmost. Where a group of four
+/// lacks one, the other three give it; what stands in its place is not looked at.
 pub fn restore_card(card: &[u8], unreadable: u16) -> Result<Card, Refusal> {
     let answer = call!(restore_card([card], unreadable));
     Refusal::test(answer.refusal)?;
@@ -521,8 +521,8 @@ pub fn lineage(sheet: &[u8]) -> Result<Vec<[u8; SHEET_VALUE_BYTES]>, BookRefusal
     Ok(values.chunks_exact(SHEET_VALUE_BYTES).map(one).collect())
 }
 
-/// A plain book by column: the first byte of every record, then the second of
-/// every record, and so on. The contents are not looked at.
+/// A plain book by column: byte 0 of each record, in their order, then byte 1 of
+/// each, up to the last. The contents are not looked at.
 pub fn plain_to_columns(plain: &[u8]) -> Result<Book, BookRefusal> {
     let mut out = vec![0; plain.len()];
     let answer = call!(plain_to_columns([plain], { out }));

@@ -243,7 +243,7 @@ fn counted(call: impl FnOnce() -> Result<(usize, usize), Refusal>) -> CountedAns
     }
 }
 
-/// The records of a well-formed plain book.
+/// A plain book's records, if it is well formed.
 fn records(plain: &[u8]) -> Result<Vec<Record>, Refusal> {
     count(plain.len(), PLAIN)?;
     let one = |(index, bytes)| {

@@ -2,7 +2,7 @@
 
 use crate::books::{answer, count, room, BookAnswer, PLAIN, SEALED};
 
-/// The first byte of every record, then the second of every record, and so on.
+/// Byte 0 of each record, in their order, then byte 1 of each, up to the last.
 fn by_column(records: &[u8], size: usize) -> Vec<u8> {
     let column = |place| records.iter().skip(place).step_by(size);
     (0..size).flat_map(column).copied().collect()
