@@ -147,14 +147,14 @@ class Working(unittest.TestCase):
         self.assertEqual(ta31.output, PLAIN_STEPS.text(ENTRIES[0], ring))
         self.assertEqual(
             [step.name for step in ta31.steps],
-            ["version repeated", "sealing key ⊕ version", "EXP4", "EXP1", "zero byte behind", "BL1",
+            ["EXP1", "zero byte behind", "version repeated", "sealing key ⊕ version", "EXP4", "BL1",
              "byte 8 dropped"],
         )  # fmt: skip
         self.assertEqual(PLAIN_STEPS.trace, [])
         altered = Steps(DESK, {"last_byte": lambda steps, inserted: 0}, trace=True)
         self.assertEqual(altered.exp2(bytes(range(10)))[15], 0)
         inner = [step.name for step in altered.trace[0].steps]
-        self.assertEqual(inner, ["EXP2's last byte", "EXP1"])
+        self.assertEqual(inner, ["EXP1", "EXP2's last byte"])
 
 
 if __name__ == "__main__":

@@ -216,8 +216,8 @@ class Steps:
 
     def exp2(self, data: bytes) -> bytes:
         """EXP1, then the last byte."""
-        last = self.last_byte([xored(pair) for pair in groups(data, PAIRS)])
-        return self.exp1(data) + bytes([last])
+        expanded = self.exp1(data)
+        return expanded + bytes([self.last_byte([xored(pair) for pair in groups(data, PAIRS)])])
 
     def last_byte(self, inserted_bytes: list[int]) -> int:
         """The sum of EXP1's five ⊕ bytes."""
@@ -334,8 +334,9 @@ class Steps:
     def ta31(self, cipher_key: bytes, version: int, sealing_key: bytes) -> bytes:
         """Kind 1."""
         self.algorithm = "TA31"
+        data = self.zero_behind(self.exp1(cipher_key))
         key = self.exp4(self.core_key(sealing_key, self.repeated(version, 5)))
-        return self.dropped(self.bl1(key, self.zero_behind(self.exp1(cipher_key))))
+        return self.dropped(self.bl1(key, data))
 
     def ta51(self, cipher_key: bytes, version: int, sealing_key: bytes, number: int) -> bytes:
         """Kinds 2 and 5."""
@@ -500,8 +501,8 @@ class Steps:
     def ta32(self, text: bytes, sealing_key: bytes, version: int) -> Unsealed:
         """Kind 1."""
         self.algorithm = "TA32"
-        key = self.exp4(self.core_key(sealing_key, self.repeated(version, 5)))
-        data = self.bl2(key, self.zero_back(text))
+        block = self.zero_back(text)
+        data = self.bl2(self.exp4(self.core_key(sealing_key, self.repeated(version, 5))), block)
         return Unsealed(self.shrunk(data, PAIRS), None, self.failed(data, PAIRS))
 
     def ta52(self, text: bytes, sealing_key: bytes, version: int) -> Unsealed:
@@ -526,8 +527,8 @@ class Steps:
         return Unsealed(self.shrunk(data, FOURS), None, self.failed(data, FOURS))
 
     def _unsealed(self, text: bytes, sealing_key: bytes, version: int) -> bytes:
-        key = self.core_key(sealing_key, self.repeated(version, 8))
-        return self.bl2(key, self.zero_back(text))
+        block = self.zero_back(text)
+        return self.bl2(self.core_key(sealing_key, self.repeated(version, 8)), block)
 
     def fields(self, record: bytes) -> tuple[int, bytes, int, bytes]:
         """What opening takes from the sealed record: kind, identity, version, text."""
