@@ -53,8 +53,26 @@ class Sittings(Case):
 
     def test_no_sitting_is_replaced(self) -> None:
         name = self.file("sitting.txt", "the examination's\n")
-        self.fails(2, f"{name}: it is there already, and draw replaces no sitting", "draw", "-o", name)
+        self.fails(2, f"{name}: it is there already, and draw replaces no file", "draw", "-o", name)
         self.assertEqual(name.read_text(), "the examination's\n")
+
+    def test_heading(self) -> None:
+        """Title and date stay in names; makering's bytes have none."""
+        self.file("f", "title = Winter = 2\nDATE = 3 December # a Wednesday\n" + NAMED)
+        said = self.accepted("sitting", "--names", "f", cwd=self.folder).decode()
+        wanted = "title         = Winter = 2\ndate          = 3 December\n" + NAMED
+        self.assertEqual(said, wanted)
+        self.assertEqual(self.accepted("sitting", "f", cwd=self.folder), sitting_bytes(SITTING))
+        said = self.accepted("draw", "--title", "Grüße ", "--date", "2025-12-03").decode()
+        lines = said.splitlines()[:2]
+        self.assertEqual(lines, ["title         = Grüße", "date          = 2025-12-03"])
+        self.file("f", NAMED + "title =\ndate = 1\ndate = 2\n")
+        both = "f, line 11: title: no words\ntaa1: f, line 13: date for the second time, after line 12"
+        self.fails(2, both, "sitting", "f", cwd=self.folder)
+        for words in ("a # b", " ", "a\nb"):
+            done = taa1("draw", "--title", words)
+            self.assertEqual((done.status, done.out), (2, b""))
+            self.assertIn("no line of words without #", done.error)
 
     def test_bad_lines(self) -> None:
         for error, text in (

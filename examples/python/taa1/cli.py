@@ -14,15 +14,15 @@ import subprocess
 import sys
 from typing import Any, Callable, NoReturn, Optional, Sequence
 
-from . import files, names, pages, texts
+from . import draw, files, names, pages, texts
 from .calls import CALLS, Call, Parameter
 from .desk import Desk, RefusedFile, refusals
-from .engine import Refused
+from .engine import MOST_RECORDS, Refused
 from .files import STANDARD, Problem, place, shown
 from .library import PACKAGE, LibraryError, repository
 from .mark import Marker, Sheet
 from .model import model_answer, model_text
-from .records import PLAIN, RING
+from .records import KINDS, PLAIN, RING
 from .sheets import sheet_json, sheet_text, summary, summary_text
 from .slips import SLIPS
 
@@ -70,6 +70,36 @@ def _bytes(text: str) -> bytes:
         return files.from_hex(text, "the value")
     except Problem as problem:
         raise argparse.ArgumentTypeError(str(problem)) from None
+
+
+def _words(text: str) -> str:
+    """Words for a line of a sitting's text."""
+    if text.strip() and text.isprintable() and "#" not in text:
+        return text.strip()
+    raise argparse.ArgumentTypeError(f"{shown(text)!r} is no line of words without #")
+
+
+def _kinds(text: str) -> list[int]:
+    """A list of kinds."""
+    words = text.split(",")
+    bad = [word for word in words if word.strip() not in map(str, KINDS)]
+    if bad or len(words) > MOST_RECORDS:
+        raise argparse.ArgumentTypeError(
+            f"a kind is 1 to {max(KINDS)}, not {bad[0][:20]!r}" if bad
+            else f"{len(words):,} kinds, where a book has at most {MOST_RECORDS:,} entries"
+        )
+    return [int(word) for word in words]
+
+
+def _entries(text: str) -> int:
+    """A number of entries that has room for every kind."""
+    number = _number(text)
+    if len(KINDS) <= number <= MOST_RECORDS:
+        return number
+    raise argparse.ArgumentTypeError(
+        f"{number} entries: with every kind in it a book has {len(KINDS)} to {MOST_RECORDS:,};"
+        " --kinds draws others"
+    )
 
 
 def _once(*names: str) -> None:
@@ -146,31 +176,31 @@ def run_call(args: argparse.Namespace) -> int:
 
 
 def run_draw(args: argparse.Namespace) -> int:
-    """A sitting from the system's randomness."""
+    """A sitting, or a model book, from the system's randomness."""
     if args.output != STANDARD and os.path.isfile(args.output):
-        raise Problem(f"{shown(args.output)}: it is there already, and draw replaces no sitting")
-    bits = secrets.SystemRandom().sample(range(16), 14)
-    numbers = {
-        "sides": args.sides or 1 + secrets.randbelow(3),
-        "response_mask": sum(1 << bit for bit in bits[:4]),
-        "key_mask": sum(1 << bit for bit in bits[4:]),
-    }
-    data = b"".join(
-        numbers[name.name].to_bytes(name.length, "big")
-        if name.number
-        else secrets.token_bytes(name.length)
-        for name in texts.SITTING
-    )
-    Desk().call("ring", *texts.sitting_of(data))
-    _emit_text(args, texts.format_names(texts.SITTING, data))
+        raise Problem(f"{shown(args.output)}: it is there already, and draw replaces no file")
+    given = [name for name in ("sides", "title", "date", "kinds", "entries") if getattr(args, name)]
+    wrong = [name for name in given if (name in ("kinds", "entries")) is not args.book]
+    if wrong:
+        what = "a sitting, and --book draws none" if args.book else "a book: draw --book"
+        raise Problem(f"draw: --{wrong[0]} is for {what}")
+    if args.book:
+        kinds = args.kinds or draw.draw_kinds(args.entries or draw.ENTRIES)
+        plain = draw.draw_book(kinds)
+        Desk().call("check_plain", plain)
+        _emit_text(args, texts.format_lines(plain))
+    else:
+        data = draw.draw_sitting(args.sides)
+        Desk().call("ring", *texts.sitting_of(data))
+        _emit_text(args, texts.format_sitting(data, texts.Heading(args.title or "", args.date or "")))
     return ACCEPTED
 
 
 def run_sitting(args: argparse.Namespace) -> int:
     """A sitting's names to bytes, and back."""
-    sitting = texts.read_sitting(args.file)
+    sitting, heading = texts.read_headed(args.file)
     if args.names:
-        _emit_text(args, texts.format_names(texts.SITTING, texts.sitting_bytes(sitting)))
+        _emit_text(args, texts.format_sitting(texts.sitting_bytes(sitting), heading))
     else:
         _emit(args, texts.sitting_bytes(sitting))
     return ACCEPTED
@@ -483,9 +513,22 @@ def parser() -> Parser:
             _option(made, each.name, parameter)
         _common(made, json="")
 
-    draw = command("draw", run_draw)
-    draw.add_argument("--sides", type=int, choices=(1, 2, 3), help="drawn, too, by default")
-    _common(draw)
+    drawing = command("draw", run_draw)
+    drawing.add_argument("--sides", type=int, choices=(1, 2, 3), help="drawn, too, by default")
+    drawing.add_argument("--title", type=_words, metavar="WORDS", help="the sitting's title")
+    drawing.add_argument("--date", type=_words, metavar="WORDS", help="the sitting's date")
+    drawing.add_argument("--book", action="store_true", help="draw a model book, not a sitting")
+    which = drawing.add_mutually_exclusive_group()
+    which.add_argument(
+        "--kinds", type=_kinds, metavar="LIST", help="of the book's entries, as in 1,1,2,5"
+    )
+    which.add_argument(
+        "--entries",
+        type=_entries,
+        metavar="N",
+        help=f"so many entries, every kind among them; default: {draw.ENTRIES}",
+    )
+    _common(drawing)
 
     sitting = command("sitting", run_sitting)
     sitting.add_argument("--names", action="store_true", help="write names, not bytes")

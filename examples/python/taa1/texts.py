@@ -18,11 +18,25 @@ DIGITS = frozenset("0123456789abcdefABCDEF")
 
 
 class Name(NamedTuple):
-    """A name of a text: a string of so many bytes, or a number that fills them."""
+    """A name of a text: a string of so many bytes, or a number that fills them; or words,
+    which may be missing."""
 
     name: str
     length: int
     number: bool = False
+    words: bool = False
+
+
+class Heading(NamedTuple):
+    """What a sitting is called, and its date, in its setter's words."""
+
+    title: str = ""
+    date: str = ""
+
+    @property
+    def line(self) -> str:
+        """Both in a line."""
+        return ", ".join(filter(None, self))
 
 
 _NUMBERS = {"value": 1, "mask": 2}  # bytes in a sitting's file
@@ -31,6 +45,7 @@ SITTING = tuple(
     Name(p.name, p.length or _NUMBERS[p.kind], p.kind in _NUMBERS) for p in CALLS["ring"].parameters
 )
 SITTING_BYTES = sum(name.length for name in SITTING)
+HEADING = tuple(Name(name, 0, words=True) for name in Heading._fields)
 RING_NAMES = (Name("d", 10), Name("o", 16), Name("c", 10), Name("g", 16))
 RESPONSES = (Name("response1", 4), Name("response2", 4))
 RING_MADE_BYTES = RING + 8
@@ -55,6 +70,10 @@ def text_of(data: bytes, where: str) -> str:
 
 def _value(name: Name, text: str) -> bytes:
     """The bytes that a line gives to a name. Raises ValueError."""
+    if name.words:
+        if not text.strip():
+            raise ValueError("no words")
+        return text.strip().encode()
     digits = "".join(text.split())
     bad = sorted(set(digits) - DIGITS)
     if bad:
@@ -72,7 +91,8 @@ def _value(name: Name, text: str) -> bytes:
 
 
 def parse_names(text: str, wanted: tuple[Name, ...], where: str) -> dict[str, bytes]:
-    """The values of a text with a line `name = hexadecimal` for each wanted name."""
+    """The values of a text with a line `name = hexadecimal` for each wanted name, or
+    `name = words`."""
     names = {name.name: name for name in wanted}
     found: dict[str, bytes] = {}
     at: dict[str, int] = {}
@@ -93,7 +113,7 @@ def parse_names(text: str, wanted: tuple[Name, ...], where: str) -> dict[str, by
                 found[key] = _value(names[key], right)
             except ValueError as error:
                 wrong.append(f"{where}, line {number}: {key}: {error}")
-    wrong += [f"{where}: no line for {name}" for name in names if name not in at]
+    wrong += [f"{where}: no line for {n.name}" for n in wanted if n.name not in at and not n.words]
     if wrong:
         raise Problem(*wrong)
     return found
@@ -130,21 +150,34 @@ def sitting_bytes(sitting: Sitting) -> bytes:
     )
 
 
-def parse_sitting(data: bytes, where: str) -> Sitting:
-    """The sitting in a file's content: names, or the bytes that makering reads, also
-    in hexadecimal."""
+def format_sitting(data: bytes, heading: Heading = Heading()) -> str:
+    """The text of a sitting in bytes, with its heading in front."""
+    wide = max(len(name.name) for name in SITTING)
+    words = [f"{name:{wide}} = {said}\n" for name, said in heading._asdict().items() if said]
+    return "".join(words) + format_names(SITTING, data)
+
+
+def parse_sitting(data: bytes, where: str) -> tuple[Sitting, Heading]:
+    """The sitting in a file's content, and its heading: names, or the bytes that makering
+    reads, also in hexadecimal, which have no heading."""
     if is_text(data) and b"=" not in data:
         data = from_hex(data.decode(), where)
     if len(data) == SITTING_BYTES and not is_text(data):
-        return sitting_of(data)
+        return sitting_of(data), Heading()
     if b"=" not in data:
         raise Problem(f"{where}: {len(data)} bytes, where a sitting has {SITTING_BYTES} or names")
-    values = parse_names(text_of(data, where), SITTING, where)
-    return sitting_of(b"".join(values[name.name] for name in SITTING))
+    values = parse_names(text_of(data, where), SITTING + HEADING, where)
+    words = (values.get(name.name, b"").decode() for name in HEADING)
+    return sitting_of(b"".join(values[name.name] for name in SITTING)), Heading(*words)
 
 
 def read_sitting(name: str) -> Sitting:
     """The sitting in a file."""
+    return read_headed(name)[0]
+
+
+def read_headed(name: str) -> tuple[Sitting, Heading]:
+    """The sitting in a file, and its heading."""
     return parse_sitting(read(name), place(name))
 
 
@@ -169,7 +202,7 @@ def read_ring(desk: Desk, name: str) -> Ring:
     elif len(data) != SITTING_BYTES and b"=" not in data:
         lengths = f"a ring has {RING} or {RING_MADE_BYTES}, a sitting {SITTING_BYTES} or names"
         raise Problem(f"{where}: {len(data)} bytes, where {lengths}")
-    return Ring.of(make_ring(desk, parse_sitting(data, where), where)["ring"])
+    return Ring.of(make_ring(desk, parse_sitting(data, where)[0], where)["ring"])
 
 
 def make_ring(desk: Desk, sitting: Sitting, where: str) -> dict[str, bytes]:

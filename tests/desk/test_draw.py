@@ -1,0 +1,75 @@
+"""Drawn model books: well formed, within their limits, never the same twice."""
+
+from __future__ import annotations
+
+from common import CLASS, Case
+from taa1.draw import draw_book, draw_kinds
+from taa1.names import KIND_NAMES
+from taa1.records import KINDS, PLAIN, Entry, split
+
+
+class Books(Case):
+    """taa1 draw --book."""
+
+    def drawn(self, *options: object) -> list[Entry]:
+        """The entries of a book that is drawn."""
+        made = self.accepted("draw", "--book", *options)
+        plain = self.accepted("book", stdin=made)
+        self.assertEqual(self.accepted("list", stdin=plain), made)
+        return [Entry.of(record) for record in split(plain, PLAIN)]
+
+    def test_kinds(self) -> None:
+        entries = self.drawn("--kinds", "1,1,2,5, 4")
+        self.assertEqual([entry.kind for entry in entries], [1, 1, 2, 5, 4])
+        self.assertEqual(len({entry.key for entry in entries}), 5)
+
+    def test_entries(self) -> None:
+        for options, count in (((), 12), (("--entries", 6), 6), (("--entries", 1024), 1024)):
+            entries = self.drawn(*options)
+            self.assertEqual(len(entries), count)
+            self.assertEqual({entry.kind for entry in entries}, set(KINDS))
+            self.assertEqual(len({entry.identity for entry in entries}), count)
+
+    def test_limits(self) -> None:
+        """Numbers, versions and identities reach over their ranges, and not beyond."""
+        entries = [Entry.of(r) for r in split(draw_book(draw_kinds(1024) * 20), PLAIN)]
+        for kind, names in KIND_NAMES.items():
+            found = [entry.number or 0 for entry in entries if entry.kind == kind and names.number]
+            self.assertTrue(all(number <= names.highest for number in found))
+            if names.highest == 31:
+                self.assertEqual(set(found), set(range(32)))
+            elif names.number:
+                self.assertGreater(max(found), 60000)
+        for values, bits in (([e.version for e in entries], 16), ([e.identity for e in entries], 24)):
+            self.assertGreater(max(values), 7 << bits - 3)
+            self.assertLess(min(values), 1 << bits - 3)
+
+    def test_seals(self) -> None:
+        name = self.folder / "book.txt"
+        self.accepted("draw", "--book", "-o", name)
+        sealed = self.accepted("seal", CLASS / "sitting.txt", name)
+        opened = self.accepted("open", "--lines", CLASS / "sitting.txt", stdin=sealed)
+        self.assertEqual(opened, name.read_bytes())
+
+    def test_replaces_nothing(self) -> None:
+        name = self.file("book.txt", "the examination's\n")
+        said = f"{name}: it is there already, and draw replaces no file"
+        self.fails(2, said, "draw", "--book", "-o", name)
+        self.assertEqual(name.read_text(), "the examination's\n")
+
+    def test_bad(self) -> None:
+        room = "with every kind in it a book has 6 to 1,024; --kinds draws others"
+        for error, options in (
+            (f"draw: argument --entries: 5 entries: {room}", ("--book", "--entries", 5)),
+            (f"draw: argument --entries: 1025 entries: {room}", ("--book", "--entries", 1025)),
+            ("draw: argument --kinds: a kind is 1 to 6, not '7'", ("--book", "--kinds", "1,7")),
+            ("draw: argument --kinds: a kind is 1 to 6, not ''", ("--book", "--kinds", "")),
+            (
+                "draw: argument --kinds: 1,025 kinds, where a book has at most 1,024 entries",
+                ("--book", "--kinds", ",".join("1" * 1025)),
+            ),
+            ("draw: --kinds is for a book: draw --book", ("--kinds", "1")),
+            ("draw: --sides is for a sitting, and --book draws none", ("--book", "--sides", 1)),
+        ):
+            with self.subTest(error):
+                self.fails(2, error, "draw", *options)
