@@ -35,6 +35,8 @@ S = bytes.fromhex(
 # 000, 6.5: the constant D15 to D0 (its 1e is printed "le"), and a1 to a16.
 SCHEDULE_D = bytes.fromhex("3ca7ec257957dfc0380a331ef38cf4f7")
 SCHEDULE_A = (5, 5, 5, 5, 3, 7, 5, 5, 5, 5, 7, 3, 5, 5, 5, 5)
+# A nibble's bits, eight places apart: bit n goes to bit 0 of byte n.
+SPREAD = [sum((nibble >> n & 1) << 8 * n for n in range(4)) for nibble in range(16)]
 # The kinds whose number stands in one byte, and those that take a number at all.
 SHORT_NUMBER = (2, 5)
 NUMBERED = (2, 3, 5, 6)
@@ -156,8 +158,7 @@ class Working:
         """f's output from T4 to T11: bit m of byte n is bit n of T(m + 4)."""
         output = 0
         for m, byte in enumerate(chain):
-            spread = byte & 1 | (byte & 2) << 7 | (byte & 4) << 14 | (byte & 8) << 21
-            output |= spread << m
+            output |= SPREAD[byte & 15] << m
         return output.to_bytes(4, "big")
 
     def rounds(self, block: bytes, round_keys: Iterable[bytes]) -> bytes:
@@ -223,7 +224,7 @@ class Working:
         return b"".join(part + bytes([fold(part)]) for part in groups(group_key, [3] * 4))
 
     def tb5(self, key: bytes, location_area: int, carrier: int, colour_code: int) -> bytes:
-        """A cipher key ⊕ 14 bits of location area, then carrier (12) and colour code (6) in turn."""
+        """A key ⊕ 14 bits of location area, then carrier (12) and colour code (6) in turn."""
         both = carrier << 6 | colour_code
         cell = location_area << 54 | both << 36 | both << 18 | both
         return xor(key, (cell << 12 | carrier).to_bytes(10, "big"))
@@ -438,9 +439,13 @@ class Working:
         seal = self.ta51 if entry.kind in SHORT_NUMBER else self.ta81
         return seal(entry.key, entry.version, under, entry.number or 0)
 
+    def encrypted_identity(self, ring: Ring, entry: Entry) -> int:
+        """The identity in an entry's sealed record."""
+        return self.ta61(ring.c, entry.identity)
+
     def sealed_record(self, ring: Ring, entry: Entry) -> bytes:
         """An entry's sealed record, 21 bytes."""
-        identity = self.ta61(ring.c, entry.identity)
+        identity = self.encrypted_identity(ring, entry)
         return head(entry.kind, identity, entry.version) + self.text(ring, entry)
 
     def sealed_book(self, ring: Ring, entries: Iterable[Entry]) -> bytes:
