@@ -45,9 +45,9 @@ const D: [u8; 16] = [
 pub const A: [usize; 16] = [5, 5, 5, 5, 3, 7, 5, 5, 5, 5, 7, 3, 5, 5, 5, 5];
 
 // Rotated left by n bytes.
-fn rotated(q: [u8; 16], n: usize) -> [u8; 16]
+fn rotated(q: &[u8; 16], n: usize) -> [u8; 16]
     requires { ⌜ n ≤ 16 ⌝ }
-    ensures { λ r. ⌜ r ≡ rotl n q ⌝ }
+    ensures { λ r. ⌜ r ≡ rotl n (now (q .entry)) ⌝ }
 {
     let mut out = [0u8; 16];
     for i in 0..16 {
@@ -57,19 +57,19 @@ fn rotated(q: [u8; 16], n: usize) -> [u8; 16]
 }
 
 // The step that rotates by n.
-fn step(q: [u8; 16], n: usize) -> [u8; 16]
+fn step(q: &[u8; 16], n: usize) -> [u8; 16]
     requires { ⌜ n ≤ 16 ⌝ }
-    ensures { λ r. ⌜ r ≡ next n q ⌝ }
+    ensures { λ r. ⌜ r ≡ next n (now (q .entry)) ⌝ }
 {
     xor16(rotated(q, n), D)
 }
 
 // Undoes it.
-fn step_back(q: [u8; 16], n: usize) -> [u8; 16]
+fn step_back(q: &[u8; 16], n: usize) -> [u8; 16]
     requires { ⌜ n ≤ 16 ⌝ }
-    ensures { λ r. ⌜ r ≡ rotl (16 - n) (xors 16 q dOf) ⌝ }
+    ensures { λ r. ⌜ r ≡ rotl (16 - n) (xors 16 (now (q .entry)) dOf) ⌝ }
 {
-    rotated(xor16(q, D), 16 - n)
+    rotated(&xor16(*q, D), 16 - n)
 }
 
 // Sixteen rounds of encryption: each a round, and then the step.
@@ -81,9 +81,8 @@ fn onward(key: [u8; 16], block: Halves) -> Halves
     let mut q = key;
     let mut h = block;
     for i in 0..16 {
-        let stepped = step(q, a[i]);
         h = round_under(&s, h, &q);
-        q = stepped;
+        q = step(&q, a[i]);
     }
     h
 }
@@ -97,9 +96,8 @@ fn backward(key: [u8; 16], block: Halves) -> Halves
     let mut q = key;
     let mut h = block;
     for i in 0..16 {
-        let stepped = step_back(q, a[15 - i]);
-        h = round_under(&s, h, &stepped);
-        q = stepped;
+        q = step_back(&q, a[15 - i]);
+        h = round_under(&s, h, &q);
     }
     h
 }
@@ -112,8 +110,7 @@ fn turned(key: [u8; 16], steps: usize) -> [u8; 16]
     let a = A;
     let mut q = key;
     for i in 0..steps {
-        let stepped = step(q, a[i]);
-        q = stepped;
+        q = step(&q, a[i]);
     }
     q
 }

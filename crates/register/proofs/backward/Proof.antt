@@ -31,7 +31,9 @@ array-read-step-back : tie.Need-array-read-step-back Inv-loop μ-loop
 array-read-step-back c = omega arith
 
 step-back-requires : tie.Need-step-back-requires Inv-loop μ-loop
-step-back-requires c κs = rotation-most _ (15 - c .before .loop .i) (c .before .loop .inv .1) (omega arith)
+step-back-requires c κs =
+    let at = c .before .before .loop in
+    rotation-most _ (15 - at .i) (at .inv .1) (omega arith)
 
 round-under-requires : tie.Need-round-under-requires Inv-loop μ-loop
 round-under-requires c κs = search needs
@@ -46,7 +48,7 @@ loop-again : tie.Need-loop-again Inv-loop μ-loop
 unfolding S
 loop-again c =
     let stepped = c .before .before .before in
-    let at = stepped .before .before .loop in
+    let at = stepped .before .before .before .loop in
     (omega arith, at .inv .1, backward-more _ (at .i) _ (at .q) (at .h .l) (at .h .r) (stepped .step-back .result) (c .round-under .result .l) (c .round-under .result .r) (at .inv .1) (at .inv .2) (stepped .step-back .ensures) (c .round-under .ensures))
 
 returns : tie.Need-returns Inv-loop μ-loop

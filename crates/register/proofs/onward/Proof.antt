@@ -21,6 +21,9 @@ loop-holds : tie.Need-loop-holds Inv-loop μ-loop
 unfolding a onward
 loop-holds c = (zero-le, refl, refl)
 
+round-under-requires : tie.Need-round-under-requires Inv-loop μ-loop
+round-under-requires c κs = search needs
+
 mul-step : tie.Need-mul-step Inv-loop μ-loop
 mul-step c = omega arith
 
@@ -28,10 +31,9 @@ array-read-step : tie.Need-array-read-step Inv-loop μ-loop
 array-read-step c = omega arith
 
 step-requires : tie.Need-step-requires Inv-loop μ-loop
-step-requires c κs = rotation-most _ (c .before .loop .i) (c .before .loop .inv .1) (omega arith)
-
-round-under-requires : tie.Need-round-under-requires Inv-loop μ-loop
-round-under-requires c κs = search needs
+step-requires c κs =
+    let at = c .before .before .before .before .before .loop in
+    rotation-most _ (at .i) (at .inv .1) (omega arith)
 
 add-i : tie.Need-add-i Inv-loop μ-loop
 add-i c = omega arith
@@ -42,9 +44,9 @@ loop-less c = omega arith
 loop-again : tie.Need-loop-again Inv-loop μ-loop
 unfolding S
 loop-again c =
-    let stepped = c .before .before .before in
-    let at = stepped .before .before .loop in
-    (omega arith, at .inv .1, onward-more _ (at .i) _ (at .q) (at .h .l) (at .h .r) (stepped .step .result) (c .round-under .result .l) (c .round-under .result .r) (at .inv .1) (at .inv .2) (c .round-under .ensures) (stepped .step .ensures))
+    let rounded = c .before .before in
+    let at = rounded .before .before .before .before .loop in
+    (omega arith, at .inv .1, onward-more _ (at .i) _ (at .q) (at .h .l) (at .h .r) (c .step .result) (rounded .round-under .result .l) (rounded .round-under .result .r) (at .inv .1) (at .inv .2) (rounded .round-under .ensures) (c .step .ensures))
 
 returns : tie.Need-returns Inv-loop μ-loop
 returns c =
@@ -58,10 +60,10 @@ onward-spec =
     Inv-loop
     μ-loop
     loop-holds
+    round-under-requires
     mul-step
     array-read-step
     step-requires
-    round-under-requires
     add-i
     loop-less
     loop-again

@@ -10,10 +10,10 @@ use Rattle.register.proofs.rotated.Statement.{statement}
 use Rattle.register.proofs.rotated.Tie as tie
 
 abbrev Inv-loop : tie.InvT-loop
-Inv-loop n q out₀ i₀ out i = (i ≤ 16) × (length out ≡ 16) × (take i out ≡ table i (λ j. q ! ((j + n) % 16)))
+Inv-loop q n out₀ i₀ out i = (i ≤ 16) × (length out ≡ 16) × (take i out ≡ table i (λ j. q ! ((j + n) % 16)))
 
 abbrev μ-loop : tie.MeasureT-loop
-μ-loop n q out₀ i₀ out i = 16 - i
+μ-loop q n out₀ i₀ out i = 16 - i
 
 loop-holds : tie.Need-loop-holds Inv-loop μ-loop
 loop-holds c = (zero-le, refl, refl)
@@ -21,8 +21,8 @@ loop-holds c = (zero-le, refl, refl)
 add-out : tie.Need-add-out Inv-loop μ-loop
 add-out c = omega arith
 
-array-read-out : tie.Need-array-read-out Inv-loop μ-loop
-array-read-out c = omega arith
+element-copy-out-out : tie.Need-element-copy-out-out Inv-loop μ-loop
+element-copy-out-out c = omega arith
 
 array-write-out : tie.Need-array-write-out Inv-loop μ-loop
 array-write-out c = omega arith
@@ -35,7 +35,7 @@ loop-less c = omega arith
 
 loop-again : tie.Need-loop-again Inv-loop μ-loop
 loop-again c =
-    let at = c .before .loop in
+    let at = c .before .before .loop in
     (omega arith, length-set (at .out) _ _ ∙ at .inv .1, fill-next (at .out) _ (at .i) _ (omega arith) refl (at .inv .2))
 
 returns : tie.Need-returns Inv-loop μ-loop
@@ -50,7 +50,7 @@ rotated-spec =
     μ-loop
     loop-holds
     add-out
-    array-read-out
+    element-copy-out-out
     array-write-out
     add-i
     loop-less

@@ -16,7 +16,7 @@ rotated-requires c κs = search needs
 
 returns : tie.Need-returns
 unfolding D
-returns c = rw (c .rotated .ensures, c .before .xor16 .ensures)
+returns c = rw (c .rotated .ensures, c .before .before .xor16 .ensures)
 
 pub step-back-spec : {M : Type 1} → statement M
 step-back-spec =

@@ -26,7 +26,9 @@ array-read-step : tie.Need-array-read-step Inv-loop μ-loop
 array-read-step c = omega arith
 
 step-requires : tie.Need-step-requires Inv-loop μ-loop
-step-requires c κs = rotation-most _ (c .before .loop .i) (c .before .loop .inv .1) (omega arith)
+step-requires c κs =
+    let at = c .before .before .loop in
+    rotation-most _ (at .i) (at .inv .1) (omega arith)
 
 add-i : tie.Need-add-i Inv-loop μ-loop
 add-i c = omega arith
@@ -36,7 +38,7 @@ loop-less c = omega arith
 
 loop-again : tie.Need-loop-again Inv-loop μ-loop
 loop-again c =
-    let at = c .before .before .loop in
+    let at = c .before .before .before .loop in
     (omega arith, at .inv .1, turned-more _ (at .i) _ (at .q) (c .step .result) (at .inv .1) (omega arith) (at .inv .2) (c .step .ensures))
 
 returns : tie.Need-returns Inv-loop μ-loop
