@@ -109,14 +109,7 @@ class Working(unittest.TestCase):
         keys = PLAIN_STEPS.keys(SITTING)
         ring = Ring(*(keys[name] or b"" for name in ("D", "O", "C", "G")))
         strings = PLAIN_STEPS.k_strings(ring.c)
-        made = [
-            PLAIN_STEPS.record(
-                e,
-                PLAIN_STEPS.encrypted(strings, e.identity.to_bytes(3, "big")),
-                PLAIN_STEPS.text(e, ring),
-            )
-            for e in ENTRIES
-        ]
+        made = [PLAIN_STEPS.sealed(entry, ring, strings) for entry in ENTRIES]
         self.assertEqual(made, split(seal(SITTING, PLAIN_BOOK), SEALED))
         for entry, record in zip(ENTRIES, made):
             opened = PLAIN_STEPS.opened(record, ring, strings)
@@ -129,10 +122,9 @@ class Working(unittest.TestCase):
         self.assertEqual(keys, PLAIN_STEPS.keys(SITTING))
         ring = Ring(*(keys[name] or b"" for name in ("D", "O", "C", "G")))
         for entry in ENTRIES:
-            identity = steps.ta61(ring.c, entry.identity).to_bytes(3, "big")
-            record = steps.record(steps.entry(entry), identity, steps.text(entry, ring))
-            steps.opened(record, ring, steps.k_strings(ring.c))
-            steps.ta61_inverse(ring.c, entry.identity)
+            steps.ta61_inverse(ring.c, steps.ta61(ring.c, entry.identity))
+            strings = steps.k_strings(ring.c)
+            steps.opened(steps.sealed(entry, ring, strings), ring, strings)
         seen = set()
 
         def walk(trace: list) -> None:  # type: ignore[type-arg]
@@ -147,9 +139,8 @@ class Working(unittest.TestCase):
         self.assertEqual(ta31.output, PLAIN_STEPS.text(ENTRIES[0], ring))
         self.assertEqual(
             [step.name for step in ta31.steps],
-            ["EXP1", "zero byte behind", "version repeated", "sealing key ⊕ version", "EXP4", "BL1",
-             "byte 8 dropped"],
-        )  # fmt: skip
+            ["EXP1", "zero byte behind", "key derivation", "BL1", "byte 8 dropped"],
+        )
         self.assertEqual(PLAIN_STEPS.trace, [])
         altered = Steps(DESK, {"last_byte": lambda steps, inserted: 0}, trace=True)
         self.assertEqual(altered.exp2(bytes(range(10)))[15], 0)

@@ -58,6 +58,7 @@ STEPS: dict[str, tuple[str, str]] = {
     "reversed_seed": ("seed reversed", "5.6.2"),
     "ta12": ("TA12", "5.7"),
     "ta22": ("TA22", "5.7"),
+    "split": ("response and key", "5.7.2"),
     "chosen": ("bytes chosen by a mask", "5.7.2"),
     "tb4": ("TB4", "5.22"),
     "tb7": ("TB7", "5.23"),
@@ -73,6 +74,8 @@ STEPS: dict[str, tuple[str, str]] = {
     "chained": ("chaining", "5.2"),
     "right_block": ("right block", "5.2"),
     "entry": ("the entry's fields", "01"),
+    "sealed_as": ("the fields that are sealed", "01"),
+    "sealing_key": ("the kind's sealing key", "01"),
     "ta31": ("TA31", "5.8"),
     "ta51": ("TA51", "5.10"),
     "ta81": ("TA81", "5.14"),
@@ -80,6 +83,8 @@ STEPS: dict[str, tuple[str, str]] = {
     "number_byte": ("number byte", "5.10.1"),
     "joined": ("key and number joined", "5.10.1"),
     "zero_behind": ("zero byte behind", "5.8.1"),
+    "short_key": ("key derivation", "5.8.2"),
+    "long_key": ("key derivation", "5.10.2"),
     "repeated": ("version repeated", "5.8.2"),
     "core_key": ("sealing key ⊕ version", "5.8.2"),
     "dropped": ("byte 8 dropped", "5.8.3"),
@@ -88,6 +93,8 @@ STEPS: dict[str, tuple[str, str]] = {
     "shrunk_key": ("common key shrunk", "5.12.1"),
     "bc": ("BC", "5.12.0"),
     "strings": ("K-strings", "5.12.3"),
+    "encrypted": ("identity encrypted", "5.12.0"),
+    "decrypted": ("identity decrypted", "5.12.0"),
     "mixed": ("⊕ with a K-string", "5.12.0"),
     "p": ("P", "5.12.4"),
     "ta61_inverse": ("TA61 undone", "5.12"),
@@ -107,6 +114,7 @@ STEPS: dict[str, tuple[str, str]] = {
     "failed": ("redundancy checked", "5.9.3"),
     "failed_bits": ("three zero bits checked", "5.11.3"),
     "five_bits": ("number's five bits", "5.11.3"),
+    "written": ("the entry written down", "01"),
 }
 
 
@@ -185,6 +193,7 @@ class Steps:
         trace: bool = False,
     ) -> None:
         """Takes the alterations, by the names of STEPS."""
+        self.desk = desk
         self.encrypt, self.decrypt = desk.engine.encrypt, desk.engine.decrypt
         self.algorithm = ""  # in which a step is worked
         self.trace: list[Step] = []
@@ -280,15 +289,17 @@ class Steps:
     ) -> tuple[bytes, bytes]:
         """Response and key."""
         self.algorithm = "TA12"
-        output = self.bl1(session_key, self.exp2(challenge))
-        return self.chosen(output, response_mask), self.chosen(output, key_mask)
+        return self.split(self.bl1(session_key, self.exp2(challenge)), response_mask, key_mask)
 
     def ta22(
         self, session_key: bytes, challenge: bytes, response_mask: int, key_mask: int
     ) -> tuple[bytes, bytes]:
         """Response and key, the other side."""
         self.algorithm = "TA22"
-        output = self.bl1(session_key, self.exp2(challenge))
+        return self.split(self.bl1(session_key, self.exp2(challenge)), response_mask, key_mask)
+
+    def split(self, output: bytes, response_mask: int, key_mask: int) -> tuple[bytes, bytes]:
+        """Response and key, each by its mask."""
         return self.chosen(output, response_mask), self.chosen(output, key_mask)
 
     def chosen(self, output: bytes, mask: int) -> bytes:
@@ -335,8 +346,7 @@ class Steps:
         """Kind 1."""
         self.algorithm = "TA31"
         data = self.zero_behind(self.exp1(cipher_key))
-        key = self.exp4(self.core_key(sealing_key, self.repeated(version, 5)))
-        return self.dropped(self.bl1(key, data))
+        return self.dropped(self.bl1(self.short_key(sealing_key, version), data))
 
     def ta51(self, cipher_key: bytes, version: int, sealing_key: bytes, number: int) -> bytes:
         """Kinds 2 and 5."""
@@ -357,8 +367,15 @@ class Steps:
         return self._sealed(self.x16(group_key), version, sealing_key)
 
     def _sealed(self, data: bytes, version: int, sealing_key: bytes) -> bytes:
-        key = self.core_key(sealing_key, self.repeated(version, 8))
-        return self.dropped(self.bl1(key, data))
+        return self.dropped(self.bl1(self.long_key(sealing_key, version), data))
+
+    def short_key(self, sealing_key: bytes, version: int) -> bytes:
+        """The core's key from a sealing key of ten bytes."""
+        return self.exp4(self.core_key(sealing_key, self.repeated(version, 5)))
+
+    def long_key(self, sealing_key: bytes, version: int) -> bytes:
+        """The core's key from a sealing key of sixteen bytes."""
+        return self.core_key(sealing_key, self.repeated(version, 8))
 
     def number_byte(self, number: int) -> bytes:
         """Three zero bits, then the number's five."""
@@ -388,10 +405,19 @@ class Steps:
         """What sealing takes from the plain record."""
         return entry
 
+    def sealed_as(self, entry: Entry) -> Entry:
+        """Of those, what the text seals."""
+        return entry
+
+    def sealing_key(self, ring: Ring, kind: int) -> bytes:
+        """D for kind 1, O for kinds 2 to 4, G for kinds 5 and 6."""
+        key: bytes = getattr(ring, KINDS[kind].sealing_key)
+        return key
+
     def text(self, entry: Entry, ring: Ring) -> bytes:
         """An entry's sealed text."""
         kind = KINDS[entry.kind]
-        inputs: tuple[Any, ...] = (entry.key, entry.version, getattr(ring, kind.sealing_key))
+        inputs: tuple[Any, ...] = (entry.key, entry.version, self.sealing_key(ring, entry.kind))
         if kind.number:
             inputs += (entry.number,)
         made: bytes = getattr(self, kind.seal)(*inputs)
@@ -400,6 +426,12 @@ class Steps:
     def record(self, entry: Entry, identity: bytes, text: bytes) -> bytes:
         """Kind, encrypted identity, version, sealed text."""
         return bytes([entry.kind]) + identity + entry.version.to_bytes(2, "big") + text
+
+    def sealed(self, entry: Entry, ring: Ring, strings: Blocks) -> bytes:
+        """An entry's sealed record; the strings are C's."""
+        taken = self.entry(entry)
+        text = self.text(self.sealed_as(taken), ring)
+        return self.record(taken, self.encrypted(strings, taken.identity.to_bytes(3, "big")), text)
 
     # ---- identities (5.12)
 
@@ -502,7 +534,7 @@ class Steps:
         """Kind 1."""
         self.algorithm = "TA32"
         block = self.zero_back(text)
-        data = self.bl2(self.exp4(self.core_key(sealing_key, self.repeated(version, 5))), block)
+        data = self.bl2(self.short_key(sealing_key, version), block)
         return Unsealed(self.shrunk(data, PAIRS), None, self.failed(data, PAIRS))
 
     def ta52(self, text: bytes, sealing_key: bytes, version: int) -> Unsealed:
@@ -528,7 +560,7 @@ class Steps:
 
     def _unsealed(self, text: bytes, sealing_key: bytes, version: int) -> bytes:
         block = self.zero_back(text)
-        return self.bl2(self.core_key(sealing_key, self.repeated(version, 8)), block)
+        return self.bl2(self.long_key(sealing_key, version), block)
 
     def fields(self, record: bytes) -> tuple[int, bytes, int, bytes]:
         """What opening takes from the sealed record: kind, identity, version, text."""
@@ -537,6 +569,11 @@ class Steps:
     def opened(self, record: bytes, ring: Ring, strings: Blocks) -> Opened:
         """A sealed record of a kind that there is, opened; the strings are C's."""
         number, identity, version, text = self.fields(record)
-        kind = KINDS[number]
-        unsealed = getattr(self, kind.unseal)(text, getattr(ring, kind.sealing_key), version)
-        return Opened(number, whole(self.decrypted(strings, identity)), version, *unsealed)
+        sealing_key = self.sealing_key(ring, number)
+        unsealed = getattr(self, KINDS[number].unseal)(text, sealing_key, version)
+        plain = whole(self.decrypted(strings, identity))
+        return self.written(Opened(number, plain, version, *unsealed))
+
+    def written(self, opened: Opened) -> Opened:
+        """What is written down of an opened record."""
+        return opened
