@@ -2,11 +2,14 @@
 
 from __future__ import annotations
 
+import errno
 import os
 import stat
 import sys
 import tempfile
+from contextlib import contextmanager
 from pathlib import Path
+from typing import Container, Iterator, Optional
 
 MOST_BYTES = 1 << 20  # of one input; the longest book in lines has a tenth of it
 
@@ -105,40 +108,94 @@ def write_out(data: bytes) -> None:
         raise Problem(f"standard output: {reason(error)}") from None
 
 
-def write_file(name: str, data: bytes) -> None:
+def write_file(name: str, data: bytes, private: bool = False) -> None:
     """Writes a file whole, or leaves what was there: a temporary one takes its name.
 
-    What is no regular file, such as a pipe, is written to as it is.
+    A private file is readable by its owner alone. What is no regular file, such as a
+    pipe, is written to as it is.
     """
     path = Path(os.path.realpath(name))
-    try:
+    with _problems(name):
         if path.exists() and not path.is_file():
             with open(path, "wb", buffering=0) as device:
                 device.write(data)
             return
-        mode = stat.S_IMODE(path.stat().st_mode) if path.exists() else 0o666 & ~_mask()
         handle, made = tempfile.mkstemp(dir=path.parent, prefix=".taa1.")
+        os.close(handle)
         try:
-            with open(handle, "wb") as file:
-                file.write(data)
-                file.flush()
-                os.fchmod(handle, mode)
-                os.fsync(handle)
+            _fill(Path(made), data, _mode(path, private))
             os.replace(made, path)
         except BaseException:
             os.unlink(made)
             raise
+
+
+def write_folder(folder: str, content: dict[str, bytes], private: Container[str] = ()) -> None:
+    """Writes files into a folder, which is made where it is missing: all of them, or none."""
+    with _problems(folder):
+        os.makedirs(folder, exist_ok=True)
+        with tempfile.TemporaryDirectory(dir=folder, prefix=".taa1.") as room:
+            _exchange(Path(folder), Path(room), content, private)
+
+
+def _exchange(folder: Path, room: Path, content: dict[str, bytes], private: Container[str]) -> None:
+    """Puts files in the places of those in a folder: both kinds wait in the room."""
+    old, new = room / "old", room / "new"
+    old.mkdir()
+    new.mkdir()
+    for name, data in content.items():
+        with _problems(str(folder / name)):
+            _fill(new / name, data, _mode(folder / name, name in private))
+    try:
+        for name in content:
+            with _problems(str(folder / name)):
+                if (folder / name).is_dir():
+                    raise IsADirectoryError(errno.EISDIR, os.strerror(errno.EISDIR))
+                if (folder / name).exists():
+                    os.rename(folder / name, old / name)
+                os.rename(new / name, folder / name)
+    except BaseException:
+        for name in content:
+            if (old / name).exists():
+                os.replace(old / name, folder / name)
+            elif not (new / name).exists():
+                os.unlink(folder / name)
+        raise
+
+
+def _mode(path: Path, private: bool) -> int:
+    """The mode that a file is to have: that of the one that it replaces, or the usual."""
+    if private:
+        return 0o600
+    return stat.S_IMODE(path.stat().st_mode) if path.exists() else 0o666 & ~_mask()
+
+
+def _fill(path: Path, data: bytes, mode: int) -> None:
+    """Writes a new file, which nobody else can read until it is whole."""
+    handle = os.open(path, os.O_WRONLY | os.O_CREAT, 0o600)
+    with open(handle, "wb") as file:
+        file.write(data)
+        file.flush()
+        os.fchmod(handle, mode)
+        os.fsync(handle)
+
+
+@contextmanager
+def _problems(name: str) -> Iterator[None]:
+    """Says of a failure within which file it is about."""
+    try:
+        yield
     except (OSError, ValueError) as error:
         said = reason(error) if isinstance(error, OSError) else str(error)
         raise Problem(f"{shown(name)}: {said}") from None
 
 
-def write(name: str, data: bytes) -> None:
+def write(name: str, data: bytes, private: bool = False) -> None:
     """Writes to a file, or to standard output."""
     if name == STANDARD:
         write_out(data)
     else:
-        write_file(name, data)
+        write_file(name, data, private)
 
 
 def _mask() -> int:
