@@ -1,12 +1,23 @@
 """Candidates' hand-ins with planted mistakes, made by the reference working alone.
 
-`sealed_books` yields them, alike in each run. Each says what was done wrong, in a custodian's
-words, and what a marker must say of it.
+`sealed_books` and `opened_books` yield them, alike in each run. Each says what was done wrong, in
+a custodian's words, and what a marker must say of it.
 """
 
 from __future__ import annotations
 
 from exams import MOST, SEALED, Exam, exam, exams
+from planted_opened import OpenedBook, opened_books
 from planted_sealed import SealedBook, sealed_books
 
-__all__ = ["MOST", "SEALED", "Exam", "SealedBook", "exam", "exams", "sealed_books"]
+__all__ = [
+    "MOST",
+    "SEALED",
+    "Exam",
+    "OpenedBook",
+    "SealedBook",
+    "exam",
+    "exams",
+    "opened_books",
+    "sealed_books",
+]
