@@ -57,6 +57,11 @@ def _slipped(name: str) -> Dict[str, bytes]:
     return {slip: book for slip, book in made.items() if book != of.sealed}
 
 
+def slipped_book(name: str, slip: str) -> bytes:
+    """The book of a sitting with one slip."""
+    return _slipped(name)[slip]
+
+
 def _counted(of: Exam, book: bytes) -> str:
     return f"{right(of.sealed, book)} of {len(of.entries)} entries right"
 

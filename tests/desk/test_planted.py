@@ -2,9 +2,13 @@
 
 from __future__ import annotations
 
+import shutil
+import subprocess
 import unittest
-from typing import Dict, List, Tuple
+from functools import partial
+from typing import Callable, Dict, List, Tuple
 
+import dumps
 import planted
 from exams import RIGHT
 from reference import records
@@ -60,6 +64,65 @@ class OpenedBooks(unittest.TestCase):
         flagged = [(entry.kind, failed) for entry, failed in opened if failed]
         self.assertEqual({kind for kind, _ in flagged}, {1, 2, 3, 4, 5})
         self.assertEqual([failed for kind, failed in flagged if kind in (2, 5)], [16, 16, 8])
+
+
+class HandIns(unittest.TestCase):
+    """Files as they reach the desk."""
+
+    def test_names(self) -> None:
+        """Each has a name of its own, and is made alike again."""
+        files = list(planted.hand_ins())
+        self.assertEqual(len({file.name for file in files}), len(files))
+        self.assertEqual(files, list(planted.hand_ins()))
+
+    def test_readings(self) -> None:
+        """What must be marked has a book of whole records."""
+        for file in planted.hand_ins():
+            if file.marked:
+                self.assertTrue(file.book, file.name)
+            if file.book is not None:
+                self.assertEqual(len(file.book) % planted.SEALED, 0, file.name)
+
+
+class Dumps(unittest.TestCase):
+    """The dumps, against the programs whose output they are."""
+
+    def same(self, made: Callable[[bytes], str], *command: str) -> None:
+        """Compares some strings' dumps."""
+        if shutil.which(command[0]) is None:
+            self.skipTest(f"no {command[0]}")
+        book = planted.exam("both").sealed
+        for data in (book, book[:50], book[:1], bytes(range(256)), bytes(100), book[:21] * 3):
+            done = subprocess.run(command, input=data, stdout=subprocess.PIPE, check=True)
+            self.assertEqual(made(data), done.stdout.decode(), command)
+
+    def test_od(self) -> None:
+        """od, its types, addresses and widths."""
+        self.same(dumps.od, "od")
+        for kind in ("x1", "u1", "o1", "o2", "x2", "x4", "c"):
+            self.same(partial(dumps.od, kind=kind), "od", "-t", kind)
+        for address in "odxn":
+            self.same(partial(dumps.od, kind="x1", address=address), "od", "-tx1", "-A", address)
+        self.same(partial(dumps.od, kind="x1", width=21), "od", "-tx1", "-w21")
+        shown = partial(dumps.od, kind="x1", characters=True, whole=True)
+        self.same(shown, "od", "-v", "-tx1z")
+
+    def test_xxd(self) -> None:
+        """xxd, its widths, groups and styles."""
+        self.same(dumps.xxd, "xxd")
+        self.same(partial(dumps.xxd, upper=True), "xxd", "-u")
+        self.same(partial(dumps.xxd, width=21, group=1), "xxd", "-c", "21", "-g", "1")
+        self.same(partial(dumps.xxd, width=21, group=0), "xxd", "-c", "21", "-g", "0")
+        self.same(partial(dumps.xxd, group=4, little=True), "xxd", "-e")
+        self.same(dumps.xxd_bits, "xxd", "-b")
+        self.same(dumps.xxd_plain, "xxd", "-p")
+        self.same(partial(dumps.xxd_plain, width=21), "xxd", "-p", "-c", "21")
+        self.same(dumps.xxd_include, "xxd", "-i")
+
+    def test_hexdump(self) -> None:
+        """hexdump in both styles."""
+        self.same(dumps.hexdump, "hexdump", "-v")
+        self.same(dumps.hexdump_canonical, "hexdump", "-v", "-C")
 
 
 if __name__ == "__main__":
