@@ -290,8 +290,10 @@ class Bad(Case):
                 with self.subTest(args=given[:2], reason=reason):
                     done = here(*given, cwd=self.folder)
                     marked = args[0] == "mark" and args[-1] == "f"
-                    self.said(done, 1 if marked else 2)
-                    self.assertEqual(done.error, f"taa1: {name}: {reason}\n")
+                    none = "no hand-in in this folder: hidden files, *.keys and *.txt are none"
+                    folder = marked and name == "."  # it stands for its files
+                    self.said(done, 1 if marked and not folder else 2)
+                    self.assertEqual(done.error, f"taa1: {name}: {none if folder else reason}\n")
 
     def test_outputs(self) -> None:
         """A full device, a folder, a folder that is not there: one line, status 2."""

@@ -363,18 +363,18 @@ class Command(Case):
         """One unreadable book doesn't stop the others; the status is 1."""
         good = self.file("good.book", seal(SAMPLE))
         odd = self.file("odd.book", "012")
-        missing, folder = self.folder / "missing.book", self.folder
+        missing = self.folder / "missing.book"
         inputs = (CLASS / "sitting.txt", CLASS / "model.txt")
-        done = taa1("mark", *inputs, missing, good, folder, odd, "--json")
+        done = taa1("mark", *inputs, missing, good, odd, "--json")
         self.assertEqual(done.status, 1)
         lines = done.error.splitlines()
         self.assertEqual(lines[0], f"taa1: {missing}: No such file or directory")
-        self.assertEqual(lines[1], f"taa1: {folder}: Is a directory")
-        self.assertEqual(lines[2], f"taa1: {odd}: an odd number of hexadecimal digits, 3")
+        words = "this looks like text that is no hexadecimal: an odd number of hexadecimal digits, 3"
+        self.assertEqual(lines[1], f"taa1: {odd}: {words}")
         sheets = json.loads(done.out)["sheets"]
-        self.assertEqual([sheet["right"] for sheet in sheets], [0, 12, 0, 0])
+        self.assertEqual([sheet["right"] for sheet in sheets], [0, 12, 0])
         self.assertEqual(sheets[0]["problem"], "No such file or directory")
-        self.assertEqual([sheet["opens"] for sheet in sheets], [False, True, False, False])
+        self.assertEqual([sheet["opens"] for sheet in sheets], [False, True, False])
 
     def test_hexadecimal(self) -> None:
         digits = self.file("a.book", seal(SAMPLE).hex("\n", 21))

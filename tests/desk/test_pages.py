@@ -2,16 +2,19 @@
 
 from __future__ import annotations
 
+import os
 import shutil
 import subprocess
 from html.parser import HTMLParser
 from pathlib import Path
 from typing import Optional
+from urllib.parse import unquote_to_bytes
 
 from common import CLASS, Case, taa1
 from taa1.page import grouped
 from taa1.records import SEALED, split
 
+CANDIDATES = ("ann", "ben", "cho", "dee", "eve", "fay")
 VOID = {"meta", "rect", "br"}
 ALLOWED = {
     "html", "head", "meta", "title", "style", "body", "h1", "h2", "p", "ul", "li", "a",
@@ -82,7 +85,7 @@ class Pages(Case):
     def test_class(self) -> None:
         pages = self.mark(*sorted(CLASS.glob("*.book")))
         names = sorted(path.name for path in pages.iterdir())
-        self.assertEqual(names, [f"candidate-00{n}.html" for n in range(1, 7)] + ["index.html"])
+        self.assertEqual(names, [*(f"{name}.book.html" for name in CANDIDATES), "index.html"])
         index = Page(pages / "index.html")
         self.assertEqual(index.links, names[:-1])
         self.assertEqual(index.count["svg"], 2)
@@ -116,7 +119,7 @@ class Pages(Case):
         for word in ("<script>alert(1)<\\script>", 'a"b&c\'d', "line\\x0aend", "grüße", "\\xff.book"):
             self.assertIn(word, said)
         for link in index.links:
-            Page(self.folder / "pages" / link)
+            Page(self.folder / "pages" / os.fsdecode(unquote_to_bytes(link)))
 
     def test_no_book(self) -> None:
         """Unreadable and empty books have their pages, too."""
@@ -124,8 +127,8 @@ class Pages(Case):
         pages = self.mark(self.folder / "missing.book", empty, status=1)
         said = "\n".join(Page(pages / "index.html").texts)
         self.assertIn("not marked: No such file or directory", said)
-        Page(pages / "candidate-001.html")
-        Page(pages / "candidate-002.html")
+        Page(pages / "missing.book.html")
+        Page(pages / "empty.book.html")
 
     def test_no_folder(self) -> None:
         taken = self.file("taken", b"")
@@ -152,7 +155,7 @@ class Pages(Case):
         self.accepted("model", CLASS / "sitting.txt", CLASS / "model.txt", "--html", "-o", model)
         blank = self.file("blank.html", "<!DOCTYPE html><title>blank</title>")
         sizes = {}
-        for path in (blank, model, pages / "index.html", pages / "candidate-002.html"):
+        for path in (blank, model, pages / "index.html", pages / "ben.book.html"):
             picture = self.folder / f"{path.stem}.png"
             subprocess.run(
                 [browser, "--headless", "--no-sandbox", "--disable-gpu", "--window-size=900,1200",

@@ -12,18 +12,22 @@ import os
 import secrets
 import subprocess
 import sys
+from pathlib import Path
 from typing import Any, Callable, NoReturn, Optional, Sequence
+from urllib.parse import quote
 
-from . import draw, files, names, pages, texts
+from . import draw, files, handins, names, pages, texts
 from .calls import CALLS, Call, Parameter
 from .desk import Desk, RefusedFile, refusals
 from .engine import MOST_RECORDS, Refused
 from .files import STANDARD, Problem, place, shown
+from .handins import Reader
 from .library import PACKAGE, LibraryError, repository
 from .mark import Marker, Sheet
 from .model import model_answer, model_text
+from .page import is_made_by
 from .records import KINDS, PLAIN, RING
-from .sheets import sheet_json, sheet_text, summary, summary_text
+from .sheets import reading, sheet_json, sheet_text, summary, summary_text
 from .slips import SLIPS
 
 ACCEPTED, REFUSED, WRONG_USE = 0, 1, 2
@@ -390,26 +394,39 @@ def run_model(args: argparse.Namespace) -> int:
 
 def run_mark(args: argparse.Namespace) -> int:
     """The mark sheets of candidates' books."""
-    _once(args.sitting, args.book, *args.candidate)
+    if args.clean and args.html is None:
+        raise Problem("mark: --clean is about pages, so it wants --html")
+    handed = handins.hand_ins(args.candidate, (args.sitting, args.book))
+    _once(args.sitting, args.book, *handed.names)
+    forms = _forms(args, handed.names)
     desk = Desk()
     sitting = texts.read_sitting(args.sitting)
     plain = texts.read_plain(desk, args.book, args.bytes)
+    if not plain:
+        raise Problem(f"{place(args.book)}: no entry in it, so there is nothing to mark")
     texts.make_ring(desk, sitting, place(args.sitting))
     marker = Marker(desk, sitting, plain)
+    reader = Reader(marker)
     sheets = []
-    for done, name in enumerate(args.candidate):
-        files.progress(done, len(args.candidate))
+    for done, (name, form) in enumerate(zip(handed.names, forms)):
+        files.progress(done, len(handed.names))
         try:
-            sheets.append(marker.mark(place(name), files.read_bytes(name, args.bytes)))
+            sheet = reader.mark(name, files.read(name), form)
         except Problem as problem:
-            files.progress(0, 0)
-            files.say(str(problem))
             reason = str(problem).removeprefix(f"{place(name)}: ")
-            sheets.append(marker.unreadable(place(name), reason))
+            sheet = marker.unreadable(place(name), reason)
+        if sheet.problem and not args.dry:
+            files.progress(0, 0)
+            files.say(f"{sheet.name}: {sheet.problem}")
+        sheets.append(sheet)
     files.progress(0, 0)
     of = summary(sheets)
+    if args.dry:
+        left_out = [f"{place(name)}: left out\n" for name in handed.left_out]
+        _emit_text(args, "".join([f"{reading(sheet)}\n" for sheet in sheets] + left_out))
+        return REFUSED if of.unreadable else ACCEPTED
     if args.html is not None:
-        _write_pages(args.html, sheets)
+        _write_pages(args.html, handed.names, sheets, args.clean)
     if args.json:
         _emit_text(args, _json({"class": of._asdict(), "sheets": list(map(sheet_json, sheets))}))
     elif args.html is not None:
@@ -420,19 +437,46 @@ def run_mark(args: argparse.Namespace) -> int:
     return REFUSED if of.unreadable else ACCEPTED
 
 
-def _write_pages(folder: str, sheets: list[Sheet]) -> None:
+def _forms(args: argparse.Namespace, names: list[str]) -> list[str]:
+    """For each hand-in the form that it is to be read in, or nothing."""
+    forms = dict.fromkeys(names, handins.BYTES if args.bytes else "")
+    known = [handins.BYTES, *handins.FORMS]
+    for given in args.as_ or ():
+        file, _, form = given.rpartition("=")
+        meant = [name for name in names if file in ("", name, os.path.basename(name))]
+        if form not in known:
+            raise Problem(f"mark: argument --as: no form {form!r}: they are {', '.join(known)}")
+        if not meant:
+            raise Problem(f"mark: argument --as: no hand-in is called {shown(file)!r}")
+        forms.update(dict.fromkeys(meant, form))
+    return [forms[name] for name in names]
+
+
+def _earlier_pages(folder: str) -> list[str]:
+    """The candidates' pages that stand in a folder."""
+    found = []
+    for path in sorted(Path(folder).glob("*.html")):
+        try:
+            with open(path, "rb") as file:
+                if is_made_by(file.read(1024), pages.MADE_BY):
+                    found.append(path.name)
+        except OSError:  # what can't be read is none
+            pass
+    return found
+
+
+def _write_pages(folder: str, names: list[str], sheets: list[Sheet], clean: bool) -> None:
     """A page for each candidate, and index.html for the class."""
-    try:
-        os.makedirs(folder, exist_ok=True)
-    except OSError as error:
-        raise Problem(f"{shown(folder)}: {files.reason(error)}") from None
-    digits = max(3, len(str(len(sheets))))
-    links = [f"candidate-{number:0{digits}}.html" for number in range(1, len(sheets) + 1)]
-    for link, sheet in zip(links, sheets):
-        page = pages.sheet_page(sheet, "index.html")
-        files.write_file(os.path.join(folder, link), page.encode())
-    page = pages.class_page(sheets, summary(sheets), links)
-    files.write_file(os.path.join(folder, "index.html"), page.encode())
+    index = "index.html"
+    named = handins.page_names(names, index)
+    links = [quote(os.fsencode(name)) for name in named]
+    content = {name: pages.sheet_page(sheet, index).encode() for name, sheet in zip(named, sheets)}
+    content[index] = pages.class_page(sheets, summary(sheets), links).encode()
+    earlier = [name for name in _earlier_pages(folder) if name not in content]
+    files.write_folder(folder, content, unwanted=earlier if clean else ())
+    if earlier and not clean:
+        said = f"not of this run, but of an earlier one: {', '.join(map(shown, earlier))}"
+        files.say(f"{shown(folder)}: {said} (--clean removes such pages)")
 
 
 def run_help(args: argparse.Namespace) -> int:
@@ -599,9 +643,18 @@ def parser() -> Parser:
     model.add_argument("--html", action="store_true", help="write a page of HTML")
     _common(model, bytes="", json="")
     mark.add_argument(
-        "candidate", nargs="+", metavar="CANDIDATE", help="a sealed book: bytes or hexadecimal"
+        "candidate", nargs="+", metavar="CANDIDATE", help="a sealed book, or a folder of such"
     )
     mark.add_argument("--html", metavar="FOLDER", help="write a page for each, and index.html")
+    mark.add_argument("--clean", action="store_true", help="remove pages of earlier runs there")
+    mark.add_argument("--dry", action="store_true", help="say how each would be read, no more")
+    mark.add_argument(
+        "--as",
+        action="append",
+        dest="as_",
+        metavar="[CANDIDATE=]FORM",
+        help=f"read it so, whatever it looks like: {', '.join((handins.BYTES, *handins.FORMS))}",
+    )
     _common(mark, bytes="", json="")
 
     _common(command("slips", run_slips))

@@ -4,12 +4,15 @@ from __future__ import annotations
 
 import errno
 import os
+import re
+import signal
 import stat
 import sys
 import tempfile
+import threading
 from contextlib import contextmanager
 from pathlib import Path
-from typing import Container, Iterator, Optional
+from typing import Any, Callable, Container, Iterable, Iterator
 
 MOST_BYTES = 1 << 20  # of one input; the longest book in lines has a tenth of it
 
@@ -74,7 +77,8 @@ def is_text(data: bytes) -> bool:
 
 
 def from_hex(text: str, where: str) -> bytes:
-    """The bytes of hexadecimal text, in which white space counts for nothing."""
+    """The bytes of hexadecimal text, in which white space counts for nothing, nor does 0x."""
+    text = re.sub(r"(?<![0-9a-fA-F])0[xX](?=[0-9a-fA-F])", "  ", text)
     for number, line in enumerate(text.splitlines(), 1):
         for column, letter in enumerate(line, 1):
             if letter not in "0123456789abcdefABCDEF" and not letter.isspace():
@@ -108,11 +112,11 @@ def write_out(data: bytes) -> None:
         raise Problem(f"standard output: {reason(error)}") from None
 
 
-def write_file(name: str, data: bytes, private: bool = False) -> None:
+def write_file(name: str, data: bytes, private: bool = False, new: bool = False) -> None:
     """Writes a file whole, or leaves what was there: a temporary one takes its name.
 
-    A private file is readable by its owner alone. What is no regular file, such as a
-    pipe, is written to as it is.
+    A private file is readable by its owner alone; a new one takes the name only if no
+    file has it. What is no regular file, such as a pipe, is written to as it is.
     """
     path = Path(os.path.realpath(name))
     with _problems(name):
@@ -120,45 +124,75 @@ def write_file(name: str, data: bytes, private: bool = False) -> None:
             with open(path, "wb", buffering=0) as device:
                 device.write(data)
             return
-        handle, made = tempfile.mkstemp(dir=path.parent, prefix=".taa1.")
-        os.close(handle)
+        with held():
+            handle, made = tempfile.mkstemp(dir=path.parent, prefix=".taa1.")
+            os.close(handle)
+            try:
+                _fill(Path(made), data, _mode(path, private))
+                if new:
+                    _link(made, path)
+                else:
+                    os.replace(made, path)
+            finally:
+                Path(made).unlink(missing_ok=True)
+
+
+def _link(made: str, path: Path) -> None:
+    """Gives a file a name that no other has. Raises FileExistsError."""
+    try:
+        os.link(made, path)
+    except FileExistsError:
+        raise
+    except OSError:  # no file there has two names: one that is made here takes it
+        os.close(os.open(path, os.O_WRONLY | os.O_CREAT | os.O_EXCL, 0o600))
+        os.replace(made, path)
+
+
+def write_folder(
+    folder: str,
+    content: dict[str, bytes],
+    private: Container[str] = (),
+    unwanted: Iterable[str] = (),
+) -> None:
+    """Writes files into a folder, which is made where it is missing, and removes the
+    unwanted: all of it is done, or nothing."""
+    with _problems(folder), held() as interrupted:
+        made = not os.path.isdir(folder)
+        os.makedirs(folder, exist_ok=True)
         try:
-            _fill(Path(made), data, _mode(path, private))
-            os.replace(made, path)
+            with tempfile.TemporaryDirectory(dir=folder, prefix=".taa1.") as room:
+                (Path(room) / "new").mkdir()
+                for name, data in content.items():
+                    interrupted()
+                    with _problems(os.path.join(folder, name)):
+                        mode = _mode(Path(folder) / name, name in private)
+                        _fill(Path(room) / "new" / name, data, mode)
+                _exchange(Path(folder), Path(room), content, unwanted)
         except BaseException:
-            os.unlink(made)
+            if made:
+                os.rmdir(folder)
             raise
 
 
-def write_folder(folder: str, content: dict[str, bytes], private: Container[str] = ()) -> None:
-    """Writes files into a folder, which is made where it is missing: all of them, or none."""
-    with _problems(folder):
-        os.makedirs(folder, exist_ok=True)
-        with tempfile.TemporaryDirectory(dir=folder, prefix=".taa1.") as room:
-            _exchange(Path(folder), Path(room), content, private)
-
-
-def _exchange(folder: Path, room: Path, content: dict[str, bytes], private: Container[str]) -> None:
-    """Puts files in the places of those in a folder: both kinds wait in the room."""
+def _exchange(folder: Path, room: Path, content: Iterable[str], unwanted: Iterable[str]) -> None:
+    """Puts the room's new files in the places of those in a folder, which wait in the room."""
     old, new = room / "old", room / "new"
     old.mkdir()
-    new.mkdir()
-    for name, data in content.items():
-        with _problems(str(folder / name)):
-            _fill(new / name, data, _mode(folder / name, name in private))
+    names = [*content, *unwanted]
     try:
-        for name in content:
+        for name in names:
             with _problems(str(folder / name)):
                 if (folder / name).is_dir():
                     raise IsADirectoryError(errno.EISDIR, os.strerror(errno.EISDIR))
                 if (folder / name).exists():
                     os.rename(folder / name, old / name)
-                os.rename(new / name, folder / name)
+                if (new / name).exists():
+                    os.rename(new / name, folder / name)
     except BaseException:
-        for name in content:
+        for name in names:
             if (old / name).exists():
                 os.replace(old / name, folder / name)
-            elif not (new / name).exists():
+            elif name in content and not (new / name).exists():
                 os.unlink(folder / name)
         raise
 
@@ -190,12 +224,66 @@ def _problems(name: str) -> Iterator[None]:
         raise Problem(f"{shown(name)}: {said}") from None
 
 
-def write(name: str, data: bytes, private: bool = False) -> None:
+def write(name: str, data: bytes, private: bool = False, new: bool = False) -> None:
     """Writes to a file, or to standard output."""
     if name == STANDARD:
         write_out(data)
     else:
-        write_file(name, data, private)
+        write_file(name, data, private, new)
+
+
+# ---- interrupts
+
+SIGNALS = frozenset({signal.SIGINT, signal.SIGTERM, signal.SIGHUP})
+
+
+class Interrupted(KeyboardInterrupt):
+    """A signal that ends the work."""
+
+    def __init__(self, number: int) -> None:
+        """Takes the signal's number."""
+        super().__init__()
+        self.number = number
+
+
+@contextmanager
+def interruptible() -> Iterator[None]:
+    """Within, the first signal raises Interrupted; while that is seen to, the next count
+    for nothing. A signal that was ignored before is ignored still."""
+
+    def interrupt(number: int, frame: object) -> None:
+        for each in before:
+            signal.signal(each, signal.SIG_IGN)
+        raise Interrupted(number)
+
+    before: dict[signal.Signals, Any] = {}
+    try:
+        if threading.current_thread() is threading.main_thread():
+            for each in SIGNALS:
+                before[each] = signal.getsignal(each)
+                if before[each] != signal.SIG_IGN:
+                    signal.signal(each, interrupt)
+        yield
+    finally:
+        for each, handler in before.items():
+            signal.signal(each, handler)
+
+
+@contextmanager
+def held() -> Iterator[Callable[[], None]]:
+    """Within, signals wait; the call that is given raises one that waits."""
+    before = signal.pthread_sigmask(signal.SIG_BLOCK, ())
+    try:
+        signal.pthread_sigmask(signal.SIG_BLOCK, SIGNALS)
+        yield _raise_waiting
+    finally:
+        signal.pthread_sigmask(signal.SIG_SETMASK, before)
+
+
+def _raise_waiting() -> None:
+    waiting = signal.sigpending() & SIGNALS
+    if waiting:
+        raise Interrupted(min(waiting))
 
 
 def _mask() -> int:

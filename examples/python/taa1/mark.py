@@ -69,6 +69,7 @@ class Sheet(NamedTuple):
     missing: tuple[int, ...] = ()
     left: int = 0  # bytes behind the last whole record
     slips: tuple[Explained, ...] = ()
+    read_as: str = ""  # the hand-in's form, but for bytes as they are
 
     @property
     def right(self) -> int:

@@ -146,8 +146,18 @@ def _in_css(said: str) -> str:
     )
 
 
-def page(title: str, *parts: str, above: str = "", style: str = "") -> str:
-    """A page of these parts; `above` stands over its title, and at the foot in print."""
+def _made_by(command: str) -> str:
+    return f'<meta name="generator" content="{escape(command)}">'
+
+
+def is_made_by(start: bytes, command: str) -> bool:
+    """Whether a page that begins so was made by a command."""
+    return _made_by(command).encode() in start
+
+
+def page(title: str, *parts: str, above: str = "", style: str = "", made_by: str = "taa1") -> str:
+    """A page of these parts; `above` stands over its title, and at the foot in print, and
+    `made_by` says to programs which command made it."""
     foot = FOOT % _in_css(f"{title} · {above}" if above else title)
     return "\n".join(
         [
@@ -155,6 +165,7 @@ def page(title: str, *parts: str, above: str = "", style: str = "") -> str:
             '<html lang="en">',
             '<head><meta charset="utf-8">',
             '<meta name="viewport" content="width=device-width, initial-scale=1">',
+            _made_by(made_by),
             text("title", f"{title} · {above}" if above else title),
             f"<style>{STYLE}{style}{foot}</style></head>",
             "<body>",

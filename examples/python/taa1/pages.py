@@ -18,6 +18,7 @@ svg { max-width: 100%; height: auto; }
 svg text { font: 10px Arial, "Liberation Sans", sans-serif; fill: #000; }
 """
 
+MADE_BY = "taa1 mark"  # a candidate's page
 RIGHT, WRONG, FAILS = "#2f6690", "#e0a458", "#b23a48"
 
 
@@ -63,6 +64,7 @@ def sheet_page(sheet: Sheet, class_page: str) -> str:
         table(("entry", "model", "result", "slip"), map(_entry_row, sheet.entries)),
         tag("p", tag("a", "The class", href=class_page)),
         style=STYLE,
+        made_by=MADE_BY,
     )
 
 
@@ -126,7 +128,7 @@ def class_page(sheets: list[Sheet], of: Summary, links: list[str]) -> str:
         named = "; ".join(slip.name for slip in sheet.slips)
         name = text("a", sheet.name, href=link)
         right, said = f"{sheet.right} of {sheet.size}", verdict(sheet).partition("; ")[2]
-        rows.append((name, "-" if sheet.problem else right, said or verdict(sheet), named))
+        rows.append((name, "-", verdict(sheet), named) if sheet.problem else (name, right, said, named))
     numbers = (
         f"{of.candidates} candidates: {of.perfect} all right, "
         f"{of.unopened} do not open, {of.unreadable} not marked."

@@ -5,7 +5,7 @@ from __future__ import annotations
 from typing import Any, Iterable, NamedTuple
 
 from .mark import Explained, Marked, Opened, Sheet
-from .records import KINDS
+from .records import KINDS, SEALED
 
 MOST_LINES = 24  # of what is wrong with one book's entries
 MOST_SPANS = 12  # of entries in one line
@@ -19,7 +19,17 @@ def verdict(sheet: Sheet) -> str:
     if sheet.refused:
         refused = sheet.refused
         opens = f"does not open: refused {refused.number} at {refused.index} ({refused.name})"
-    return f"{sheet.right} of {sheet.size} entries right; {opens}"
+    read_as = f"; read as {sheet.read_as}" if sheet.read_as else ""
+    return f"{sheet.right} of {sheet.size} entries right; {opens}{read_as}"
+
+
+def reading(sheet: Sheet) -> str:
+    """How a hand-in was read, in a line."""
+    if sheet.problem:
+        return f"{sheet.name}: {verdict(sheet)}"
+    records = f"{len(sheet.entries)} record{'s' * (len(sheet.entries) != 1)}"
+    left = f" and {sheet.left} bytes" if sheet.left else ""
+    return f"{sheet.name}: read as {sheet.read_as or 'bytes'}: {records}{left}"
 
 
 def spans(indexes: Iterable[int]) -> str:
@@ -113,7 +123,7 @@ def others(sheet: Sheet) -> list[str]:
     if sheet.missing and not sheet.problem:
         said.append(f"missing: the model's {_entries(list(sheet.missing))}")
     if sheet.left:
-        said.append(f"{sheet.left} bytes behind the last whole entry")
+        said.append(f"the last record is cut short: {sheet.left} of {SEALED} bytes")
     return said
 
 
@@ -179,6 +189,7 @@ def sheet_json(sheet: Sheet) -> dict[str, Any]:
     return {
         "candidate": sheet.name,
         "problem": sheet.problem,
+        "read_as": None if sheet.problem else sheet.read_as or "bytes",
         "opens": sheet.problem is None and sheet.refused is None,
         "refusal": sheet.refused.number if sheet.refused else 0,
         "refused_at": sheet.refused.index if sheet.refused else None,

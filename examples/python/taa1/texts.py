@@ -216,11 +216,9 @@ def make_ring(desk: Desk, sitting: Sitting, where: str) -> dict[str, bytes]:
 _WORDS = ("kind", "identity", "version", "key", "number")
 
 
-def is_lines(data: bytes) -> bool:
-    """Whether a book is written in lines."""
-    if not is_text(data):
-        return False
-    first = next((line for _, line in lines_of(data.decode())), "entries")
+def is_lines(text: str) -> bool:
+    """Whether a text is a book in lines."""
+    first = next((line for _, line in lines_of(text)), "entries")
     return first.split()[0] in ("entry", "entries", "kind")
 
 
@@ -313,7 +311,7 @@ def format_lines(plain: bytes) -> str:
 def read_plain(desk: Desk, name: str, raw: bool = False) -> bytes:
     """A well-formed plain book, in lines, hexadecimal or bytes."""
     where, data = place(name), read(name)
-    if not raw and is_lines(data):
+    if not raw and is_text(data) and is_lines(data.decode()):
         data = parse_lines(desk, text_of(data, where), where)
     elif not raw and is_text(data):
         data = from_hex(data.decode(), where)

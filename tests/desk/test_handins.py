@@ -1,0 +1,380 @@
+"""Hand-ins in every form: read where that is certain, else named, and never a silent 0."""
+
+from __future__ import annotations
+
+import json
+import shutil
+import subprocess
+import unittest
+from typing import Any
+
+from common import CLASS, DESK, PLAIN_BOOK, SITTING, Case, here, seal
+from taa1.handins import FORMS, Reader, page_names
+from taa1.mark import Marker
+from taa1.records import SEALED, split
+from taa1.texts import format_lines
+
+INPUTS = (CLASS / "sitting.txt", CLASS / "model.txt")
+BOOK = seal()
+RECORDS = split(BOOK, SEALED)
+READER = Reader(Marker(DESK, SITTING, PLAIN_BOOK))
+OTHER = SITTING._replace(
+    root=SITTING.root[::-1], rs=bytes(10), rso=bytes(range(10)), c=bytes(range(50, 60)), group_key=bytes(12)
+)  # another sitting
+HEX = "hexadecimal"
+DUMP, WORDS, OCTAL = (FORMS[name].what for name in ("dump", "words", "octal"))
+
+
+def dumped(*command: str, data: bytes = BOOK) -> bytes:
+    """What a command that dumps bytes says."""
+    return subprocess.run(command, input=data, stdout=subprocess.PIPE, check=True).stdout
+
+
+def lines(size: int, between: str = "", data: bytes = BOOK) -> str:
+    """Digits, so many bytes a line."""
+    rows = [data[at : at + size] for at in range(0, len(data), size)]
+    return "".join(row.hex(between) + "\n" if between else row.hex() + "\n" for row in rows)
+
+
+# Forms that are certain: what is handed in, and how it is read.
+CERTAIN: dict[str, tuple[Any, str]] = {
+    "bytes": (BOOK, ""),
+    "digits": (BOOK.hex(), HEX),
+    "upper case": (BOOK.hex().upper(), HEX),
+    "a record a line": (lines(21), HEX),
+    "CRLF in text": (lines(21).replace("\n", "\r\n"), HEX),
+    "CR in text": (lines(21).replace("\n", "\r"), HEX),
+    "lines of an odd length": ("\n".join(BOOK.hex()[at : at + 75] for at in range(0, 504, 75)), HEX),
+    "spaces between bytes": (BOOK.hex(" "), HEX),
+    "colons between bytes": (BOOK.hex(":"), HEX),
+    "commas": (", ".join(f"{byte:02x}" for byte in BOOK), HEX),
+    "0x": (" ".join(f"0x{byte:02X}" for byte in BOOK), HEX),
+    "0x and commas": (",".join(f"0x{byte:02x}" for byte in BOOK), HEX),
+    "0x in front": ("0x" + BOOK.hex(), HEX),
+    "a list": (str([hex(byte) for byte in BOOK]), HEX),
+    "no zero in front": (" ".join(f"{byte:x}" for byte in BOOK), HEX),
+    "escapes": ("".join(f"\\x{byte:02x}" for byte in BOOK), HEX),
+    "comments": ("# mine\n" + lines(21).replace("\n", "  # a record\n"), HEX),
+    "C's comments": ("/* my\nbook */\n" + lines(21).replace("\n", " // a record\n"), HEX),
+    "a byte order mark": ("\ufeff" + lines(21), HEX),
+    "UTF-16": (lines(21).encode("utf-16"), HEX),
+    "UTF-16 without its mark": (lines(21).encode("utf-16-le"), HEX),
+    "UTF-16, the high byte first": (b"\xfe\xff" + lines(21).encode("utf-16-be"), HEX),
+    "Latin-1": (("# pr\xfcfung\n" + lines(21)).encode("latin-1"), HEX),
+    "od -An -tx1": (dumped("od", "-An", "-v", "-tx1"), HEX),
+    "od -tx1": (dumped("od", "-v", "-tx1"), DUMP),
+    "od -tx1 -Ax": (dumped("od", "-v", "-Ax", "-tx1"), DUMP),
+    "od -tx1 -Ad": (dumped("od", "-v", "-Ad", "-tx1"), DUMP),
+    "od -tx1z": (dumped("od", "-v", "-Ax", "-tx1z"), DUMP),
+    "od -x": (dumped("od", "-x"), WORDS),
+    "od -An -x": (dumped("od", "-An", "-x"), WORDS),
+    "od -tx4": (dumped("od", "-tx4"), WORDS),
+    "od": (dumped("od"), OCTAL),
+    "od -b": (dumped("od", "-b"), OCTAL),
+    "od -tu1": (dumped("od", "-tu1"), FORMS["decimal"].what),
+    "decimal": (", ".join(map(str, BOOK)), FORMS["decimal"].what),
+    "base64": (dumped("base64"), "base64"),
+    "labels": (
+        "".join(f"entry {i}: {record.hex()}\n" for i, record in enumerate(RECORDS)),
+        FORMS["records"].what,
+    ),
+    "a header of text": ("Ann, candidate 17\n" + lines(21), FORMS["records"].what),
+    "a header in front": (b"BOOK\0\1\0\0" + BOOK, "bytes, behind 8 bytes that stand in front of the book"),
+    "a long header": (
+        b"Candidate: Ann\nBook of the sitting:\n" + BOOK,
+        "bytes, behind 36 bytes that stand in front of the book",
+    ),
+}
+for tool, given in (
+    ("xxd", {"": DUMP, "-p": HEX, "-u": DUMP, "-g1": DUMP, "-c 21": DUMP, "-i": HEX}),
+    ("hexdump", {"-C": DUMP, "": WORDS, "-b": OCTAL}),
+):
+    if shutil.which(tool):
+        for options, read_as in given.items():
+            CERTAIN[f"{tool} {options}"] = (dumped(tool, *options.split()), read_as)
+
+RECORD = bytes.fromhex("01cbf75900019a81ed3bc4fff774c3df0b6bfd5399")  # the sample's entry 0
+FIXED = {  # what the tools print of it, where they are not installed
+    "xxd": (
+        "00000000: 01cb f759 0001 9a81 ed3b c4ff f774 c3df  ...Y.....;...t..\n"
+        "00000010: 0b6b fd53 99                             .k.S.\n"
+    ),
+    "xxd -i": (
+        "unsigned char ann_book[] = {\n"
+        "  0x01, 0xcb, 0xf7, 0x59, 0x00, 0x01, 0x9a, 0x81, 0xed, 0x3b, 0xc4, 0xff,\n"
+        "  0xf7, 0x74, 0xc3, 0xdf, 0x0b, 0x6b, 0xfd, 0x53, 0x99\n"
+        "};\nunsigned int ann_book_len = 21;\n"
+    ),
+    "hexdump -C": (
+        "00000000  01 cb f7 59 00 01 9a 81  ed 3b c4 ff f7 74 c3 df  |...Y.....;...t..|\n"
+        "00000010  0b 6b fd 53 99                                    |.k.S.|\n00000015\n"
+    ),
+    "hexdump": (
+        "0000000 cb01 59f7 0100 819a 3bed ffc4 74f7 dfc3\n0000010 6b0b 53fd 0099               \n0000015\n"
+    ),
+}
+
+# Hand-ins that are not certain: what is said, and the form that marks it all the same.
+WANTED = ", where a sealed one is wanted (mark --opened marks what was opened)"
+DAMAGED = "this looks like a book that was damaged when it was copied"
+STRANGE: dict[str, tuple[bytes, str, str]] = {
+    "empty": (b"", "the file is empty", "bytes"),
+    "blank": (b"\n \n", "the file is empty", "bytes"),
+    "a plain book": (PLAIN_BOOK, f"this looks like a plain book{WANTED}", "bytes"),
+    "a plain book in digits": (
+        PLAIN_BOOK.hex().encode(),
+        f"this looks like a plain book{WANTED}",
+        "hex",
+    ),
+    "lines": (format_lines(PLAIN_BOOK).encode(), f"this looks like a plain book in lines{WANTED}", ""),
+    "converted to UTF-8": (
+        BOOK.decode("latin-1").encode(),
+        f"{DAMAGED}: it was converted to UTF-8, and each byte above 7f is two now",
+        "bytes",
+    ),
+    "another sitting's": (
+        seal(OTHER),
+        "this looks like another sitting's book: no entry and no identity is the model's",
+        "bytes",
+    ),
+    "another sitting's in digits": (
+        seal(OTHER).hex().encode(),
+        "this looks like another sitting's book: no entry and no identity is the model's",
+        "hex",
+    ),
+    "noise": (
+        bytes(range(100, 226)),
+        "this looks like no sealed book: 0 of 6 records begin with a kind",
+        "bytes",
+    ),
+    "short": (b"\1\2\3", "this looks like no sealed book: 3 bytes, where a record has 21", "bytes"),
+    "a PDF": (b"%PDF-1.7\n\xff", "this looks like a PDF document, which is no book", ""),
+    "a letter": (
+        b"Dear Sir,\nthe dog ate it.\n",
+        "this looks like text that is no hexadecimal: line 1, column 4: 'r' is no hexadecimal digit",
+        "",
+    ),
+    "odd": (
+        b"012",
+        "this looks like text that is no hexadecimal: an odd number of hexadecimal digits, 3",
+        "",
+    ),
+    "another sitting's dump": (
+        dumped("od", "-tx1", data=seal(OTHER)),
+        "this looks like another sitting's book: no entry and no identity is the model's",
+        "dump",
+    ),
+}
+
+
+class Forms(unittest.TestCase):
+    """What is certain, and what is not."""
+
+    def test_certain(self) -> None:
+        for name, (content, how) in CERTAIN.items():
+            with self.subTest(name):
+                data = content.encode() if isinstance(content, str) else content
+                sheet = READER.mark("ann.book", data)
+                self.assertIsNone(sheet.problem)
+                self.assertTrue(sheet.perfect)
+                self.assertEqual(sheet.read_as, how)
+
+    def test_tools(self) -> None:
+        """What tools print of a record, also where they are not installed."""
+        self.assertEqual(RECORDS[0], RECORD)
+        for name, text in FIXED.items():
+            with self.subTest(name):
+                self.assertEqual(READER.read(text.encode()).book, RECORD)
+
+    def test_repeated(self) -> None:
+        """A line `*` of a dump stands for lines like the one before, up to the next address."""
+        data = RECORD[:5] + bytes(100) + RECORD
+        text = dumped("od", "-tx1", data=data).decode()
+        self.assertIn("*", text)
+        self.assertEqual(FORMS["dump"].read(text), data)
+
+    def test_strange(self) -> None:
+        for name, (data, said, form) in STRANGE.items():
+            with self.subTest(name):
+                advice = f"; --as ann.book={form} marks it all the same" if form else ""
+                sheet = READER.mark("ann.book", data)
+                self.assertEqual(sheet.problem, said + advice)
+                self.assertEqual((sheet.right, sheet.entries), (0, ()))
+                if form:
+                    self.assertIsNone(READER.mark("ann.book", data, form).problem)
+
+    def test_line_ends(self) -> None:
+        """Changed line ends are said, and not repaired."""
+        record = bytes.fromhex("02") + RECORDS[2][1:10] + b"\n\n" + RECORDS[2][12:]
+        book = b"".join([*RECORDS[:2], record, *RECORDS[3:]])
+        self.assertEqual(READER.mark("a", book).right, 11)
+        sheet = READER.mark("a", book.replace(b"\n", b"\r\n"))
+        said = f"{DAMAGED}: its line ends were changed, and each 0a is 0d 0a now"
+        self.assertEqual(sheet.problem, f"{said}; --as a=bytes marks it all the same")
+        forced = READER.mark("a", book.replace(b"\n", b"\r\n"), "bytes")
+        self.assertEqual((forced.problem, forced.right), (None, 2))
+
+    def test_truncated(self) -> None:
+        """The whole records are marked, and the cut one is said."""
+        for cut in (1, 10, 20):
+            sheet = READER.mark("a", BOOK[:-cut])
+            self.assertEqual((sheet.problem, sheet.right, sheet.left), (None, 11, 21 - cut))
+
+    def test_wrong_but_ours(self) -> None:
+        """A book of this sitting is marked, however wrong: one right identity is enough."""
+        wrong = b"".join(record[:6] + bytes(15) for record in RECORDS)
+        self.assertEqual(READER.mark("a", wrong).problem, None)
+        slip = seal(SITTING._replace(c=SITTING.c[::-1], root=SITTING.root[::-1]))
+        one = slip[:-21] + RECORDS[11]
+        self.assertEqual(READER.mark("a", one).problem, None)
+        for worked in ("C reversed", "root reversed"):
+            other = {"C reversed": {"c": SITTING.c[::-1]}, "root reversed": {"root": SITTING.root[::-1]}}
+            sheet = READER.mark("a", seal(SITTING._replace(**other[worked])))  # type: ignore[arg-type]
+            self.assertEqual((sheet.problem, sheet.slips[0].name), (None, worked))
+
+    def test_forced(self) -> None:
+        """A form that is given is not questioned; what can't be read so is said."""
+        self.assertEqual(READER.mark("a", BOOK.hex().encode(), "bytes").problem, None)
+        said = "it can't be read as hex: it is no text"
+        self.assertEqual(READER.mark("a", BOOK, "hex").problem, said)
+        said = "it can't be read as hex: line 1, column 2: 'o' is no hexadecimal digit"
+        self.assertEqual(READER.mark("a", b"dog", "hex").problem, said)
+
+
+class Command(Case):
+    """taa1 mark with hand-ins in many forms."""
+
+    def mark(self, *args: Any) -> Any:
+        return here("mark", *INPUTS, *args, cwd=self.folder)
+
+    def test_dry(self) -> None:
+        """Each file's reading, and nothing else; the status says if one is not marked."""
+        self.file("ann.book", BOOK)
+        self.file("ben.hex", BOOK.hex())
+        done = self.mark("ann.book", "ben.hex", "--dry", "--html", "pages")
+        said = "ann.book: read as bytes: 12 records\nben.hex: read as hexadecimal: 12 records\n"
+        self.assertEqual((done.status, done.out.decode(), done.error), (0, said, ""))
+        self.assertFalse((self.folder / "pages").exists())
+        self.file("cho.book", PLAIN_BOOK)
+        self.file("dee.book", BOOK[:-1])
+        done = self.mark("cho.book", "dee.book", "--dry")
+        first, second = done.out.decode().splitlines()
+        self.assertTrue(first.startswith("cho.book: not marked: this looks like a plain book, where"))
+        self.assertEqual(second, "dee.book: read as bytes: 11 records and 20 bytes")
+        self.assertEqual((done.status, done.error), (1, ""))
+
+    def test_said(self) -> None:
+        """Text, JSON and pages say how it was read."""
+        self.file("ben.hex", BOOK.hex())
+        words = "12 of 12 entries right; opens; read as hexadecimal"
+        self.assertEqual(self.mark("ben.hex").out.decode(), f"ben.hex: {words}\n")
+        sheet = json.loads(self.mark("ben.hex", "--json").out)["sheets"][0]
+        self.assertEqual(sheet["read_as"], "hexadecimal")
+        self.mark("ben.hex", "--html", "pages")
+        self.assertIn(words, (self.folder / "pages" / "ben.hex.html").read_text())
+
+    def test_as(self) -> None:
+        """A form for one hand-in, or for all."""
+        self.file("ann.book", BOOK)
+        self.file("ben.book", PLAIN_BOOK)
+        self.assertEqual(self.mark("ann.book", "ben.book").status, 1)
+        done = self.mark("ann.book", "ben.book", "--as", "ben.book=bytes")
+        self.assertEqual((done.status, done.error), (0, ""))
+        self.assertIn("ann.book: 12 of 12 entries right", done.out.decode())
+        self.assertIn("ben.book: 0 of 12 entries right", done.out.decode())
+        done = self.mark("ann.book", "ben.book", "--as", "bytes")
+        self.assertEqual(done.status, 0)
+        done = self.mark(self.folder / "ben.book", "--as", "ben.book=bytes")
+        self.assertEqual(done.status, 0)
+        known = ", ".join(["bytes", *FORMS])
+        for error, form in (
+            (f"mark: argument --as: no form 'hexa': they are {known}", "hexa"),
+            ("mark: argument --as: no hand-in is called 'cho.book'", "cho.book=hex"),
+        ):
+            done = self.mark("ann.book", "--as", form)
+            self.assertEqual((done.status, done.out, done.error), (2, b"", f"taa1: {error}\n"))
+
+    def test_no_model(self) -> None:
+        """A model without entries marks nothing."""
+        self.file("none.txt", "entries 0\n")
+        self.file("ann.book", BOOK)
+        error = "none.txt: no entry in it, so there is nothing to mark"
+        self.fails(2, error, "mark", INPUTS[0], "none.txt", "ann.book", cwd=self.folder)
+
+
+class Folders(Case):
+    """A folder as an argument, and the names of pages."""
+
+    def setUp(self) -> None:
+        super().setUp()
+        self.room = self.folder / "class"
+        (self.room / "below").mkdir(parents=True)
+        for name in ("ann.book", "ben.hex", "cho", ".hidden", "ann.keys", "notes.txt", "below/dee.book"):
+            (self.room / name).write_bytes(BOOK)
+        (self.room / "model").write_bytes(PLAIN_BOOK)
+
+    def mark(self, *args: Any) -> Any:
+        return here("mark", INPUTS[0], self.room / "model", *args, cwd=self.folder)
+
+    def test_folder(self) -> None:
+        """Its regular, unhidden files, but for *.keys, *.txt and those named beside it."""
+        done = self.mark("class", "--dry")
+        wanted = [f"class/{name}: read as bytes: 12 records" for name in ("ann.book", "ben.hex", "cho")]
+        left = [".hidden", "ann.keys", "below", "model", "notes.txt"]
+        wanted += [f"class/{name}: left out" for name in left]
+        self.assertEqual((done.status, done.out.decode().splitlines()), (0, wanted))
+
+    def test_named_beside_it(self) -> None:
+        done = self.mark("class", "class/ann.book", "--json")
+        names = [sheet["candidate"] for sheet in json.loads(done.out)["sheets"]]
+        self.assertEqual(names, ["class/ben.hex", "class/cho", "class/ann.book"])
+
+    def test_no_hand_in(self) -> None:
+        (self.folder / "none").mkdir()
+        error = "none: no hand-in in this folder: hidden files, *.keys and *.txt are none"
+        done = self.mark("none")
+        self.assertEqual((done.status, done.out, done.error), (2, b"", f"taa1: {error}\n"))
+
+    def test_page_names(self) -> None:
+        """After the file; a late one renames nobody; equal names get their folder's."""
+        for names, wanted in (
+            (["x/ann.book", "ben.hex"], ["ann.book.html", "ben.hex.html"]),
+            (["a/ann.book", "late.book", "b/ann.book"], ["a-ann.book.html", "late.book.html", "b-ann.book.html"]),
+            (["a/index", "a/b"], ["a-index.html", "b.html"]),
+            (["a/x", "a/x"], ["a-x.html", "a-x-2.html"]),
+            (["a/X", "b/x"], ["a-X.html", "b-x.html"]),
+            (["-"], ["standard input.html"]),
+            (["n" * 250], ["n" * 200 + ".html"]),
+        ):
+            self.assertEqual(page_names(names, "index.html"), wanted)
+
+    def test_links(self) -> None:
+        """The class's page leads to each candidate's, whatever the file is called."""
+        for name in ("a b#c?.book", "50%.book", "grüße.book"):
+            (self.room / name).write_bytes(BOOK)
+        done = self.mark("class", "--html", "pages")
+        self.assertEqual(done.status, 0)
+        index = (self.folder / "pages" / "index.html").read_text()
+        for link in ("a%20b%23c%3F.book.html", "50%25.book.html", "gr%C3%BC%C3%9Fe.book.html"):
+            self.assertIn(f'href="{link}"', index)
+
+    def test_earlier_pages(self) -> None:
+        """Pages of an earlier run are named, and removed with --clean; others are not touched."""
+        pages = self.folder / "pages"
+        self.assertEqual(self.mark("class", "--html", "pages").error, "")
+        for name in ("model.html", "notes.html"):
+            (pages / name).write_text("<!DOCTYPE html><title>mine</title>")
+        (self.room / "cho").rename(self.room / "dee")
+        done = self.mark("class", "--html", "pages")
+        said = "not of this run, but of an earlier one: cho.html (--clean removes such pages)"
+        self.assertEqual((done.status, done.error), (0, f"taa1: pages: {said}\n"))
+        ours = ["ann.book.html", "ben.hex.html", "cho.html", "dee.html", "index.html"]
+        others = ["model.html", "notes.html"]
+        self.assertEqual(sorted(path.name for path in pages.iterdir()), ours + others)
+        done = self.mark("class", "--html", "pages", "--clean")
+        self.assertEqual((done.status, done.error), (0, ""))
+        ours.remove("cho.html")
+        self.assertEqual(sorted(path.name for path in pages.iterdir()), ours + others)
+        done = self.mark("class", "--clean")
+        error = "mark: --clean is about pages, so it wants --html"
+        self.assertEqual((done.status, done.out, done.error), (2, b"", f"taa1: {error}\n"))
