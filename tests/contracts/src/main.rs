@@ -1,9 +1,10 @@
 //! Reads the crates' sources: each public function has an `ensures` and no
-//! `requires`, one that stays in its crate is `pub(crate)`, and docs/READING.md
-//! has the table of the public ones.
+//! `requires`, one that stays in its crate is `pub(crate)`, what hosts call cites
+//! definitions of `standard` alone, and docs/READING.md has the table of the public
+//! ones and that of what they cite outside `standard`.
 //!
 //!     contracts          checks; the last line: N passed, M failed
-//!     contracts table    prints the table
+//!     contracts table    prints the tables
 
 use std::fs;
 use std::path::Path;
@@ -16,6 +17,8 @@ struct Function {
     name: String,
     requires: Vec<String>,
     ensures: Vec<String>,
+    /// What it cites outside `standard`: definition and file.
+    elsewhere: Vec<(String, String)>,
 }
 
 fn read(path: &Path) -> String {
@@ -60,6 +63,31 @@ fn aliases(source: &str) -> Vec<(&str, &str)> {
         .collect()
 }
 
+/// The definitions that a file imports from another crate than `standard`, or from
+/// its own: the pairs of name and file.
+fn elsewhere(source: &str) -> Vec<(String, String)> {
+    let mut found = Vec::new();
+    for line in source.lines() {
+        let import = line.strip_prefix("ghost use Rattle·");
+        let Some((place, names)) = import.and_then(|line| line.split_once(".{")) else {
+            continue;
+        };
+        let Some((owner, file)) = place.split_once(".specs.") else {
+            continue;
+        };
+        let owner = owner.trim_end_matches("·specs");
+        if owner == "standard" {
+            continue;
+        }
+        for item in names.trim_end_matches("};").split(',') {
+            let name = item.split(" as ").next().unwrap_or("").trim();
+            let file = format!("crates/{owner}/specs/{file}.antt");
+            found.push((name.trim_matches('_').to_string(), file));
+        }
+    }
+    found
+}
+
 /// A contract's statement as a reader would say it: the values at entry by the
 /// arguments' names, those at exit marked, each definition by its own name.
 fn statement(clause: &str, aliases: &[(&str, &str)]) -> String {
@@ -96,6 +124,7 @@ fn functions(
     all: &mut Vec<Function>,
 ) -> Vec<String> {
     let aliases = aliases(source);
+    let imports = elsewhere(source);
     let mut hidden = Vec::new();
     let mut owner = None;
     let mut lines = source.lines().peekable();
@@ -126,11 +155,15 @@ fn functions(
             let of_word = clauses.iter().filter(|clause| clause.starts_with(word));
             of_word.map(|clause| statement(clause, &aliases)).collect()
         };
+        let ensures: Vec<String> = said("ensures");
+        let cited = |name: &str| ensures.iter().any(|text| words(text).contains(&name));
+        let elsewhere = imports.iter().filter(|(name, _)| cited(name)).cloned();
         let owner = owner.map_or(String::new(), |owner| format!("{owner}::"));
         all.push(Function {
             name: format!("{path}::{owner}{name}"),
             requires: said("requires"),
-            ensures: said("ensures"),
+            elsewhere: elsewhere.collect(),
+            ensures,
         });
     }
     hidden
@@ -193,6 +226,27 @@ fn table(all: &[Function]) -> String {
     text
 }
 
+/// Each definition outside `standard` with the functions that cite it.
+fn outside(all: &[Function]) -> String {
+    let mut cited: Vec<(&str, &str)> = Vec::new();
+    for (name, file) in all.iter().flat_map(|function| &function.elsewhere) {
+        if !cited.contains(&(file, name)) {
+            cited.push((file, name));
+        }
+    }
+    cited.sort_unstable();
+    let mut text = String::from("| definition | in | cited by |\n|---|---|---|\n");
+    for (file, name) in cited {
+        let by = all.iter().filter(|function| {
+            let mut of = function.elsewhere.iter();
+            of.any(|(other, place)| other == name && place == file)
+        });
+        let by: Vec<String> = by.map(|function| format!("`{}`", function.name)).collect();
+        text.push_str(&format!("| `{name}` | `{file}` | {} |\n", by.join(", ")));
+    }
+    text
+}
+
 fn main() -> ExitCode {
     let arguments: Vec<_> = std::env::args_os().skip(1).collect();
     let print = match &arguments[..] {
@@ -214,7 +268,7 @@ fn main() -> ExitCode {
         }
     }
     if print {
-        print!("{}", table(&all));
+        print!("{}\n{}", table(&all), outside(&all));
         return ExitCode::SUCCESS;
     }
 
@@ -223,8 +277,12 @@ fn main() -> ExitCode {
     }
     let mut failed = 0;
     for function in &all {
+        let name = &function.name;
         if !function.requires.is_empty() || function.ensures.is_empty() {
-            println!("{}: a requires, or no ensures", function.name);
+            println!("{name}: a requires, or no ensures");
+            failed += 1;
+        } else if name.starts_with("engine::") && !function.elsewhere.is_empty() {
+            println!("{name}: cites a definition outside standard");
             failed += 1;
         }
     }
@@ -232,9 +290,9 @@ fn main() -> ExitCode {
     let guide = read(&root.join("docs/READING.md"));
     let section = guide.split_once(HEADING).map_or("", |(_, rest)| rest);
     let shown = section.split("\n## ").next().unwrap_or("");
-    let right = shown.contains(&table(&all));
+    let right = shown.contains(&table(&all)) && shown.contains(&outside(&all));
     if !right {
-        println!("the table in docs/READING.md differs; `contracts table` prints the right one");
+        println!("a table in docs/READING.md differs; `contracts table` prints the right ones");
     }
     let passed = passed + usize::from(right);
     let failed = failed + odd.len() + usize::from(!right);
