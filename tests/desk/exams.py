@@ -7,9 +7,10 @@ from dataclasses import dataclass
 from functools import lru_cache
 from typing import Iterable, List, Tuple
 
-from reference import Entry, Keys, Ring, Sitting, Working, plain_book
+from mistakes import Remembering
+from reference import Entry, Keys, Ring, Sitting, plain_book
 
-RIGHT = Working()
+RIGHT = Remembering()
 SEALED = 21
 MOST = 1024
 
@@ -102,7 +103,7 @@ def drawn(draw: random.Random, length: int) -> bytes:
 def exam(name: str) -> Exam:
     """One of the three sittings: "both" sides, the "network" alone (1) or the "radio" alone (2)."""
     sides, model = {"both": (3, _BOTH), "network": (1, _NETWORK), "radio": (2, _RADIO)}[name]
-    draw = random.Random(f"sitting {name}")
+    draw = random.Random(f"the sitting {name}")
     root, group_key = drawn(draw, 16), drawn(draw, 12)
     rs, rso, rand1, rand2, c = (drawn(draw, 10) for _ in range(5))
     bits = [1 << place for place in draw.sample(range(16), 14)]

@@ -7,6 +7,7 @@ slip or more.
 
 from __future__ import annotations
 
+from functools import lru_cache
 from itertools import permutations
 from typing import Any, Callable, Dict, List, NamedTuple, Sequence, Tuple, cast
 
@@ -38,6 +39,29 @@ class Slip(NamedTuple):
     steps: Dict[str, Step]
 
 
+# HURDLE-II's own steps.
+CIPHER = {"registers", "turn", "schedule_constant", "round_keys", "f", "choose_bits", "rounds"}
+
+
+@lru_cache(maxsize=None)
+def _worked(decrypting: bool, key: bytes, block: bytes) -> bytes:
+    """A block; very many candidates have the same ones to work."""
+    work = Working()
+    return work.decrypt(key, block) if decrypting else work.encrypt(key, block)
+
+
+class Remembering(Working):
+    """The right working, in which no block is worked twice."""
+
+    def encrypt(self, key: bytes, block: bytes) -> bytes:
+        """As in the reference."""
+        return _worked(False, key, block)
+
+    def decrypt(self, key: bytes, block: bytes) -> bytes:
+        """As in the reference."""
+        return _worked(True, key, block)
+
+
 def altered(*slips: Slip) -> Working:
     """The working of a candidate who makes these slips, each in steps of its own."""
     steps: Dict[str, Step] = {}
@@ -45,7 +69,8 @@ def altered(*slips: Slip) -> Working:
         if steps.keys() & slip.steps.keys():
             raise ValueError(f"{slip.name} alters a step that is altered already")
         steps.update(slip.steps)
-    return cast(Working, type("Altered", (Working,), dict(steps))())
+    base = Working if steps.keys() & CIPHER else Remembering
+    return cast(Working, type("Altered", (base,), dict(steps))())
 
 
 def slip(name: str, mistake: str, **steps: Step) -> Slip:
@@ -814,7 +839,7 @@ def throughout() -> List[Slip]:
         slip(
             "decrypts-everywhere",
             "decryption for encryption everywhere, in TA61 too",
-            encrypt=lambda work, key, block: Working.decrypt(work, key, block),
+            encrypt=lambda work, key, block: work.decrypt(key, block),
         ),
     ]
 

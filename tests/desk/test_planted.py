@@ -11,7 +11,7 @@ from typing import Callable, Dict, List, Tuple
 import dumps
 import planted
 from exams import RIGHT
-from reference import records
+from reference import Working, records
 
 
 class SealedBooks(unittest.TestCase):
@@ -22,6 +22,12 @@ class SealedBooks(unittest.TestCase):
         books = list(planted.sealed_books())
         self.assertEqual(len({book.name for book in books}), len(books))
         self.assertEqual(books, list(planted.sealed_books()))
+
+    def test_remembered(self) -> None:
+        """The blocks that are remembered are those of the working without memory."""
+        for exam in planted.exams():
+            self.assertEqual(Working().recipe(exam.sitting), exam.keys)
+            self.assertEqual(Working().sealed_book(exam.ring, exam.entries), exam.sealed)
 
     def test_slips(self) -> None:
         """A slip's book is wrong, and no other slip's unless it says so."""
@@ -82,6 +88,34 @@ class HandIns(unittest.TestCase):
                 self.assertTrue(file.book, file.name)
             if file.book is not None:
                 self.assertEqual(len(file.book) % planted.SEALED, 0, file.name)
+
+
+class KeyFiles(unittest.TestCase):
+    """Files of keys beside a book."""
+
+    def test_names(self) -> None:
+        """Each has a name of its own, and is made alike again."""
+        files = list(planted.key_files())
+        self.assertEqual(len({file.name for file in files}), len(files))
+        self.assertEqual(files, list(planted.key_files()))
+
+    def test_slips(self) -> None:
+        """A slip's values are wrong; behind the first wrong one, the others follow."""
+        for file in planted.key_files():
+            if file.slips:
+                self.assertTrue(file.wrong, file.name)
+            self.assertLessEqual(set(file.followed), set(file.wrong), file.name)
+            if file.group == "one step":
+                wrong = len(file.exam.entries) - file.right
+                self.assertEqual(file.entries_followed, wrong, file.name)
+                self.assertNotIn(file.wrong[0], file.followed, file.name)
+
+    def test_seeds(self) -> None:
+        """No seed or challenge hides EXP2's slip: sum and ⊕ of its five bytes differ."""
+        files = {file.name: file for file in planted.key_files()}
+        for exam in planted.exams():
+            names = [name for name, _ in files[f"{exam.name}/exp2-xor"].values if name != "G"]
+            self.assertEqual(list(files[f"{exam.name}/exp2-xor"].wrong), names)
 
 
 class Dumps(unittest.TestCase):
