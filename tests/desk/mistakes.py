@@ -447,6 +447,11 @@ def derivations() -> List[Slip]:
         run = getattr(Working, name)
         return lambda work, session, challenge, *masks: run(work, session, challenge[::-1], *masks)
 
+    def session_o(work: Working, sitting: Any) -> Any:
+        keys = Working.recipe(work, sitting)
+        o = work.ta41(keys.session1 or keys.session2 or b"", sitting.rso)
+        return keys._replace(ring=keys.ring._replace(o=o))
+
     def mirrored(_: Working, output: bytes, mask: int) -> bytes:
         return bytes(byte for place, byte in enumerate(output) if mask >> place & 1)
 
@@ -509,6 +514,7 @@ def derivations() -> List[Slip]:
             ta11=lambda _, root, seed: root,
             ta21=lambda _, root, seed: root,
         ),
+        slip("ta41-under-session", "TA41 under a session key, not the root", recipe=session_o),
         slip("masks-from-left", "masks counted from the left", choose=mirrored),
         slip(
             "masks-low-first",

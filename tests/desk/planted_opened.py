@@ -12,7 +12,7 @@ from typing import Any, Callable, Dict, Iterator, List, NamedTuple, Optional, Se
 
 from exams import RIGHT, SEALED, Exam, exam, line
 from mistakes import Slip, Step, altered, slip
-from planted_sealed import slips
+from planted_sealed import miscounted, slips
 from reference import Entry, Unsealed, Working, groups, plain_book, records, xor
 
 # A candidate's answer to each entry: what was opened, or None for "flag".
@@ -48,13 +48,6 @@ class HandedOut(NamedTuple):
 # The book with damaged entries
 
 
-def _redundancy(place: int) -> Step:
-    """A core whose input has one byte wrong."""
-    return lambda work, key, data: Working.bl1(
-        work, key, data[:place] + bytes([data[place] ^ 0x5A]) + data[place + 1 :]
-    )
-
-
 def _damaged(of: Exam) -> bytes:
     """The model's sealed book with entries 1, 3, 4, 6, 8, 10 and 15 damaged."""
     made = records(of.sealed, SEALED)
@@ -67,10 +60,10 @@ def _damaged(of: Exam) -> bytes:
 
     made[1] = resealed(1, number_byte=high(0x20))
     made[3] = resealed(3, number_byte=high(0xE0))
-    made[4] = resealed(4, bl1=_redundancy(8))
+    made[4] = resealed(4, bl1=miscounted(8))
     made[6] = made[6][:12] + bytes([made[6][12] ^ 0x10]) + made[6][13:]
-    made[8] = resealed(8, bl1=_redundancy(14))
-    made[10] = resealed(10, bl1=_redundancy(14))
+    made[8] = resealed(8, bl1=miscounted(14))
+    made[10] = resealed(10, bl1=miscounted(14))
     made[15] = made[15][:4] + b"\x9c\x41" + made[15][6:]
     return b"".join(made)
 

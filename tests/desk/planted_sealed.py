@@ -9,7 +9,7 @@ from functools import lru_cache
 from typing import Callable, Dict, Iterable, Iterator, List, Tuple
 
 from exams import MOST, SEALED, Exam, drawn, exam, exams
-from mistakes import Slip, altered, sealing_slips
+from mistakes import Slip, Step, altered, sealing_slips
 from reference import Working, records
 
 
@@ -110,6 +110,7 @@ TOGETHER = (
     ("exp2-for-exp4-in-ta31", "x16-tb7"),
     ("d-key1", "o-for-g"),
     ("rand1-twice", "ta41-reversed", "g-x16"),
+    ("ta22-reversed", "rs-for-rso", "g-x16", "ta61-k213"),
 )
 # Slips made together in the same part: what each gives alone is not there, or only in part.
 ENTANGLED = (
@@ -117,6 +118,8 @@ ENTANGLED = (
     ("exp2-xor", "drop-last"),
     ("version-once", "unchained-in-seals"),
     ("exp3-before", "number-high-3"),
+    ("exp3-at-end", "x16-tb7"),
+    ("exp3-at-end", "number-little"),
 )
 # A slip made in some of the entries only.
 SOMETIMES: Tuple[Tuple[str, Tuple[int, ...]], ...] = (
@@ -132,7 +135,7 @@ SOMETIMES: Tuple[Tuple[str, Tuple[int, ...]], ...] = (
 
 
 def _several_slips(of: Exam) -> Iterator[SealedBook]:
-    """Two slips or three at once."""
+    """Several slips at once."""
     for group, sets in (("together", TOGETHER), ("entangled", ENTANGLED)):
         for names in sets:
             made = [slips()[name] for name in names]
@@ -162,6 +165,95 @@ def _sometimes(of: Exam) -> Iterator[SealedBook]:
             book,
             f"{_counted(of, book)}; {slips()[name].mistake}: explains {wrong} of {wrong}",
         )
+
+
+def _and_more(of: Exam) -> Iterator[SealedBook]:
+    """A slip throughout, and something else that is wrong with the book."""
+
+    def mistyped(book: List[bytes]) -> List[bytes]:
+        return book[:1] + [book[1][:-1] + bytes([book[1][-1] ^ 1])] + book[2:]
+
+    changes: Tuple[Tuple[str, str, Callable[[List[bytes]], List[bytes]]], ...] = (
+        ("mistyped", "the last digit of entry 1 mistyped as well", mistyped),
+        ("backwards", "and the last entry first", lambda book: book[::-1]),
+        ("missing", "and entry 2 left out", lambda book: book[:2] + book[3:]),
+        ("doubled", "and entry 9 again at the end", lambda book: book + book[9:10]),
+    )
+    for name in ("exp2-xor", "drop-last", "identity-plain"):
+        for change, words, run in changes:
+            book = b"".join(run(records(_slipped(of.name)[name], SEALED)))
+            mistake = f"{slips()[name].mistake}; {words}"
+            say = f"{_counted(of, book)}; both are said: {mistake}"
+            yield SealedBook(
+                f"{of.name}/{name}-{change}", "and more", of, (name,), mistake, book, say
+            )
+
+
+def _fields(of: Exam) -> Iterator[SealedBook]:
+    """An entry rightly sealed with a field that is not the model's, or with wrong redundancy."""
+    entries = of.entries
+
+    def planted(name: str, mistake: str, place: int, record: bytes, say: str) -> SealedBook:
+        book = records(of.sealed, SEALED)
+        book[place] = record
+        joined = b"".join(book)
+        say = f"{_counted(of, joined)}; entry {place}: {say}"
+        return SealedBook(f"{of.name}/{name}", "fields", of, (), mistake, joined, say)
+
+    for name, mistake, place, entry, say in (
+        (
+            "key-misread",
+            "a digit of a key misread",
+            0,
+            entries[0]._replace(key=bytes([entries[0].key[0] ^ 1]) + entries[0].key[1:]),
+            "opens, but to another key",
+        ),
+        (
+            "key-of-next",
+            "the next entry's key sealed",
+            11,
+            entries[11]._replace(key=entries[12].key),
+            "opens, but to entry 12's key",
+        ),
+        (
+            "version-misread",
+            "a version misread",
+            7,
+            entries[7]._replace(version=8),
+            "the version is 8, not 7; all else fits",
+        ),
+        (
+            "identity-misread",
+            "an identity misread",
+            2,
+            entries[2]._replace(identity=entries[2].identity ^ 0x10),
+            "the identity is another; all else fits",
+        ),
+        (
+            "number-misread",
+            "a number misread",
+            10,
+            entries[10]._replace(number=6),
+            "opens, but with number 6, not 9",
+        ),
+    ):
+        yield planted(name, mistake, place, altered().sealed_record(of.ring, entry), say)
+    for place, byte, check in ((0, 5, 1), (1, 14, 3), (2, 4, 0), (6, 14, 2)):
+        work = altered(Slip("", "", {"bl1": miscounted(byte)}))
+        yield planted(
+            f"redundancy-{place}",
+            "one redundancy byte wrongly worked, the key and the rest right",
+            place,
+            work.sealed_record(of.ring, entries[place]),
+            f"seals no key: check {check} fails, and no other",
+        )
+
+
+def miscounted(byte: int) -> Step:
+    """BL1 of an input in which one byte is wrong."""
+    return lambda work, key, data: Working.bl1(
+        work, key, data[:byte] + bytes([data[byte] ^ 0x5A]) + data[byte + 1 :]
+    )
 
 
 def _edited(of: Exam) -> Iterator[SealedBook]:
@@ -324,5 +416,7 @@ def sealed_books() -> Iterator[SealedBook]:
     of = exam("both")
     yield from _several_slips(of)
     yield from _sometimes(of)
+    yield from _and_more(of)
+    yield from _fields(of)
     yield from _edited(of)
     yield from _extra(of)

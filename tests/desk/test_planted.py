@@ -23,6 +23,16 @@ class SealedBooks(unittest.TestCase):
         self.assertEqual(len({book.name for book in books}), len(books))
         self.assertEqual(books, list(planted.sealed_books()))
 
+    def test_redundancy(self) -> None:
+        """One redundancy byte wrongly worked is one check that fails, the one that is said."""
+        books = [book for book in planted.sealed_books() if "/redundancy-" in book.name]
+        for book in books:
+            opened = [RIGHT.open_record(book.exam.ring, one) for one in records(book.book, 21)]
+            (failed,) = [failed for _, failed in opened if failed]
+            self.assertIn(f"check {failed.bit_length() - 1} fails, and no other", book.say)
+            self.assertEqual(failed & failed - 1, 0)
+        self.assertEqual(len(books), 4)
+
     def test_remembered(self) -> None:
         """The blocks that are remembered are those of the working without memory."""
         for exam in planted.exams():
