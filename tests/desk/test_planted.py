@@ -6,7 +6,7 @@ import shutil
 import subprocess
 import unittest
 from functools import partial
-from typing import Callable, Dict, List, Tuple
+from typing import Any, Callable, Dict, Iterator, List, Tuple
 
 import dumps
 import planted
@@ -14,14 +14,25 @@ from exams import RIGHT
 from reference import Working, records
 
 
-class SealedBooks(unittest.TestCase):
-    """Books that candidates sealed."""
+class Planted(unittest.TestCase):
+    """What the four functions have in common."""
 
     def test_names(self) -> None:
-        """Each has a name of its own, and is made alike again."""
-        books = list(planted.sealed_books())
-        self.assertEqual(len({book.name for book in books}), len(books))
-        self.assertEqual(books, list(planted.sealed_books()))
+        """Each hand-in has a name of its own, and is made alike again."""
+        makers: List[Callable[[], Iterator[Any]]] = [
+            planted.sealed_books,
+            planted.opened_books,
+            planted.key_files,
+            planted.hand_ins,
+        ]
+        for make in makers:
+            made = list(make())
+            self.assertEqual(len({one.name for one in made}), len(made))
+            self.assertEqual(made, list(make()))
+
+
+class SealedBooks(unittest.TestCase):
+    """Books that candidates sealed."""
 
     def test_redundancy(self) -> None:
         """One redundancy byte wrongly worked is one check that fails, the one that is said."""
@@ -58,12 +69,6 @@ class SealedBooks(unittest.TestCase):
 class OpenedBooks(unittest.TestCase):
     """What candidates opened from a handed-out book."""
 
-    def test_names(self) -> None:
-        """Each has a name of its own, and is made alike again."""
-        books = list(planted.opened_books())
-        self.assertEqual(len({book.name for book in books}), len(books))
-        self.assertEqual(books, list(planted.opened_books()))
-
     def test_slips(self) -> None:
         """A slip's answers are wrong, and no other slip's."""
         seen: Dict[Tuple[str, bytes], str] = {}
@@ -85,12 +90,6 @@ class OpenedBooks(unittest.TestCase):
 class HandIns(unittest.TestCase):
     """Files as they reach the desk."""
 
-    def test_names(self) -> None:
-        """Each has a name of its own, and is made alike again."""
-        files = list(planted.hand_ins())
-        self.assertEqual(len({file.name for file in files}), len(files))
-        self.assertEqual(files, list(planted.hand_ins()))
-
     def test_readings(self) -> None:
         """What must be marked has a book of whole records."""
         for file in planted.hand_ins():
@@ -102,12 +101,6 @@ class HandIns(unittest.TestCase):
 
 class KeyFiles(unittest.TestCase):
     """Files of keys beside a book."""
-
-    def test_names(self) -> None:
-        """Each has a name of its own, and is made alike again."""
-        files = list(planted.key_files())
-        self.assertEqual(len({file.name for file in files}), len(files))
-        self.assertEqual(files, list(planted.key_files()))
 
     def test_slips(self) -> None:
         """A slip's values are wrong; behind the first wrong one, the others follow."""
