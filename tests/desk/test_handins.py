@@ -8,10 +8,13 @@ import subprocess
 import unittest
 from typing import Any
 
+import planted
 from common import CLASS, DESK, PLAIN_BOOK, SITTING, Case, here, seal
+from taa1.engine import Sitting
 from taa1.handins import FORMS, Reader, page_names
 from taa1.mark import Marker
 from taa1.records import SEALED, split
+from taa1.sheets import others
 from taa1.texts import format_lines
 
 INPUTS = (CLASS / "sitting.txt", CLASS / "model.txt")
@@ -56,11 +59,12 @@ CERTAIN: dict[str, tuple[Any, str]] = {
     "escapes": ("".join(f"\\x{byte:02x}" for byte in BOOK), HEX),
     "comments": ("# mine\n" + lines(21).replace("\n", "  # a record\n"), HEX),
     "C's comments": ("/* my\nbook */\n" + lines(21).replace("\n", " // a record\n"), HEX),
-    "a byte order mark": ("\ufeff" + lines(21), HEX),
-    "UTF-16": (lines(21).encode("utf-16"), HEX),
-    "UTF-16 without its mark": (lines(21).encode("utf-16-le"), HEX),
-    "UTF-16, the high byte first": (b"\xfe\xff" + lines(21).encode("utf-16-be"), HEX),
-    "Latin-1": (("# pr\xfcfung\n" + lines(21)).encode("latin-1"), HEX),
+    "a byte order mark": ("\ufeff" + lines(21), f"{HEX} behind a byte order mark"),
+    "UTF-16": (lines(21).encode("utf-16"), f"{HEX} in UTF-16"),
+    "UTF-16 without its mark": (lines(21).encode("utf-16-le"), f"{HEX} in UTF-16"),
+    "UTF-16, the high byte first": (b"\xfe\xff" + lines(21).encode("utf-16-be"), f"{HEX} in UTF-16"),
+    "Latin-1": (("# pr\xfcfung\n" + lines(21)).encode("latin-1"), f"{HEX} in Latin-1"),
+    "Python's bytes": (f"{BOOK!r}\n", "Python's b'..'"),
     "od -An -tx1": (dumped("od", "-An", "-v", "-tx1"), HEX),
     "od -tx1": (dumped("od", "-v", "-tx1"), DUMP),
     "od -tx1 -Ax": (dumped("od", "-v", "-Ax", "-tx1"), DUMP),
@@ -79,10 +83,10 @@ CERTAIN: dict[str, tuple[Any, str]] = {
         FORMS["records"].what,
     ),
     "a header of text": ("Ann, candidate 17\n" + lines(21), FORMS["records"].what),
-    "a header in front": (b"BOOK\0\1\0\0" + BOOK, "bytes, behind 8 bytes that stand in front of the book"),
+    "a header in front": (b"BOOK\0\1\0\0" + BOOK, "bytes, but for 8 bytes in front"),
     "a long header": (
         b"Candidate: Ann\nBook of the sitting:\n" + BOOK,
-        "bytes, behind 36 bytes that stand in front of the book",
+        "bytes, but for 36 bytes in front",
     ),
 }
 for tool, given in (
@@ -148,7 +152,37 @@ STRANGE: dict[str, tuple[bytes, str, str]] = {
         "bytes",
     ),
     "short": (b"\1\2\3", "this looks like no sealed book: 3 bytes, where a record has 21", "bytes"),
-    "a PDF": (b"%PDF-1.7\n\xff", "this looks like a PDF document, which is no book", ""),
+    "a PDF": (b"%PDF-1.7\n\xff", "this looks like a PDF document", ""),
+    "comments": (b"# nothing yet\n", "this looks like a text without a digit", ""),
+    "cut": (BOOK[:50], "this looks like a book that was cut short: 2 records and 8 bytes", "bytes"),
+    "the first byte lost": (
+        BOOK[1:],
+        "this looks like a book behind 20 bytes, or one whose first record is cut short",
+        "bytes",
+    ),
+    "by columns": (
+        DESK.call("sealed_to_columns", BOOK)["out"],
+        "this looks like a book filed by columns (taa1 columns sealed --back puts it back)",
+        "bytes",
+    ),
+    "seven bits": (bytes(byte & 0x7F for byte in BOOK), f"{DAMAGED}: no byte is above 7f", "bytes"),
+    "a line too short": (
+        lines(21).replace(RECORDS[3].hex(), RECORDS[3].hex()[:-1]).encode(),
+        "this looks like text that is no hexadecimal: an odd number of hexadecimal digits, 503, "
+        "41 of them in line 4",
+        "",
+    ),
+    "od's lines, one lost": (
+        b"".join(dumped("od", "-tx1").splitlines(True)[1:]),
+        "this looks like a dump of bytes, but in no form that is known, or with lines lost or "
+        "doubled (od -An -v -tx1 makes one that is read)",
+        "",
+    ),
+    "a letter for a digit": (
+        b"O" + BOOK.hex()[1:].encode(),
+        "this looks like text that is no hexadecimal: line 1, column 1: 'O' is no hexadecimal digit",
+        "",
+    ),
     "a letter": (
         b"Dear Sir,\nthe dog ate it.\n",
         "this looks like text that is no hexadecimal: line 1, column 4: 'r' is no hexadecimal digit",
@@ -219,6 +253,10 @@ class Forms(unittest.TestCase):
         for cut in (1, 10, 20):
             sheet = READER.mark("a", BOOK[:-cut])
             self.assertEqual((sheet.problem, sheet.right, sheet.left), (None, 11, 21 - cut))
+            self.assertIn(f"the last record is cut short: {21 - cut} of 21 bytes", others(sheet))
+        sheet = READER.mark("a", BOOK + b"\n")
+        self.assertEqual((sheet.problem, sheet.right, sheet.left), (None, 12, 1))
+        self.assertEqual(others(sheet), ["1 more byte behind the last record"])
 
     def test_wrong_but_ours(self) -> None:
         """A book of this sitting is marked, however wrong: one right identity is enough."""
@@ -239,6 +277,30 @@ class Forms(unittest.TestCase):
         self.assertEqual(READER.mark("a", BOOK, "hex").problem, said)
         said = "it can't be read as hex: line 1, column 2: 'o' is no hexadecimal digit"
         self.assertEqual(READER.mark("a", b"dog", "hex").problem, said)
+
+
+class Planted(unittest.TestCase):
+    """Hand-ins made by a working that shares no code with the desk's."""
+
+    def test_planted(self) -> None:
+        """Each is marked or not as it must be; what is marked is read right, and what is
+        not says what it looks like."""
+        readers: dict[str, Reader] = {}
+        count = 0
+        for each in planted.hand_ins():
+            count += 1
+            exam = each.exam
+            if exam.name not in readers:
+                readers[exam.name] = Reader(Marker(DESK, Sitting(*exam.sitting), exam.plain))
+            with self.subTest(each.name):
+                sheet = readers[exam.name].mark("ann", each.content)
+                if each.marked is not None:
+                    self.assertEqual(sheet.problem is None, each.marked, sheet.problem)
+                if sheet.problem is None:
+                    self.assertEqual(sheet.right, each.right)
+                else:
+                    self.assertRegex(sheet.problem, "^(this looks like |the file is empty)")
+        self.assertGreater(count, 100)
 
 
 class Command(Case):

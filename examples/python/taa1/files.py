@@ -86,7 +86,10 @@ def from_hex(text: str, where: str) -> bytes:
                 raise Problem(f"{where}, {at}: {letter!r} is no hexadecimal digit")
     digits = "".join(text.split())
     if len(digits) % 2:
-        raise Problem(f"{where}: an odd number of hexadecimal digits, {len(digits)}")
+        counts = {number: len("".join(line.split())) for number, line in enumerate(text.splitlines(), 1)}
+        odd = [number for number, count in counts.items() if count % 2]
+        at = f", {counts[odd[0]]} of them in line {odd[0]}" if len(odd) == 1 < len(counts) else ""
+        raise Problem(f"{where}: an odd number of hexadecimal digits, {len(digits)}{at}")
     return bytes.fromhex(digits)
 
 

@@ -8,6 +8,7 @@ not certain is not marked, and it is said what it looks like.
 
 from __future__ import annotations
 
+import ast
 import base64
 import os
 import re
@@ -18,23 +19,14 @@ from typing import Callable, NamedTuple, Optional, Sequence
 
 from .engine import Refused
 from .files import MOST_BYTES, STANDARD, Problem, from_hex, place, reason
-from .mark import Marker, Sheet
+from .mark import Marked, Marker, Sheet
 from .records import KINDS, PLAIN, SEALED, split
+from .sheets import plural
 from .texts import is_lines
 
 MOST_IN_FRONT = 1024  # bytes of a header
 MOST_NAME = 200  # bytes of a page's name
-
-LOOKS = (  # files that are no book, by their first bytes
-    (b"%PDF", "a PDF document"),
-    (b"PK\3\4", "a zip archive or an office document"),
-    (b"\x1f\x8b", "a gzip archive"),
-    (b"\x89PNG", "a picture"),
-    (b"\xff\xd8\xff", "a picture"),
-    (b"{\\rtf", "a document in rich text"),
-    (b"<!DOCTYPE", "a page of HTML"),
-    (b"<html", "a page of HTML"),
-)
+BYTES = "bytes"
 
 
 # ---- forms: what turns a text into bytes, or raises Problem or ValueError
@@ -45,7 +37,7 @@ def hexadecimal(text: str) -> bytes:
     listed = re.search(r"\{([^{}]*)\}", text)  # as xxd -i writes it
     if listed:
         text = listed[1]
-    text = re.sub(r"#.*|//.*|(?s:/\*.*?\*/)|[,;:\[\]()'\"]|\\x", _blank, text)
+    text = re.sub(r"#.*|//.*|(?s:/\*.*?\*/)|[-,;:\[\]()'\"]|\\x", _blank, text)
     words = [word.lower().removeprefix("0x") for word in text.split()]
     if {len(word) for word in words} == {1, 2}:  # bytes, some without the zero in front
         text = " ".join(word.rjust(2, "0") for word in words)
@@ -54,10 +46,6 @@ def hexadecimal(text: str) -> bytes:
 
 def _blank(found: re.Match[str]) -> str:
     return re.sub(r"\S", " ", found[0])
-
-
-def _pairs(word: str) -> bytes:
-    return bytes.fromhex(word)
 
 
 def _word(word: str) -> bytes:
@@ -70,8 +58,15 @@ def _octal(word: str) -> bytes:
     return int(word, 8).to_bytes({3: 1, 6: 2}[len(word)], "little")
 
 
+def _bits(word: str) -> bytes:
+    return bytes([int(word, 2)])
+
+
 def _decimal(word: str) -> bytes:
     return bytes([int(word, 10)])
+
+
+ADDRESSED = re.compile(r"([0-9a-fA-F]{6,16})(:?)(?:\s+(.*))?$")
 
 
 def dumped(text: str, value: Callable[[str], bytes]) -> bytes:
@@ -98,7 +93,7 @@ def _addressed(lines: list[str], value: Callable[[str], bytes], base: int) -> Op
         if line == "*":
             repeated = True
             continue
-        found = re.match(r"([0-9a-fA-F]{6,16})(:?)(?:\s+(.*))?$", line)
+        found = ADDRESSED.match(line)
         try:
             address = int(found[1], base) if found else -1
         except ValueError:
@@ -112,7 +107,7 @@ def _addressed(lines: list[str], value: Callable[[str], bytes], base: int) -> Op
             return made[:address] if 0 <= len(made) - address < 8 else None
         if len(made) != address:
             return None
-        # what the bytes are as letters stands behind two spaces, or between | or >
+        # the bytes as letters stand behind two spaces, or between | or >
         values = found[3].partition("  ")[0] if found[2] else re.split(r"[|>]", found[3])[0]
         last = b"".join(map(value, values.split()))
         made += last
@@ -121,15 +116,27 @@ def _addressed(lines: list[str], value: Callable[[str], bytes], base: int) -> Op
 
 def records(text: str) -> bytes:
     """The records of lines that have one each, in 42 digits, beside whatever else."""
-    wide = 2 * SEALED
-    found = re.findall(rf"(?<![0-9a-fA-F])(?:0x)?([0-9a-fA-F]{{{wide}}})(?![0-9a-fA-F])", text)
+    found = []
+    for number, line in enumerate(text.splitlines(), 1):
+        for digits in re.findall(r"(?<![0-9a-zA-Z])(?:0x)?([0-9a-fA-F]{16,})(?![0-9a-zA-Z])", line):
+            if len(digits) != 2 * SEALED:
+                raise ValueError(f"line {number} has {len(digits)} digits, not {2 * SEALED}")
+            found.append(bytes.fromhex(digits))
     if not found:
-        raise ValueError(f"no {wide} hexadecimal digits stand together")
-    return bytes.fromhex("".join(found))
+        raise ValueError(f"no {2 * SEALED} hexadecimal digits stand together")
+    return b"".join(found)
 
 
 def _base64(text: str) -> bytes:
     return base64.b64decode("".join(text.split()), validate=True)
+
+
+def _literal(text: str) -> bytes:
+    found = re.search(r"""\bb('|").*\1""", text)
+    data = ast.literal_eval(found[0]) if found else None
+    if not isinstance(data, bytes):
+        raise ValueError("there is no b'..'")
+    return data
 
 
 class Form(NamedTuple):
@@ -141,36 +148,83 @@ class Form(NamedTuple):
 
 FORMS: dict[str, Form] = {
     "hex": Form("hexadecimal", hexadecimal),
-    "dump": Form("a dump in hexadecimal (xxd, od -tx1, hexdump -C)", lambda t: dumped(t, _pairs)),
-    "words": Form("a dump in words, their low byte first (od -x)", lambda t: dumped(t, _word)),
-    "octal": Form("a dump in octal, a word's low byte first (od)", lambda t: dumped(t, _octal)),
-    "decimal": Form("bytes in decimal", lambda t: dumped(t.replace(",", " "), _decimal)),
+    "dump": Form(
+        "a dump in hexadecimal (xxd, od -tx1, hexdump -C)", lambda text: dumped(text, bytes.fromhex)
+    ),
+    "words": Form(
+        "a dump in words, their low byte first (od -x)", lambda text: dumped(text, _word)
+    ),
+    "octal": Form(
+        "a dump in octal, a word's low byte first (od)", lambda text: dumped(text, _octal)
+    ),
+    "bits": Form("a dump in bits (xxd -b)", lambda text: dumped(text, _bits)),
+    "decimal": Form(
+        "bytes in decimal", lambda text: dumped(re.sub(r"[,;\[\]()]", " ", text), _decimal)
+    ),
     "records": Form("lines with a record of 42 digits in each", records),
     "base64": Form("base64", _base64),
+    "literal": Form("Python's b'..'", _literal),
 }
-BYTES = "bytes"
 
 
-# ---- texts
+# ---- looks: what a file is that is no book
+
+FILES = (  # by their first bytes
+    (b"%PDF", "a PDF document"),
+    (b"PK\3\4", "a zip archive or an office document"),
+    (b"\x1f\x8b", "a gzip archive"),
+    (b"\x89PNG", "a picture"),
+    (b"\xff\xd8\xff", "a picture"),
+)
+TEXTS = (  # by what is found in them
+    (r"\{\\rtf", "a document in rich text"),
+    (r"(?i)\s*<(!doctype )?html", "a page of HTML"),
+    (r"(?:.*\n){0,5}\s*(0{6,16}|[0-7]{7}):?\s", "a dump of bytes, but in no form that is known, or with "
+     "lines lost or doubled (od -An -v -tx1 makes one that is read)"),
+    (r"\s*[A-Za-z][A-Za-z0-9_ ]*=", "names and values"),
+)  # fmt: skip
 
 
-def text_of(data: bytes) -> Optional[str]:
-    """The text that these bytes are in UTF-8, UTF-16 or Latin-1, or None if they are none."""
-    codes = ["utf-8-sig", "latin-1"]
+def _line_ends(old: bytes, new: bytes) -> Callable[[bytes], bytes]:
+    """Puts back line ends that a copy has changed everywhere."""
+    return lambda book: book if old in book.replace(new, b"") else book.replace(new, old)
+
+
+def _latin(book: bytes) -> bytes:
+    return book.decode().encode("latin-1")
+
+
+DAMAGES: tuple[tuple[str, Callable[[bytes], bytes]], ...] = (
+    ("its line ends were changed, and each 0a is 0d 0a now", _line_ends(b"\n", b"\r\n")),
+    ("its line ends were changed, and each 0a is 0d now", _line_ends(b"\n", b"\r")),
+    ("it was converted to UTF-8, and each byte above 7f is two now", _latin),
+)
+DAMAGED = "a book that was damaged when it was copied"
+LOST = "\ufffd".encode()  # what stands for bytes that are no UTF-8
+WANTED = ", where a sealed one is wanted (mark --opened marks what was opened)"
+
+
+def text_of(data: bytes) -> Optional[tuple[str, str]]:
+    """The text that these bytes are, and its code if that is to be said; None if they are
+    none."""
+    codes = {"utf-8": "", "utf-8-sig": " behind a byte order mark", "latin-1": " in Latin-1"}
     if data[:2] in (b"\xff\xfe", b"\xfe\xff"):
-        codes = ["utf-16"]
+        codes = {"utf-16": " in UTF-16"}
     elif len(data) % 2 == 0 and not any(data[1::2]):
-        codes = ["utf-16-le"]
+        codes = {"utf-16-le": " in UTF-16"}
     elif len(data) % 2 == 0 and not any(data[0::2]):
-        codes = ["utf-16-be"]
-    for code in codes:
+        codes = {"utf-16-be": " in UTF-16"}
+    for code, said in codes.items():
         try:
             text = data.decode(code)
         except UnicodeDecodeError:
             continue
-        if all(letter.isprintable() or letter in "\t\r\n\f\x1a" for letter in text):
-            return text.replace("\x1a", "")  # the end of a text, once
+        if all(letter.isprintable() or letter.isspace() or letter == END for letter in text):
+            return text.replace(END, ""), said
     return None
+
+
+END = "\x1a"  # of a text, in DOS
 
 
 # ---- readings
@@ -195,10 +249,8 @@ class Reader:
         self.keys = {entry.key for entry in marker.entries}
         plain = [entry.data for entry in marker.entries]
         self.heads = {record[:1] + record[4:6] for record in plain}
-        self.names = {
-            SEALED: {record[1:4] for record in marker.model},
-            PLAIN: {record[1:4] for record in plain},
-        }
+        self.names = {PLAIN: {record[1:4] for record in plain}}
+        self.sealed_names = {record[1:4] for record in marker.model}
 
     def mark(self, name: str, data: bytes, form: str = "") -> Sheet:
         """The mark sheet of a hand-in; a form that is given is not questioned."""
@@ -215,9 +267,12 @@ class Reader:
         return self.marker.unreadable(where, problem)
 
     def common(self, book: bytes, size: int = SEALED) -> int:
-        """How many records have a kind and version, or an identity, of the model's."""
-        names = self.names[size]
-        return sum(r[:1] + r[4:6] in self.heads or r[1:4] in names for r in split(book, size))
+        """How much is the model's: records, and kinds with versions or identities."""
+        names, places = self.names.get(size, self.sealed_names), self.marker.places
+        return sum(
+            (r in places) + (r[:1] + r[4:6] in self.heads or r[1:4] in names)
+            for r in split(book, size)
+        )
 
     def forced(self, data: bytes, form: str) -> Reading:
         """A file read in a form."""
@@ -227,7 +282,7 @@ class Reader:
         try:
             if text is None:
                 raise ValueError("it is no text")
-            return Reading(FORMS[form].read(text), FORMS[form].what)
+            return Reading(FORMS[form].read(text[0]), FORMS[form].what)
         except (Problem, ValueError) as error:
             return Reading(b"", problem=f"it can't be read as {form}: {_said(error)}")
 
@@ -235,96 +290,124 @@ class Reader:
         """How a file is read, or why it is not."""
         if not data.strip():
             return Reading(b"", "", BYTES, "the file is empty")
-        for start, what in LOOKS:
+        for start, what in FILES:
             if data.startswith(start):
-                return Reading(b"", problem=f"this looks like {what}, which is no book")
+                return Reading(b"", problem=f"this looks like {what}")
         text = text_of(data)
-        if text is None:
-            return self._look(Reading(data, "", BYTES))
+        if text is not None:
+            return self._read_text(*text)
+        return self._look(Reading(data, "", BYTES))
+
+    def _read_text(self, text: str, code: str) -> Reading:
+        """How a text is read: in the form that shows most of the model."""
         readings, why = [], ""
         for name, form in FORMS.items():
             try:
-                readings.append(Reading(form.read(text), form.what, name))
-            except (Problem, ValueError) as error:
+                readings.append(Reading(form.read(text), form.what + code, name))
+            except (Problem, ValueError, SyntaxError) as error:
                 why = why or _said(error)
         best = max(readings, key=lambda each: self.common(each.book), default=Reading(b""))
         if self.common(best.book):
             return self._look(best)
         if is_lines(text):
             return Reading(b"", problem=f"this looks like a plain book in lines{WANTED}")
-        whole = [each for each in readings if each.book and len(each.book) % SEALED == 0]
-        if why and not whole:
+        # nothing is proved: digits are taken for what they seem to be
+        seem = [each for each in readings if each.form in ("hex", "dump", "words")]
+        seem.sort(key=lambda each: len(each.book) % SEALED > 0)
+        look = next((what for pattern, what in TEXTS if re.match(pattern, text)), "")
+        if look and not (seem and len(seem[0].book) % SEALED == 0):
+            return Reading(b"", problem=f"this looks like {look}")
+        if not seem:
             return Reading(b"", problem=f"this looks like text that is no hexadecimal: {why}")
-        return self._look((whole or readings)[0])
+        if not seem[0].book:
+            return Reading(b"", problem="this looks like a text without a digit")
+        return self._look(seem[0])
 
     def _look(self, reading: Reading) -> Reading:
         """What the bytes look like that were read."""
         book = reading.book
-        found = self.common(book)
-        if self._is_plain(book) and self.common(book, PLAIN) >= found:
-            return reading._replace(problem=f"this looks like a plain book{WANTED}")
+        found, (whole, left) = self.common(book), divmod(len(book), SEALED)
+        if found == 2 * whole and not left:
+            return reading
+        problem = self._other(book, found)
+        front = 0 if problem or not left else self._in_front(book, found)
+        if front and (len(book) - front) // SEALED >= len(self.marker.model):
+            how = f"{reading.how or BYTES}, but for {plural(front, 'byte')} in front"
+            return reading._replace(book=book[front:], how=how)
+        if front:
+            problem = f"a book behind {plural(front, 'byte')}, or one whose first record is cut short"
+        problem = problem or self._other_size(book, found)
+        if not problem and found and left and whole + 1 < len(self.marker.model):
+            problem = f"a book that was cut short: {plural(whole, 'record')} and {plural(left, 'byte')}"
+        return reading._replace(problem=f"this looks like {problem}") if problem else reading
+
+    def _in_front(self, book: bytes, found: int) -> int:
+        """How many bytes stand in front of a book of whole records, if that shows more."""
+        for front in range(len(book) % SEALED, min(len(book), MOST_IN_FRONT), SEALED):
+            rest = split(book[front:], SEALED)
+            if self.common(book[front:]) > found and all(record[0] in KINDS for record in rest):
+                return front
+        return 0
+
+    def _other_size(self, book: bytes, found: int) -> str:
+        """What the bytes are as records of another size, if that shows more."""
+        sizes = [size for size in range(SEALED - 3, SEALED + 4) if len(book) % size == 0]
+        best = max(sizes, key=lambda size: self.common(book, size), default=SEALED)
+        if self.common(book, best) <= found:
+            return ""
+        return f"records of {best} bytes, where a sealed one has {SEALED}"
+
+    def _other(self, book: bytes, found: int) -> str:
+        """What else a book is, plain or by columns or damaged, if that shows more."""
+        desk = self.marker.desk
+        try:
+            desk.call("check_plain", book)
+            if self.common(book, PLAIN) >= found:
+                return f"a plain book{WANTED}"
+        except Refused:
+            pass
+        try:
+            if self.common(desk.call("sealed_from_columns", book)["out"]) > found:
+                return "a book filed by columns (taa1 columns sealed --back puts it back)"
+        except Refused:
+            pass
         for damage, mend in DAMAGES:
             try:
-                mended = mend(book)
+                if self.common(mend(book)) > found:
+                    return f"{DAMAGED}: {damage}"
             except ValueError:
-                continue
-            if self.common(mended) > found:
-                said = f"this looks like a book that was damaged when it was copied: {damage}"
-                return reading._replace(problem=said)
-        for front in range(len(book) % SEALED, min(len(book), MOST_IN_FRONT), SEALED):
-            rest = book[front:]
-            if self.common(rest) > found and all(record[0] in KINDS for record in split(rest, SEALED)):
-                how = f"{reading.how or BYTES}, behind {front} bytes that stand in front of the book"
-                return reading._replace(book=rest, how=how)
-        return reading
-
-    def _is_plain(self, book: bytes) -> bool:
-        try:
-            self.marker.desk.call("check_plain", book)
-        except Refused:
-            return False
-        return True
+                pass
+        if len(book) >= 3 * SEALED and max(book) < 0x80:
+            return f"{DAMAGED}: no byte is above 7f"
+        if book.count(LOST) >= 3:
+            return f"{DAMAGED}: it was converted to UTF-8, and bytes are lost (each is ef bf bd now)"
+        return ""
 
     def strange(self, sheet: Sheet) -> Optional[str]:
         """What a marked book looks like that has nothing in common with the model."""
-        for entry in sheet.entries:
-            opened = entry.opened
-            if opened is None or entry.slip or entry.state == "doubled":
-                return None
-            if opened.identity in self.identities or opened.key in self.keys:
-                return None
         size = len(sheet.entries)
-        kinds = sum(e.opened is not None and e.opened.kind in KINDS for e in sheet.entries)
-        if not size:
-            short = f"{sheet.left} byte{'s' * (sheet.left != 1)}, where a record has {SEALED}"
-            return f"this looks like no sealed book: {short}"
+        shared = sum(map(self._is_shared, sheet.entries))
+        if shared and (not sheet.left or 2 * shared >= size):
+            return None
+        kinds = sum(e.opened is None or e.opened.kind in KINDS for e in sheet.entries)
+        if sheet.left and not 2 * kinds >= size > 0:
+            length = plural(SEALED * size + sheet.left, "byte")
+            return f"this looks like no sealed book: {length}, where a record has {SEALED}"
         if 2 * kinds < size:
             return f"this looks like no sealed book: {kinds} of {size} records begin with a kind"
         return "this looks like another sitting's book: no entry and no identity is the model's"
 
-
-WANTED = ", where a sealed one is wanted (mark --opened marks what was opened)"
+    def _is_shared(self, entry: Marked) -> bool:
+        """Whether an entry, an identity or a key is the model's, or a slip explains it."""
+        opened = entry.opened
+        if opened is None or entry.slip or entry.state == "doubled":
+            return True
+        return opened.identity in self.identities or opened.key in self.keys
 
 
 def _said(error: Exception) -> str:
     """A problem's words, without the name of a file."""
     return str(error).lstrip(", :")
-
-
-def _line_ends(book: bytes) -> bytes:
-    if book.count(b"\n") != book.count(b"\r\n"):
-        raise ValueError("not every line ends so")
-    return book.replace(b"\r\n", b"\n")
-
-
-def _latin(book: bytes) -> bytes:
-    return book.decode().encode("latin-1")
-
-
-DAMAGES: tuple[tuple[str, Callable[[bytes], bytes]], ...] = (
-    ("its line ends were changed, and each 0a is 0d 0a now", _line_ends),
-    ("it was converted to UTF-8, and each byte above 7f is two now", _latin),
-)
 
 
 # ---- files

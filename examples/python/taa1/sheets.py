@@ -11,6 +11,11 @@ MOST_LINES = 24  # of what is wrong with one book's entries
 MOST_SPANS = 12  # of entries in one line
 
 
+def plural(count: int, what: str) -> str:
+    """So many of something."""
+    return f"{count} {what}{'s' * (count != 1)}"
+
+
 def verdict(sheet: Sheet) -> str:
     """A candidate's result in a few words."""
     if sheet.problem:
@@ -27,8 +32,8 @@ def reading(sheet: Sheet) -> str:
     """How a hand-in was read, in a line."""
     if sheet.problem:
         return f"{sheet.name}: {verdict(sheet)}"
-    records = f"{len(sheet.entries)} record{'s' * (len(sheet.entries) != 1)}"
-    left = f" and {sheet.left} bytes" if sheet.left else ""
+    records = plural(len(sheet.entries), "record")
+    left = f" and {plural(sheet.left, 'byte')}" if sheet.left else ""
     return f"{sheet.name}: read as {sheet.read_as or 'bytes'}: {records}{left}"
 
 
@@ -123,7 +128,9 @@ def others(sheet: Sheet) -> list[str]:
     if sheet.missing and not sheet.problem:
         said.append(f"missing: the model's {_entries(list(sheet.missing))}")
     if sheet.left:
-        said.append(f"the last record is cut short: {sheet.left} of {SEALED} bytes")
+        more = f"{plural(sheet.left, 'more byte')} behind the last record"
+        cut = f"the last record is cut short: {sheet.left} of {SEALED} bytes"
+        said.append(cut if len(sheet.entries) < sheet.size else more)
     return said
 
 

@@ -218,8 +218,8 @@ _WORDS = ("kind", "identity", "version", "key", "number")
 
 def is_lines(text: str) -> bool:
     """Whether a text is a book in lines."""
-    first = next((line for _, line in lines_of(text)), "entries")
-    return first.split()[0] in ("entry", "entries", "kind")
+    first = next((line for _, line in lines_of(text)), "-")
+    return first.split()[0] in ("entry", "entries", *_WORDS)
 
 
 def _decimal(word: str, most: int, what: str) -> int:
