@@ -15,6 +15,7 @@ from taa1.mark import Marker, Sheet
 from taa1.records import KINDS, SEALED, Entry, Ring, split
 from taa1.slips import SLIPS, work
 from taa1.texts import read_sitting, sitting_bytes
+from taa1.working import STEPS
 
 # The sample's masks are the same from either end.
 SITTING = SAMPLE._replace(response_mask=0x1221, key_mask=0x4DDE)
@@ -22,10 +23,8 @@ RING = Ring.of(DESK.call("ring", *SITTING)["ring"])
 MARKER = Marker(DESK, SITTING, PLAIN_BOOK)
 MODEL = MARKER.model
 
-# A slip whose inputs the engine refuses: the masks' counts of ones are not each other's.
-NO_BOOK = {"masks exchanged"}
-# With both sides, this is no slip.
-NO_SLIP = {"both sides for one"}
+# Exchanged masks make a D of four bytes, and no book; with both sides, the other is no slip.
+NO_BOOK = {"masks exchanged", "both sides for one"}
 
 
 def seal(sitting: Sitting = SITTING, plain: bytes = PLAIN_BOOK) -> bytes:
@@ -161,13 +160,15 @@ class Slips(unittest.TestCase):
         names = [slip.name for slip in SLIPS]
         self.assertEqual(len(set(names)), len(names))
         for slip in SLIPS:
-            alterations = (slip.sitting, slip.ring, slip.entry, slip.record)
-            self.assertEqual(sum(each is not None for each in alterations), 1, slip.name)
-        worked = {each.slip.name: each.records for each in work(DESK, SITTING, PLAIN_BOOK)}
-        self.assertEqual(set(names) - set(worked), NO_BOOK)
-        self.assertEqual({name for name, records in worked.items() if not records}, NO_SLIP)
-        one_sided = {each.slip.name: each.records for each in work(DESK, S._replace(sides=1), PLAIN_BOOK)}
-        self.assertTrue(one_sided["both sides for one"])
+            self.assertLessEqual(set(slip.altered), set(STEPS), slip.name)
+            self.assertIn(slip.step, STEPS.values())
+        worked = {each.slip.name: each for each in work(DESK, SITTING, PLAIN_BOOK)}
+        self.assertEqual(list(worked), names)
+        self.assertEqual({name for name, each in worked.items() if not each.records}, NO_BOOK)
+        self.assertTrue(worked["masks exchanged"].keys)
+        one_side = S._replace(sides=1)
+        one_sided = {each.slip.name: each for each in work(DESK, one_side, PLAIN_BOOK)}
+        self.assertTrue(one_sided["both sides for one"].records)
 
     def test_planted(self) -> None:
         """Books worked apart from the table: the slip explains every wrong entry."""

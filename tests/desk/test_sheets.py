@@ -85,7 +85,9 @@ class Lines(unittest.TestCase):
     def test_twice(self) -> None:
         """A book stapled to itself."""
         lines = said(*MODEL, *MODEL)
-        self.assertEqual(lines[1:], ["  entries 12 to 23: are the model's entries 0 to 11 again"])
+        first = "  12 extra records: 24 records, where the model has 12 entries"
+        again = "  entries 12 to 23: are the model's entries 0 to 11 again"
+        self.assertEqual(lines[1:], [first, again])
 
     def test_more(self) -> None:
         extra = [bytes([9]) + MODEL[0][1:], bytes([9]) + MODEL[0][1:]]
@@ -101,7 +103,9 @@ class Lines(unittest.TestCase):
         noise = b"".join(draw.randbytes(SEALED) for _ in range(1025))
         lines = sheet_text(marker.mark("book", noise)).splitlines()
         self.assertLess(len(lines), 5 + MOST_LINES)
-        self.assertRegex(lines[MOST_LINES], "[0-9]+ more entries are wrong: --json and --html list each")
+        self.assertRegex(lines[1], "^  905 extra records: 1025 records, where the model has 120 entries$")
+        more = "[0-9]+ more entries are wrong: --json and --html list each"
+        self.assertRegex(lines[MOST_LINES + 1], more)
         self.assertLess(max(map(len, lines)), 300)
         self.assertLess(len(said(*(MODEL * 86)[:1025])), 5 + MOST_LINES)
 

@@ -28,7 +28,7 @@ from .model import model_answer, model_text
 from .page import is_made_by
 from .records import KINDS, PLAIN, RING
 from .sheets import reading, sheet_json, sheet_text, summary, summary_text
-from .slips import SLIPS
+from .slips import EXCHANGES, SLIPS
 
 ACCEPTED, REFUSED, WRONG_USE = 0, 1, 2
 INTERRUPTED = 130
@@ -489,7 +489,7 @@ def run_help(args: argparse.Namespace) -> int:
 
 def run_slips(args: argparse.Namespace) -> int:
     """The names of the slips that marking looks for."""
-    _emit_text(args, "".join(f"{slip.name}\n" for slip in SLIPS))
+    _emit_text(args, "".join(f"{slip.name}\n" for slip in (*SLIPS, *EXCHANGES)))
     return ACCEPTED
 
 

@@ -3,19 +3,25 @@
 A sealed book is right exactly if its records are the model's, in any order: the
 order is reported. A record that is none of the model's is unsealed by the engine
 and compared with the model's entry that it is most like, and the table of slips is
-searched for one that gives exactly its bytes.
+searched for those that give exactly its bytes, the identity's and the others apart.
 """
 
 from __future__ import annotations
 
-from bisect import bisect_left
+from collections import Counter, defaultdict
 from dataclasses import dataclass
 from typing import NamedTuple, Optional
 
 from .desk import Desk
 from .engine import Refused, Sitting
+from .explain import Found, Part, Table
+from .pairing import Pairs, out_of_order, pair
 from .records import KINDS, PLAIN, SEALED, Entry, Ring, split, whole
-from .slips import work
+from .slips import ANOTHERS, EXCHANGED, Slip, work
+
+IDENTITY, TEXT = "identity", "text"  # the parts of a record that slips explain apart
+PARTS = {IDENTITY: "identities", TEXT: "texts"}
+FIELDS = {"identity": slice(1, 4), "version": slice(4, 6), "text": slice(6, SEALED)}
 
 
 class Opened(NamedTuple):
@@ -48,6 +54,7 @@ class Marked:
     opened: Optional[Opened] = None
     differences: tuple[Difference, ...] = ()
     slip: Optional[str] = None
+    borrowed: tuple[tuple[str, int], ...] = ()  # parts that are another entry's, and whose
 
 
 class Explained(NamedTuple):
@@ -56,6 +63,8 @@ class Explained(NamedTuple):
     name: str
     entries: tuple[int, ...]
     others: tuple[str, ...]
+    part: str = ""  # of entries that have more wrong: identities or texts
+    step: tuple[str, str] = ("", "")  # at which it happens, and the clause
 
 
 class Sheet(NamedTuple):
@@ -82,10 +91,22 @@ class Sheet(NamedTuple):
         return sum(bool(entry.opened and entry.opened.failed) for entry in self.entries)
 
     @property
+    def extra(self) -> int:
+        """How many records there are beyond one for each entry of the model: those too
+        many, or further attempts at the same entries."""
+        attempts = sum(entry.state == "extra" for entry in self.entries)
+        return max(len(self.entries) - self.size, attempts)
+
+    @property
     def perfect(self) -> bool:
         """Whether the book is the model, in whatever order."""
         whole_book = not (self.problem or self.refused or self.missing or self.left)
         return whole_book and all(entry.state == "right" for entry in self.entries)
+
+
+def parts_of(record: bytes) -> dict[str, bytes]:
+    """The parts of a record that slips explain apart: the text with its kind and version."""
+    return {IDENTITY: record[1:4], TEXT: record[:1] + record[4:]}
 
 
 class Marker:
@@ -98,44 +119,65 @@ class Marker:
         self.entries = [Entry.of(record) for record in split(plain, PLAIN)]
         sealed = desk.call("seal_book", self.ring.data, plain)["out"]
         self.model = split(sealed, SEALED)
-        self.places: dict[bytes, list[int]] = {}
-        for index, record in enumerate(self.model):
-            self.places.setdefault(record, []).append(index)
-        # for the bytes of a record, the model's entries and slips that give them
-        self.given: dict[bytes, list[tuple[int, str]]] = {}
-        self.alters: dict[str, set[int]] = {}
+        self.parts = [parts_of(record) for record in self.model]
+        # by bytes that stand in records, the entries of the model that they are signs of
+        self.places: dict[bytes, set[int]] = defaultdict(set)
+        self.said: dict[bytes, list[int]] = defaultdict(list)
+        self.fields: dict[tuple[str, bytes], list[int]] = defaultdict(list)
+        for place, (record, entry) in enumerate(zip(self.model, self.entries)):
+            self.said[record[:6]].append(place)
+            for field, at in FIELDS.items():
+                self.fields[field, record[at]].append(place)
+            for value in (record[1:4], record[6:], entry.key):
+                self.places[value].add(place)
+        self.table = Table()
         for worked in work(desk, sitting, plain):
-            self.alters[worked.slip.name] = set(worked.records)
-            for index, record in worked.records.items():
-                self.given.setdefault(record, []).append((index, worked.slip.name))
+            altered = {
+                (place, part): value
+                for place, record in worked.records.items()
+                for part, value in parts_of(record).items()
+                if value != self.parts[place][part]
+            }
+            self.table.add(worked.slip, altered)
+            for (place, _), value in altered.items():
+                self.places[value].add(place)
         self.known: dict[bytes, Opened] = {}
 
     def mark(self, name: str, book: bytes) -> Sheet:
         """The mark sheet of a book."""
         records = split(book, SEALED)
-        pairs, doubled = self._pair(records)
+        pairs = pair(records, self.model, self._signs, self._said, self._alike)
         refused: Optional[Refused] = None
         try:
             self.desk.call("open_book", self.ring.data, book)
         except Refused as error:
             refused = error
-        moved = _out_of_order(pairs)
-        slips = self._explain(records, pairs)
-        named = {index: slip.name for slip in slips for index in slip.entries}
+        moved = out_of_order(pairs.entries)
+        slips, borrowed = self._explain(records, pairs.entries)
+        named: dict[int, list[str]] = defaultdict(list)
+        for slip in slips:
+            for index in slip.entries:
+                named[index].append(slip.name)
         entries = []
         for index, record in enumerate(records):
-            model = pairs.get(index)
+            model = pairs.entries.get(index)
             if model is not None and record == self.model[model]:
                 entries.append(Marked(index, "right", model, index in moved))
                 continue
-            state = "doubled" if index in doubled else "extra" if model is None else "wrong"
             opened = self._open(record)
             differences = () if model is None else _differences(opened, self.entries[model])
-            model = doubled.get(index, model)
             entries.append(
-                Marked(index, state, model, index in moved, opened, differences, named.get(index))
+                Marked(
+                    index,
+                    *_state(pairs, index),
+                    index in moved,
+                    opened,
+                    differences,
+                    "; ".join(named[index]) or None,
+                    tuple(borrowed.get(index, {}).items()),
+                )
             )
-        missing = sorted(set(range(len(self.model))) - set(pairs.values()))
+        missing = sorted(set(range(len(self.model))) - set(pairs.entries.values()))
         left = len(book) % SEALED
         size = len(self.model)
         return Sheet(name, None, refused, size, tuple(entries), tuple(missing), left, slips)
@@ -143,6 +185,8 @@ class Marker:
     def unreadable(self, name: str, problem: str) -> Sheet:
         """The sheet of a book that can't be read."""
         return Sheet(name, problem, None, len(self.model), missing=tuple(range(len(self.model))))
+
+    # ---- what a record says
 
     def _open(self, record: bytes) -> Opened:
         """What a record says under the model's ring."""
@@ -163,99 +207,97 @@ class Marker:
             return Opened(record[0], identity, version, None, None, failed)
         return Opened(record[0], identity, version, text["key"], text.get("number"), ())
 
-    def _pair(self, records: list[bytes]) -> tuple[dict[int, int], dict[int, int]]:
-        """For each record the model's entry that it is, or is most like; and for each
-        record that repeats one, that one."""
-        pairs = {i: i for i, (a, b) in enumerate(zip(records, self.model)) if a == b}
-        free = set(range(len(self.model))) - set(pairs)
-        doubled: dict[int, int] = {}
-        others: list[int] = []
-        for index, record in enumerate(records):
-            if index in pairs:
-                continue
-            places = self.places.get(record)
-            if places is None:
-                others.append(index)
-                continue
-            place = next((place for place in places if place in free), None)
-            if place is None:
-                doubled[index] = places[0]
-            else:
-                pairs[index] = place
-                free.discard(place)
-        self._pair_slips(records, others, pairs, free)
-        self._pair_alike(records, [i for i in others if i not in pairs], pairs, free)
-        return pairs, doubled
+    def _signs(self, record: bytes) -> dict[int, int]:
+        """The entries that a record shows signs of, and their weight. An identity weighs
+        more than a text: who exchanges two texts writes each behind the other's."""
+        weights: Counter[int] = Counter()
+        parts = parts_of(record)
+        key = self._open(record).key
+        for value, weight in ((parts[IDENTITY], 3), (parts[TEXT], 2), (record[6:], 2), (key, 1)):
+            for place in self.places.get(value, ()) if value else ():
+                weights[place] += 2 * weight
+        for place in weights:
+            weights[place] += self._alike(record, place)
+        return weights
 
-    def _pair_slips(
-        self, records: list[bytes], others: list[int], pairs: dict[int, int], free: set[int]
-    ) -> None:
-        """Pairs the records that a slip gives with the entries it gives them for."""
-        for index in others:
-            places = [place for place, _ in self.given.get(records[index], ()) if place in free]
-            if places:
-                place = index if index in places else places[0]
-                pairs[index] = place
-                free.discard(place)
+    def _alike(self, record: bytes, place: int) -> int:
+        """Whether a record shows an entry's kind, and its version."""
+        model = self.model[place]
+        return (record[0] == model[0]) + (record[4:6] == model[4:6])
 
-    def _pair_alike(
-        self, records: list[bytes], others: list[int], pairs: dict[int, int], free: set[int]
-    ) -> None:
-        """Pairs the rest: in the same place if alike, then the most alike, then in order."""
-        for index in others:
-            if index in free and self._likeness(records[index], index) >= 2:
-                pairs[index] = index
-                free.discard(index)
-        rest = [index for index in others if index not in pairs]
-        alike = [
-            (-likeness, abs(index - place), index, place)
-            for index in rest
-            for place in free
-            for likeness in [self._likeness(records[index], place)]
-            if likeness
-        ]
-        for _, _, index, place in sorted(alike):
-            if index not in pairs and place in free:
-                pairs[index] = place
-                free.discard(place)
-        for index, place in zip([i for i in rest if i not in pairs], sorted(free)):
-            pairs[index] = place
-            free.discard(place)
+    def _said(self, record: bytes) -> list[int]:
+        """The entries whose kind, identity and version a record shows."""
+        return self.said.get(record[:6], [])
 
-    def _likeness(self, record: bytes, place: int) -> int:
-        """How much a record is like an entry of the model."""
-        opened, entry = self._open(record), self.entries[place]
-        return (
-            2 * (opened.identity == entry.identity)
-            + 2 * (opened.key == entry.key)
-            + (opened.kind == entry.kind)
-            + (opened.version == entry.version)
-        )
+    # ---- what explains it
 
-    def _explain(self, records: list[bytes], pairs: dict[int, int]) -> tuple[Explained, ...]:
-        """The slips that give the wrong entries: the one that explains most comes first,
-        then the one that explains most of the rest. Of slips that explain as many, one
-        that would have altered fewer of the right entries is the likelier."""
-        explains: dict[str, list[int]] = {}
-        right: set[int] = set()
+    def _explain(
+        self, records: list[bytes], pairs: dict[int, int]
+    ) -> tuple[tuple[Explained, ...], dict[int, dict[str, int]]]:
+        """The slips that give the wrong entries; and for each entry the fields that are
+        another one's, and whose."""
+        wrong: dict[Part, bytes] = {}
+        right: list[Part] = []
+        at = {place: index for index, place in pairs.items()}
         for index, place in pairs.items():
-            if records[index] == self.model[place]:
-                right.add(place)
-                continue
-            for given, slip in self.given.get(records[index], ()):
-                if given == place:
-                    explains.setdefault(slip, []).append(index)
-        against = {slip: len(right & self.alters[slip]) for slip in explains}
-        found: list[Explained] = []
-        left = {index for entries in explains.values() for index in entries}
-        while left:
-            rest = {slip: left.intersection(entries) for slip, entries in explains.items()}
-            best = max(rest, key=lambda slip: (len(rest[slip]), -against[slip]))
-            same = [slip for slip in rest if rest[slip] == rest[best] and slip != best]
-            others = tuple(slip for slip in same if against[slip] == against[best])
-            found.append(Explained(best, tuple(sorted(rest[best])), others))
-            left -= rest[best]
-        return tuple(found)
+            for part, value in parts_of(records[index]).items():
+                if value == self.parts[place][part]:
+                    right.append((place, part))
+                else:
+                    wrong[place, part] = value
+        found = self.table.explain(wrong, right)
+        rest = set(wrong).difference(*(each.parts for each in found))
+        exchanges, borrowed = self._exchanged({p: records[i] for p, i in at.items()}, rest)
+        slips = tuple(_explained(each, set(wrong), at) for each in [*found, *exchanges])
+        return slips, {at[place]: fields for place, fields in borrowed.items()}
+
+    def _exchanged(
+        self, records: dict[int, bytes], rest: set[Part]
+    ) -> tuple[list[Found], dict[int, dict[str, int]]]:
+        """Fields that are another entry's, where no slip explains them and nothing else is
+        wrong in their part."""
+        owners: dict[tuple[int, str], list[int]] = {}
+        for place, record in records.items():
+            model = self.model[place]
+            for field, at in FIELDS.items():
+                part = IDENTITY if field == IDENTITY else TEXT
+                mended = record[: at.start] + model[at] + record[at.stop :]
+                if (place, part) in rest and parts_of(mended)[part] == self.parts[place][part]:
+                    owners[place, field] = self.fields.get((field, record[at]), [])
+        named: dict[str, tuple[Slip, set[Part]]] = {}
+        borrowed: dict[int, dict[str, int]] = defaultdict(dict)
+        for (place, field), others in owners.items():
+            mutual = [other for other in others if place in owners.get((other, field), ())]
+            slip = EXCHANGED[field] if mutual else ANOTHERS.get(field)
+            if others and slip:
+                part = IDENTITY if field == IDENTITY else TEXT
+                named.setdefault(slip.name, (slip, set()))[1].add((place, part))
+                borrowed[place][field] = (mutual or others)[0]
+        return [Found(slip, frozenset(parts), ()) for slip, parts in named.values()], borrowed
+
+
+def _state(pairs: Pairs, index: int) -> tuple[str, Optional[int]]:
+    """The state of a record that is not right, and the entry that it is about."""
+    if index in pairs.entries:
+        return "wrong", pairs.entries[index]
+    if index in pairs.again:
+        return "doubled", pairs.again[index]
+    return "extra", pairs.attempts.get(index)
+
+
+def _explained(found: Found, wrong: set[Part], at: dict[int, int]) -> Explained:
+    """A slip in the words of a sheet."""
+    places = {place for place, _ in found.parts}
+    kinds = {part for _, part in found.parts}
+    all_of_them = all((p, part) in found.parts for p, part in wrong if p in places)
+    part = "" if all_of_them or len(kinds) > 1 else PARTS[kinds.pop()]
+    return Explained(
+        found.slip.name,
+        tuple(sorted(at[place] for place in places)),
+        tuple(slip.name for slip in found.others),
+        part,
+        found.slip.step,
+    )
 
 
 def _differences(opened: Opened, entry: Entry) -> tuple[Difference, ...]:
@@ -273,26 +315,3 @@ def _differences(opened: Opened, entry: Entry) -> tuple[Difference, ...]:
 
 def _dash(number: Optional[int]) -> str:
     return "-" if number is None else str(number)
-
-
-def _out_of_order(pairs: dict[int, int]) -> set[int]:
-    """The records to move, as few as can be, for the order of the model."""
-    indexes = sorted(pairs)
-    ends: list[int] = []  # for each length, the least last place of a rising run
-    at: list[int] = []
-    before: dict[int, Optional[int]] = {}
-    for index in indexes:
-        length = bisect_left(ends, pairs[index])
-        if length == len(ends):
-            ends.append(pairs[index])
-            at.append(index)
-        else:
-            ends[length] = pairs[index]
-            at[length] = index
-        before[index] = at[length - 1] if length else None
-    keep: set[int] = set()
-    last = at[-1] if at else None
-    while last is not None:
-        keep.add(last)
-        last = before[last]
-    return set(indexes) - keep

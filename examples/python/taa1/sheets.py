@@ -7,7 +7,8 @@ from typing import Any, Iterable, NamedTuple
 from .mark import Explained, Marked, Opened, Sheet
 from .records import KINDS, SEALED
 
-MOST_LINES = 24  # of what is wrong with one book's entries
+MOST_VALUES = 12  # lines of what is wrong with one book's entries that have values
+MOST_LINES = 24  # such lines
 MOST_SPANS = 12  # of entries in one line
 
 
@@ -71,24 +72,36 @@ def failed_checks(opened: Opened) -> str:
     return f"{len(failed)} of {kind.checks} checks {fail}: {' and '.join(said)}"
 
 
-def _like(entry: Marked) -> tuple[Any, ...]:
+def _like(entry: Marked, values: bool = True) -> tuple[Any, ...]:
     """Entries that are equal in this have one line: what is wrong with them, and how far
-    from the model's entry they stand."""
+    from the model's entry they stand; without values, which fields are wrong."""
+    if entry.state == "doubled" or entry.state == "extra" and entry.model is not None:
+        return entry.state, 0, (), (), "", False
     opened = entry.opened
     failed = failed_checks(opened) if opened and opened.failed else ""
     no_kind = opened is not None and opened.kind not in KINDS
     shift = 0 if entry.model is None else entry.model - entry.index
-    return entry.state, shift, entry.differences, failed, no_kind
+    borrowed = tuple((field, owner - entry.index) for field, owner in entry.borrowed)
+    said = tuple(
+        f"{d.field} {d.has}, not {d.wants}" if values else f"another {d.field}"
+        for d in entry.differences
+    )
+    return entry.state, shift, said, borrowed, failed, no_kind
 
 
-def fault(*entries: Marked) -> str:
+def fault(*entries: Marked, values: bool = True) -> str:
     """What is wrong with an entry, or with each of entries that are alike, in a few words."""
-    state, _, differences, failed, no_kind = _like(entries[0])
+    state, _, said, borrowed, failed, no_kind = _like(entries[0], values)
     one = len(entries) == 1
+    models = sorted({entry.model for entry in entries if entry.model is not None})
     if state == "doubled":
-        models = [entry.model for entry in entries if entry.model is not None]
         return f"{'is' if one else 'are'} the model's {_entries(models)} again"
-    faults = [f"{d.field} {d.has}, not {d.wants}" for d in differences]
+    if state == "extra" and models:
+        return f"{'one ' * one}more attempt{'s' * (not one)} at the model's {_entries(models)}"
+    faults = list(said)
+    for field, _ in borrowed:
+        owners = _entries([dict(entry.borrowed)[field] for entry in entries])
+        faults.append(f"{'has' if one else 'have'} the {field} of the model's {owners}")
     if failed:
         faults.append(f"seal{'s' * one} no key: {failed}")
     if no_kind:
@@ -98,25 +111,42 @@ def fault(*entries: Marked) -> str:
     return "; ".join(faults)
 
 
-def faults(sheet: Sheet) -> list[str]:
-    """What is wrong with a book's entries, a line for all that are alike; of very many
-    lines, the first ones."""
+def _alike(entries: Iterable[Marked], values: bool) -> list[list[Marked]]:
+    """The entries that are not right, those together that are alike."""
     alike: dict[tuple[Any, ...], list[Marked]] = {}
-    for entry in sheet.entries:
+    for entry in entries:
         if entry.state != "right":
-            alike.setdefault(_like(entry), []).append(entry)
-    groups = list(alike.values())
+            alike.setdefault(_like(entry, values), []).append(entry)
+    return list(alike.values())
+
+
+def faults(sheet: Sheet) -> list[str]:
+    """What is wrong with a book's entries, a line for all that are alike. Of many lines the
+    values are left out, and of very many, the last ones."""
+    groups = _alike(sheet.entries, True)
+    values = len(groups) <= MOST_VALUES
+    if not values:
+        groups = _alike(sheet.entries, False)
     shown = groups if len(groups) <= MOST_LINES else groups[: MOST_LINES - 1]
     said = []
     for group in shown:
         models = [entry.model for entry in group if entry.model is not None]
         away = group[0].state == "wrong" and models[0] != group[0].index
         like = f" (the model's {spans(models)})" if away else ""
-        said.append(f"{_entries([entry.index for entry in group])}{like}: {fault(*group)}")
+        what = fault(*group, values=values)
+        said.append(f"{_entries([entry.index for entry in group])}{like}: {what}")
     more = sum(map(len, groups[len(shown) :]))
     if more:
         said.append(f"{more} more entries are wrong: --json and --html list each")
     return said
+
+
+def too_many(sheet: Sheet) -> list[str]:
+    """What is to be said first of a book with more records than one for each entry."""
+    if not sheet.extra:
+        return []
+    extra = f"{sheet.extra} extra record{'s' * (sheet.extra != 1)}"
+    return [f"{extra}: {len(sheet.entries)} records, where the model has {sheet.size} entries"]
 
 
 def others(sheet: Sheet) -> list[str]:
@@ -138,13 +168,14 @@ def explanation(slip: Explained, sheet: Sheet) -> str:
     """How much a slip explains."""
     wrong = sum(entry.state == "wrong" for entry in sheet.entries)
     same = f" (or: {'; '.join(slip.others)})" if slip.others else ""
-    return f"{slip.name}{same}: explains {len(slip.entries)} of {wrong} wrong entries"
+    part = f", their {slip.part}" if slip.part else ""
+    return f"{slip.name}{same}: explains {len(slip.entries)} of {wrong} wrong entries{part}"
 
 
 def sheet_text(sheet: Sheet) -> str:
     """A mark sheet as lines of text."""
     lines = [f"{sheet.name}: {verdict(sheet)}"]
-    lines += [f"  {line}" for line in faults(sheet) + others(sheet)]
+    lines += [f"  {line}" for line in too_many(sheet) + faults(sheet) + others(sheet)]
     lines += [f"  slip: {explanation(slip, sheet)}" for slip in sheet.slips]
     return "\n".join(lines) + "\n"
 
@@ -202,11 +233,20 @@ def sheet_json(sheet: Sheet) -> dict[str, Any]:
         "refused_at": sheet.refused.index if sheet.refused else None,
         "right": sheet.right,
         "of": sheet.size,
+        "extra": sheet.extra,
         "entries": [_entry_json(entry) for entry in sheet.entries],
         "missing": list(sheet.missing),
         "bytes_left": sheet.left,
         "slips": [
-            {"slip": s.name, "explains": list(s.entries), "or": list(s.others)} for s in sheet.slips
+            {
+                "slip": s.name,
+                "step": s.step[0],
+                "clause": s.step[1],
+                "explains": list(s.entries),
+                "part": s.part or None,
+                "or": list(s.others),
+            }
+            for s in sheet.slips
         ],
     }
 
@@ -219,5 +259,6 @@ def _entry_json(entry: Marked) -> dict[str, Any]:
         "moved": entry.moved,
         "failed_checks": list(entry.opened.failed) if entry.opened else [],
         "differences": [difference._asdict() for difference in entry.differences],
+        "of_other_entries": dict(entry.borrowed),
         "slip": entry.slip,
     }

@@ -1,30 +1,125 @@
-"""The slips that candidates make: one table, each a name and an alteration.
+"""The slips that candidates make: one table, each a name and the steps that it alters.
 
-A slip alters one thing in the working of the model: the sitting that the recipe
-takes, the ring that comes of it, an entry before it is sealed, or its record
-afterwards. The engine then works the book again, so a slip holds no cryptography:
-it exchanges, reverses, replaces and leaves out.
+A slip is the working of `working.Steps` with a step altered wherever it occurs, or in
+some algorithms alone. The blocks come from the engine all the same, so a slip holds
+no cipher: it exchanges, reverses, replaces and leaves out.
 """
 
 from __future__ import annotations
 
-from typing import Callable, Iterator, NamedTuple, Optional
+from itertools import permutations
+from typing import Any, Callable, Iterable, Iterator, Mapping, NamedTuple, Optional
 
 from .desk import Desk
-from .engine import Refused, Sitting
-from .model import sides_of
+from .engine import Sitting
 from .records import PLAIN, SEALED, Entry, Ring, split
+from .working import (
+    EXP3_GROUPS,
+    FOURS,
+    PAIRS,
+    STEPS,
+    THREES,
+    Blocks,
+    Keys,
+    Opened,
+    Steps,
+    groups,
+    ring_of,
+    summed,
+    xor,
+    xored,
+)
+
+Alteration = Callable[..., Any]
+
+DERIVING = ("TA11", "TA21", "TA41", "TA12", "TA22")
+SEALING = ("TA31", "TA51", "TA81", "TA91")
+# The steps that no seal and no identity has.
+KEY_STEPS = {"inputs", "reversed_seed", "split", "chosen", "tb4", "tb7", "ring", "exp2", "last_byte"}
+KEY_STEPS |= {name.lower() for name in DERIVING}
 
 
 class Slip(NamedTuple):
-    """A slip: its name, and the alteration, of which it has one."""
+    """A slip: its name, and what it makes of steps, by their methods."""
 
     name: str
-    sitting: Optional[Callable[[Sitting], Sitting]] = None
-    ring: Optional[Callable[[Desk, Sitting, Ring], Ring]] = None
-    entry: Optional[Callable[[Entry], Optional[Entry]]] = None  # None: it can't be made here
-    keeps: bool = False  # an altered entry's record still shows the entry's kind and version
-    record: Optional[Callable[[Desk, Ring, Entry, bytes], bytes]] = None
+    altered: Mapping[str, Alteration]
+    family: str = ""  # the name of the slip that it is in some algorithms alone
+    algorithms: tuple[str, ...] = ()  # those
+
+    @property
+    def step(self) -> tuple[str, str]:
+        """The step at which it happens, and its clause."""
+        return STEPS[next(iter(self.altered), "record")]
+
+    @property
+    def kin(self) -> str:
+        """The name that it shares with the slips that are it in some algorithms alone."""
+        return self.family or self.name
+
+    @property
+    def in_keys_alone(self) -> bool:
+        """Whether it can alter nothing but keys."""
+        limited = bool(self.algorithms) and set(self.algorithms) <= set(DERIVING)
+        return limited or set(self.altered) <= KEY_STEPS
+
+
+def _within(step: str, alteration: Alteration, algorithms: tuple[str, ...]) -> Alteration:
+    """An alteration in some algorithms alone."""
+    right = getattr(Steps, step)
+
+    def alter(steps: Steps, *inputs: Any) -> Any:
+        return (alteration if steps.algorithm in algorithms else right)(steps, *inputs)
+
+    return alter
+
+
+def _limited(
+    name: str, altered: Mapping[str, Alteration], *places: Mapping[str, tuple[str, ...]]
+) -> list[Slip]:
+    """A slip wherever its step occurs, then in each of these places alone."""
+    made = [Slip(name, altered)]
+    for words, algorithms in ((key, value) for place in places for key, value in place.items()):
+        limited = {step: _within(step, alter, algorithms) for step, alter in altered.items()}
+        made.append(Slip(f"{name}, in {words} alone", limited, name, algorithms))
+    return made
+
+
+_SESSION = {"TA11, TA21 and TA41": DERIVING[:3], "TA12 and TA22": DERIVING[3:]}
+_EACH_KEY: dict[str, tuple[str, ...]] = {**_SESSION, **{name: (name,) for name in DERIVING}}
+_KEYS_OR_SEALS = {"deriving keys": DERIVING, "sealing": SEALING}
+_EXP2_OR_TA31 = {"EXP2": DERIVING, "TA31": ("TA31",)}
+_TA31_OR_TA61: dict[str, tuple[str, ...]] = {"TA31 and TA32": ("TA31", "TA32"), "TA61": ("TA61",)}
+
+
+# ---- the sitting and the ring
+
+
+def _sitting(name: str, change: Callable[[Sitting], Sitting]) -> Slip:
+    return Slip(name, {"inputs": lambda steps, sitting: change(sitting)})
+
+
+def _reversed(name: str, *inputs: str) -> Slip:
+    """Inputs of the sitting with their bytes in the other order."""
+    return _sitting(name, lambda s: s._replace(**{each: getattr(s, each)[::-1] for each in inputs}))
+
+
+def _taken(name: str, **taken: str) -> Slip:
+    """Inputs of the sitting in the place of others."""
+    return _sitting(
+        name, lambda s: s._replace(**{wanted: getattr(s, used) for wanted, used in taken.items()})
+    )
+
+
+def _sides(name: str, sides: Callable[[int], int]) -> Slip:
+    return _sitting(name, lambda s: s._replace(sides=sides(s.sides)))
+
+
+def _masks(name: str, change: Callable[[int], int]) -> Slip:
+    return _sitting(
+        name,
+        lambda s: s._replace(response_mask=change(s.response_mask), key_mask=change(s.key_mask)),
+    )
 
 
 def exchanged(number: int) -> int:
@@ -37,246 +132,576 @@ def mirrored(mask: int) -> int:
     return int(f"{mask:016b}"[::-1], 2)
 
 
-def _reversed(name: str) -> Callable[[Sitting], Sitting]:
-    return lambda s: s._replace(**{name: getattr(s, name)[::-1]})
+def _ring(name: str, **taken: Callable[[Steps, Sitting, Ring], Any]) -> Slip:
+    """Other keys in the ring's places."""
+
+    def alter(steps: Steps, sitting: Sitting, *keys: bytes) -> Ring:
+        ring = Ring(*keys)
+        return ring._replace(**{key: make(steps, sitting, ring) for key, make in taken.items()})
+
+    return Slip(name, {"ring": alter})
 
 
-def _for(used: str, wanted: str) -> Callable[[Sitting], Sitting]:
-    """One input of the sitting in the place of another."""
-    return lambda s: s._replace(**{wanted: getattr(s, used)})
+def _of_o(steps: Steps, sitting: Sitting, ring: Ring) -> bytes:
+    return ring.o[:10]
 
 
-def _both(one: str, other: str) -> Callable[[Sitting], Sitting]:
-    """Two inputs exchanged."""
-    return lambda s: s._replace(**{one: getattr(s, other), other: getattr(s, one)})
+def _exp4_of_d(steps: Steps, sitting: Sitting, ring: Ring) -> bytes:
+    return steps.exp4(ring.d)
 
 
-def _sides(sides: int) -> Callable[[Sitting], Sitting]:
-    return lambda s: s._replace(sides=sides)
+def _d_and_zeros(steps: Steps, sitting: Sitting, ring: Ring) -> bytes:
+    return ring.d + bytes(6)
 
 
-def _session_key(derive: str) -> Callable[[Desk, Sitting, Ring], Ring]:
-    """The session keys of both sides made by the same call."""
+def _kind_under(kind: int, key: str) -> Slip:
+    """A kind under another key of the ring."""
 
-    def alter(desk: Desk, sitting: Sitting, ring: Ring) -> Ring:
-        keys = [bytes(10), bytes(10)]
-        session_key = desk.call(derive, sitting.root, sitting.rs)["bytes"]
-        masks = (sitting.response_mask, sitting.key_mask)
-        for side, (call, challenge) in enumerate((("ta12", sitting.rand1), ("ta22", sitting.rand2))):
-            if sitting.sides >> side & 1:
-                keys[side] = desk.call(call, session_key, challenge, *masks)["key"]
-        return ring._replace(d=desk.call("tb4", *keys)["bytes"])
+    def alter(steps: Steps, ring: Ring, of: int) -> bytes:
+        made: bytes = getattr(ring, key) if of == kind else Steps.sealing_key(steps, ring, of)
+        return made
 
-    return alter
+    return Slip(f"kind {kind} under {key.upper()}", {"sealing_key": alter})
 
 
-def _modified(desk: Desk, sitting: Sitting, ring: Ring) -> Ring:
-    """D by TA71 in the place of TB4."""
-    first, second = sides_of(desk, sitting)
-    return ring._replace(d=desk.call("ta71", first["key"], second["key"])["bytes"])
+def _key_as(choose: Callable[[bytes, int], bytes]) -> Mapping[str, Alteration]:
+    """The key by another choice than its mask's; it takes the output and the response's mask."""
+    return {
+        "split": lambda steps, output, response_mask, key_mask: (
+            steps.chosen(output, response_mask),
+            choose(output, response_mask),
+        )
+    }
 
 
-def _as_kind(have: int, used: int) -> Callable[[Entry], Optional[Entry]]:
-    """An entry of one kind taken for another, whose key and number are as long."""
-
-    def alter(entry: Entry) -> Optional[Entry]:
-        return entry._replace(kind=used) if entry.kind == have else None
-
-    return alter
+def _left_over(output: bytes, mask: int) -> bytes:
+    return bytes(byte for i, byte in enumerate(output) if not mask >> (15 - i) & 1)
 
 
-def _regrouped(have: int, used: int) -> Callable[[Entry], Optional[Entry]]:
-    """A body of twelve bytes read by the other of the kinds 3 and 4."""
-
-    def alter(entry: Entry) -> Optional[Entry]:
-        return Entry.of(bytes([used]) + entry.data[1:]) if entry.kind == have else None
-
-    return alter
+def _ta71(steps: Steps, key1: bytes, key2: bytes) -> bytes:
+    made: bytes = steps.desk.call("ta71", key1, key2)["bytes"]
+    return made
 
 
-def _under_d(entry: Entry) -> Optional[Entry]:
-    """The key alone, as TA31 seals it under D."""
-    if entry.kind == 1 or len(entry.key) != 10:
-        return None
-    return entry._replace(kind=1, number=None)
-
-
-def _version(new: Callable[[Entry], int]) -> Callable[[Entry], Optional[Entry]]:
-    return lambda e: e._replace(version=new(e))
-
-
-def _number(new: Callable[[int], int]) -> Callable[[Entry], Optional[Entry]]:
-    return lambda e: None if e.number is None else e._replace(number=new(e.number))
-
-
-def _numbers_exchanged(entry: Entry) -> Optional[Entry]:
-    if entry.number is None:
-        return None
-    return entry._replace(version=entry.number, number=entry.version)
-
-
-def _identity(entry: Entry) -> bytes:
-    return entry.identity.to_bytes(3, "big")
-
-
-def _with_identity(record: bytes, identity: bytes) -> bytes:
-    return record[:1] + identity + record[4:]
-
-
-def _bare_identity(desk: Desk, ring: Ring, entry: Entry, record: bytes) -> bytes:
-    return _with_identity(record, _identity(entry))
-
-
-def _inverse_identity(desk: Desk, ring: Ring, entry: Entry, record: bytes) -> bytes:
-    made = desk.call("ta61_inverse", ring.c, entry.identity)["identity"]
-    return _with_identity(record, made.to_bytes(3, "big"))
-
-
-def _reversed_identity(desk: Desk, ring: Ring, entry: Entry, record: bytes) -> bytes:
-    return _with_identity(record, record[3:0:-1])
-
-
-def _reversed_text(desk: Desk, ring: Ring, entry: Entry, record: bytes) -> bytes:
-    return record[:6] + record[:5:-1]
-
-
-SLIPS: tuple[Slip, ...] = (
-    # the sitting
-    Slip("RAND1 and RAND2 exchanged", sitting=_both("rand1", "rand2")),
-    Slip("RAND1 for RAND2", sitting=_for("rand1", "rand2")),
-    Slip("RAND2 for RAND1", sitting=_for("rand2", "rand1")),
-    Slip("RAND1 reversed", sitting=_reversed("rand1")),
-    Slip("RAND2 reversed", sitting=_reversed("rand2")),
-    Slip("RS and RSO exchanged", sitting=_both("rs", "rso")),
-    Slip("RS for RSO", sitting=_for("rs", "rso")),
-    Slip("RSO for RS", sitting=_for("rso", "rs")),
-    Slip("RS reversed", sitting=_reversed("rs")),
-    Slip("RSO reversed", sitting=_reversed("rso")),
-    Slip("root reversed", sitting=_reversed("root")),
-    Slip("C reversed", sitting=_reversed("c")),
-    Slip("group key reversed", sitting=_reversed("group_key")),
-    Slip("TA12 alone", sitting=_sides(1)),
-    Slip("TA22 alone", sitting=_sides(2)),
-    Slip("both sides for one", sitting=_sides(3)),
-    Slip("masks exchanged", sitting=_both("response_mask", "key_mask")),
+RING_SLIPS: tuple[Slip, ...] = (
+    _taken("RAND1 and RAND2 exchanged", rand1="rand2", rand2="rand1"),
+    _taken("RAND1 for RAND2", rand2="rand1"),
+    _taken("RAND2 for RAND1", rand1="rand2"),
+    _reversed("RAND1 reversed", "rand1"),
+    _reversed("RAND2 reversed", "rand2"),
+    _reversed("RAND1 and RAND2 reversed", "rand1", "rand2"),
+    _taken("RS and RSO exchanged", rs="rso", rso="rs"),
+    _taken("RS for RSO", rso="rs"),
+    _taken("RSO for RS", rs="rso"),
+    _reversed("RS reversed", "rs"),
+    _reversed("RSO reversed", "rso"),
+    _reversed("root reversed", "root"),
+    _reversed("C reversed", "c"),
+    _reversed("group key reversed", "group_key"),
+    _sides("TA12 alone", lambda sides: 1),
+    _sides("TA22 alone", lambda sides: 2),
+    _sides("both sides for one", lambda sides: 3),
+    _taken("masks exchanged", response_mask="key_mask", key_mask="response_mask"),
+    _masks("bytes of the masks exchanged", exchanged),
+    _masks("masks counted from the left", mirrored),
     Slip(
-        "bytes of the masks exchanged",
-        sitting=lambda s: s._replace(
-            response_mask=exchanged(s.response_mask), key_mask=exchanged(s.key_mask)
-        ),
+        "bytes chosen by the masks lowest first",
+        {"chosen": lambda steps, output, mask: Steps.chosen(steps, output, mask)[::-1]},
+    ),
+    Slip("first ten bytes for the key's mask", _key_as(lambda output, mask: output[:10])),
+    Slip("middle ten bytes for the key's mask", _key_as(lambda output, mask: output[3:13])),
+    Slip(
+        "first ten bytes that the response leaves for the key's mask",
+        _key_as(lambda output, mask: _left_over(output, mask)[:10]),
+    ),
+    Slip("TA11 for TA21", {"reversed_seed": lambda steps, seed: seed}),
+    Slip("TA21 for TA11", {"ta11": lambda steps, root, seed: steps.ta21(root, seed)}),
+    Slip(
+        "TA21's seed reversed digit by digit",
+        {"reversed_seed": lambda steps, seed: bytes.fromhex(seed.hex()[::-1])},
     ),
     Slip(
-        "masks counted from the left",
-        sitting=lambda s: s._replace(
-            response_mask=mirrored(s.response_mask), key_mask=mirrored(s.key_mask)
-        ),
+        "TA21's seed reversed bit by bit",
+        {"reversed_seed": lambda steps, seed: int(f"{_int(seed):080b}"[::-1], 2).to_bytes(10, "big")},
     ),
-    # the ring
-    Slip("TA11 for TA21", ring=_session_key("ta11")),
-    Slip("TA21 for TA11", ring=_session_key("ta21")),
-    Slip("TA71 for TB4", ring=_modified),
-    Slip("C for D", ring=lambda desk, s, r: r._replace(d=r.c)),
-    Slip("D for C", ring=lambda desk, s, r: r._replace(c=r.d)),
-    Slip("C and D exchanged", ring=lambda desk, s, r: r._replace(c=r.d, d=r.c)),
-    Slip("O for G", ring=lambda desk, s, r: r._replace(g=r.o)),
-    Slip("G for O", ring=lambda desk, s, r: r._replace(o=r.g)),
-    Slip("G and O exchanged", ring=lambda desk, s, r: r._replace(g=r.o, o=r.g)),
     Slip(
-        "group key filled with zeros for its TB7 form",
-        ring=lambda desk, s, r: r._replace(g=bytes(s.group_key).ljust(16, b"\0")),
+        "root for the session keys",
+        {"ta11": lambda steps, root, seed: root, "ta21": lambda steps, root, seed: root},
     ),
-    Slip("root for O", ring=lambda desk, s, r: r._replace(o=s.root)),
-    # the entries
-    Slip("D for O or G, by TA31", entry=_under_d, keeps=True),
-    Slip("kind 2 for kind 5", entry=_as_kind(5, 2)),
-    Slip("kind 5 for kind 2", entry=_as_kind(2, 5)),
-    Slip("kind 3 for kind 6", entry=_as_kind(6, 3)),
-    Slip("kind 6 for kind 3", entry=_as_kind(3, 6)),
-    Slip("kind 3 for kind 4", entry=_regrouped(4, 3)),
-    Slip("kind 4 for kind 3", entry=_regrouped(3, 4)),
-    Slip("kind 3 for kind 2", entry=_as_kind(2, 3)),
-    Slip("kind 2 for kind 3", entry=_as_kind(3, 2)),
-    Slip("kind 6 for kind 5", entry=_as_kind(5, 6)),
-    Slip("kind 5 for kind 6", entry=_as_kind(6, 5)),
-    Slip("TA81 for TA51", entry=lambda e: (_as_kind(2, 3)(e) or _as_kind(5, 6)(e)), keeps=True),
-    Slip("TA51 for TA81", entry=lambda e: (_as_kind(3, 2)(e) or _as_kind(6, 5)(e)), keeps=True),
-    Slip("bytes of the version exchanged", entry=_version(lambda e: exchanged(e.version))),
-    Slip(
-        "bytes of the version exchanged in sealing",
-        entry=_version(lambda e: exchanged(e.version)),
-        keeps=True,
-    ),
-    Slip("version left out in sealing", entry=_version(lambda e: 0), keeps=True),
-    Slip("bytes of the number exchanged", entry=_number(exchanged)),
-    Slip("number left out", entry=_number(lambda number: 0)),
-    Slip("version and number exchanged", entry=_numbers_exchanged),
-    Slip("version and number exchanged in sealing", entry=_numbers_exchanged, keeps=True),
-    Slip("key reversed", entry=lambda e: e._replace(key=e.key[::-1])),
-    Slip(
-        "identity reversed",
-        entry=lambda e: e._replace(identity=int.from_bytes(_identity(e)[::-1], "big")),
-    ),
-    # the records
-    Slip("identity not encrypted", record=_bare_identity),
-    Slip("TA61's inverse for TA61", record=_inverse_identity),
-    Slip("encrypted identity reversed", record=_reversed_identity),
-    Slip("text reversed", record=_reversed_text),
+    Slip("TA71 for TB4", {"tb4": _ta71}),
+    Slip("TB4 as a sum", {"tb4": lambda steps, one, two: _added(one, two)}),
+    _ring("zeros for D", d=lambda steps, s, r: bytes(10)),
+    _ring("C for D", d=lambda steps, s, r: r.c),
+    _ring("D for C", c=lambda steps, s, r: r.d),
+    _ring("C and D exchanged", c=lambda steps, s, r: r.d, d=lambda steps, s, r: r.c),
+    _ring("O for G", g=lambda steps, s, r: r.o),
+    _ring("G for O", o=lambda steps, s, r: r.g),
+    _ring("G and O exchanged", g=lambda steps, s, r: r.o, o=lambda steps, s, r: r.g),
+    _ring("D and O exchanged: O's first ten bytes, EXP4 of D", d=_of_o, o=_exp4_of_d),
+    _ring("D and O exchanged: O's first ten bytes, D and zeros", d=_of_o, o=_d_and_zeros),
+    _ring("O's first ten bytes for D", d=_of_o),
+    _ring("EXP4 of D for O", o=_exp4_of_d),
+    _ring("D and zeros for O", o=_d_and_zeros),
+    _ring("zeros and D for O", o=lambda steps, s, r: bytes(6) + r.d),
+    _ring("root for O", o=lambda steps, s, r: s.root),
+    Slip("group key filled with zeros for its TB7 form", {"tb7": lambda _, key: key + bytes(4)}),
+    Slip("zeros and group key for its TB7 form", {"tb7": lambda _, key: bytes(4) + key}),
+    Slip("G as X16 of the group key, not TB7", {"tb7": lambda steps, key: steps.x16(key)}),
 )
 
 
+def _int(data: bytes) -> int:
+    return int.from_bytes(data, "big")
+
+
+def _added(one: bytes, other: bytes) -> bytes:
+    """The sums of two strings' bytes."""
+    return bytes((a + b) & 0xFF for a, b in zip(one, other))
+
+
+# ---- the expansions and the core
+
+
+Sum = Callable[[Iterable[int]], int]
+
+
+def _behind(cut: Iterable[bytes], made: Sum = xored) -> bytes:
+    return b"".join(group + bytes([made(group)]) for group in cut)
+
+
+def _before(cut: Iterable[bytes], made: Sum = xored) -> bytes:
+    return b"".join(bytes([made(group)]) + group for group in cut)
+
+
+def _at_the_end(cut: Iterable[bytes], made: Sum = xored) -> bytes:
+    cut = list(cut)
+    return b"".join(cut) + bytes(map(made, cut))
+
+
+def _in_front(cut: Iterable[bytes], made: Sum = xored) -> bytes:
+    cut = list(cut)
+    return bytes(map(made, cut)) + b"".join(cut)
+
+
+def _inserting(put: Callable[..., bytes], sizes: tuple[int, ...], tail: bytes = b"") -> Alteration:
+    """An expansion whose bytes are put elsewhere, or made otherwise."""
+    return lambda steps, data: put(groups(data, sizes)) + tail
+
+
+def _summing(cut: Iterable[bytes]) -> bytes:
+    return _behind(cut, summed)
+
+
+def _places(expansion: str, group: str) -> list[tuple[str, Callable[..., bytes]]]:
+    """The names of an expansion with its bytes in other places, or as sums."""
+    return [
+        (f"{expansion}'s ⊕ bytes before their {group}", _before),
+        (f"{expansion}'s ⊕ bytes all at the end", _at_the_end),
+        (f"{expansion}'s ⊕ bytes all in front", _in_front),
+        (f"{expansion} with sums for ⊕", _summing),
+    ]
+
+
+def _outermost(data: bytes) -> list[bytes]:
+    """The first byte and the last, the second and the last but one, and so on."""
+    return [bytes([data[i], data[9 - i]]) for i in range(5)]
+
+
+def _exp4(pairs: list[bytes], added: Optional[list[bytes]] = None, made: Sum = summed) -> bytes:
+    """EXP4 of pairs; the sums may be those of others."""
+    sums = bytes(map(made, added or pairs))
+    return bytes([xored(sums)]) + b"".join(bytes([s]) + pair for s, pair in zip(sums, pairs))
+
+
+def _exp4_behind(data: bytes) -> bytes:
+    pairs = groups(data, PAIRS)
+    return bytes([xored(map(summed, pairs))]) + _behind(pairs, summed)
+
+
+_EXP2: dict[str, Mapping[str, Alteration]] = {
+    "EXP2's last byte as ⊕": {"last_byte": lambda steps, inserted: xored(inserted)},
+    "EXP2's last byte as the sum of all ten bytes": {
+        "exp2": lambda steps, data: steps.exp1(data) + bytes([summed(data)])
+    },
+    "EXP2's last byte zero": {"last_byte": lambda steps, inserted: 0},
+    "EXP2's last byte in front": {
+        "exp2": lambda steps, data: _turned(Steps.exp2(steps, data)),
+    },
+    "EXP4 for EXP2": {"exp2": lambda steps, data: steps.exp4(data)},
+}
+
+_EXP4: dict[str, Callable[[Steps, bytes], bytes]] = {
+    "EXP2 for EXP4": lambda steps, data: steps.exp2(data),
+    "EXP4's pairs the outermost bytes": lambda steps, data: _exp4(_outermost(data)),
+    "EXP4's sums those of the outermost bytes": lambda steps, data: _exp4(
+        groups(data, PAIRS), _outermost(data)
+    ),
+    "EXP4's sums behind their pairs": lambda steps, data: _exp4_behind(data),
+    "EXP4's ⊕ of the sums at the right": lambda steps, data: _back(Steps.exp4(steps, data)),
+    "EXP4 with ⊕ for sums": lambda steps, data: _exp4(groups(data, PAIRS), made=xored),
+    "EXP4's first byte as a sum": lambda steps, data: (
+        bytes([summed(data)]) + Steps.exp4(steps, data)[1:]
+    ),
+    "zeros for EXP4": lambda steps, data: data + bytes(6),
+}
+
+
+def _turned(data: bytes) -> bytes:
+    """The last byte in front."""
+    return data[-1:] + data[:-1]
+
+
+def _back(data: bytes) -> bytes:
+    """The first byte at the end."""
+    return data[1:] + data[:1]
+
+
+def _decrypting(steps: Steps, key: bytes, block: bytes) -> bytes:
+    return steps.decrypt(key, block)
+
+
+def _encrypting(steps: Steps, key: bytes, block: bytes) -> bytes:
+    return steps.encrypt(key, block)
+
+
+def _unchained(steps: Steps, right: bytes, left_output: bytes, left_input: bytes) -> bytes:
+    return right
+
+
+_BLOCKS: dict[str, Alteration] = {"left_block": _decrypting, "right_block": _decrypting}
+_BL1: dict[str, Mapping[str, Alteration]] = {
+    "no chaining in BL1": {"chained": _unchained},
+    "decryption for encryption in BL1": _BLOCKS,
+    "decryption for encryption in BL1, no chaining": {**_BLOCKS, "chained": _unchained},
+    "decryption for encryption in BL1, its output ⊕ the left input": {
+        "bl1": lambda steps, key, data: (
+            steps.decrypt(key, data[:8]) + xor(steps.decrypt(key, data[8:]), data[:8])
+        )
+    },
+    "BL1 chained with the left input": {
+        "chained": lambda steps, right, left_output, left_input: xor(right, left_input)
+    },
+    "BL1 begun at the right block": {"bl1": lambda steps, key, data: _from_right(steps, key, data)},
+    "BL1's output blocks exchanged": {
+        "bl1": lambda steps, key, data: _halves(Steps.bl1(steps, key, data))
+    },
+    "BL1's input blocks exchanged": {
+        "bl1": lambda steps, key, data: Steps.bl1(steps, key, _halves(data))
+    },
+}
+
+
+def _halves(data: bytes) -> bytes:
+    """The halves, exchanged."""
+    return data[8:] + data[:8]
+
+
+def _from_right(steps: Steps, key: bytes, data: bytes) -> bytes:
+    return _halves(Steps.bl1(steps, key, _halves(data)))
+
+
+CORE_SLIPS: tuple[Slip, ...] = (
+    *(slip for name, altered in _EXP2.items() for slip in _limited(name, altered, _EACH_KEY)),
+    *(
+        slip
+        for name, put in _places("EXP1", "pairs")
+        for slip in _limited(name, {"exp1": _inserting(put, PAIRS)}, _EXP2_OR_TA31)
+    ),
+    Slip(
+        "EXP1 with sums for ⊕, EXP2's last byte of them",
+        {
+            "exp1": _inserting(_summing, PAIRS),
+            "exp2": lambda steps, data: steps.exp1(data) + bytes([summed(data)]),
+        },
+    ),
+    *(Slip(name, {"exp3": _inserting(put, EXP3_GROUPS)}) for name, put in _places("EXP3", "groups")),
+    Slip("EXP3's groups of 3, 3, 3 and 2 bytes", {"exp3": _inserting(_behind, (3, 3, 3, 2))}),
+    *(Slip(name, {"x16": _inserting(put, FOURS, b"\0")}) for name, put in _places("X16", "fours")),
+    Slip("TB7 for X16", {"x16": lambda steps, data: steps.tb7(data)}),
+    *(Slip(name, {"tb7": _inserting(put, THREES)}) for name, put in _places("TB7", "threes")),
+    Slip(
+        "zero byte in front",
+        {
+            "zero_behind": lambda steps, data: b"\0" + data,
+            "x16": lambda steps, data: _turned(Steps.x16(steps, data)),
+        },
+    ),
+    *(slip for name, alter in _EXP4.items() for slip in _limited(name, {"exp4": alter}, _TA31_OR_TA61)),
+    *(
+        slip
+        for name, altered in _BL1.items()
+        for slip in _limited(name, altered, _KEYS_OR_SEALS, _EACH_KEY)
+    ),
+    Slip("decryption for encryption everywhere, in TA61 too", {**_BLOCKS, "bc": _decrypting}),
+)
+
+
+# ---- the entries
+
+
+def _entry(name: str, change: Callable[[Entry], Entry], sealing: bool = False) -> Slip:
+    """Other fields of the entry, or other ones in sealing alone."""
+    return Slip(name, {"sealed_as" if sealing else "entry": lambda steps, entry: change(entry)})
+
+
+def _as_kind(kinds: Mapping[int, int]) -> Callable[[Entry], Entry]:
+    """Kinds taken for others, whose key and number are as long."""
+    return lambda e: e._replace(kind=kinds.get(e.kind, e.kind))
+
+
+def _kind(used: int, have: int) -> Slip:
+    return _entry(f"kind {used} for kind {have}", _as_kind({have: used}))
+
+
+def _regrouped(used: int, have: int) -> Slip:
+    """A body of twelve bytes read by the other of the kinds 3 and 4."""
+    return _entry(
+        f"kind {used} for kind {have}",
+        lambda e: Entry.of(bytes([used]) + e.data[1:]) if e.kind == have else e,
+    )
+
+
+def _labelled(used: int, have: int) -> Slip:
+    """Another kind in the record alone."""
+    return Slip(
+        f"kind {used} for kind {have} in the record alone",
+        {
+            "record": lambda steps, entry, identity, text: Steps.record(
+                steps, _as_kind({have: used})(entry), identity, text
+            )
+        },
+    )
+
+
+def _under_d(entry: Entry) -> Entry:
+    """The key alone, as TA31 seals it under D."""
+    return entry._replace(kind=1, number=None) if len(entry.key) == 10 else entry
+
+
+def _number(change: Callable[[int], int]) -> Callable[[Entry], Entry]:
+    return lambda e: e if e.number is None else e._replace(number=change(e.number))
+
+
+def _numbers_exchanged(e: Entry) -> Entry:
+    return e if e.number is None else e._replace(version=e.number, number=e.version)
+
+
+def _digits(number: int) -> int:
+    """A number's decimal digits taken for hexadecimal ones."""
+    return int(str(number), 16)
+
+
+def _identity_bytes(identity: int) -> int:
+    """An identity with its bytes in the other order."""
+    return int.from_bytes(identity.to_bytes(3, "little"), "big")
+
+
+def _version_in_record(name: str, change: Callable[[int], int]) -> Slip:
+    return Slip(
+        name,
+        {
+            "record": lambda steps, entry, identity, text: Steps.record(
+                steps, entry._replace(version=change(entry.version)), identity, text
+            )
+        },
+    )
+
+
+def _high_bits(bits: int) -> Slip:
+    """A number byte with bits above the fifth."""
+    return Slip(
+        f"number byte with {bits << 5:02x} above its five bits",
+        {"number_byte": lambda steps, number: bytes([bits << 5 | number])},
+    )
+
+
+ENTRY_SLIPS: tuple[Slip, ...] = (
+    _entry("D for O or G, by TA31", _under_d, sealing=True),
+    _kind(2, 5),
+    _kind(5, 2),
+    _kind(3, 6),
+    _kind(6, 3),
+    _regrouped(3, 4),
+    _regrouped(4, 3),
+    _kind(3, 2),
+    _kind(2, 3),
+    _kind(6, 5),
+    _kind(5, 6),
+    _labelled(2, 5),
+    _labelled(5, 2),
+    _labelled(3, 6),
+    _labelled(6, 3),
+    _kind_under(5, "o"),
+    _kind_under(6, "o"),
+    _kind_under(2, "g"),
+    _kind_under(3, "g"),
+    _kind_under(4, "g"),
+    _entry("TA81 for TA51", _as_kind({2: 3, 5: 6}), sealing=True),
+    _entry("TA51 for TA81", _as_kind({3: 2, 6: 5}), sealing=True),
+    _entry("bytes of the version exchanged", lambda e: e._replace(version=exchanged(e.version))),
+    Slip(
+        "bytes of the version exchanged in sealing",
+        {"repeated": lambda steps, version, copies: version.to_bytes(2, "little") * copies},
+    ),
+    _version_in_record("bytes of the version exchanged in the record alone", exchanged),
+    _version_in_record("version left out of the record", lambda version: 0),
+    _entry("version's digits taken as hexadecimal", lambda e: e._replace(version=_digits(e.version))),
+    Slip("version left out in sealing", {"repeated": lambda steps, version, n: bytes(2 * n)}),
+    Slip(
+        "version once, at the left, not repeated",
+        {"repeated": lambda steps, version, n: version.to_bytes(2, "big") + bytes(2 * n - 2)},
+    ),
+    Slip(
+        "version once, at the right, not repeated",
+        {"repeated": lambda steps, version, n: version.to_bytes(2 * n, "big")},
+    ),
+    Slip(
+        "version five times, then zeros",
+        {"repeated": lambda steps, version, n: (version.to_bytes(2, "big") * 5).ljust(2 * n, b"\0")},
+    ),
+    Slip(
+        "version added, not ⊕",
+        {"core_key": lambda steps, sealing_key, repeated: _added(sealing_key, repeated)},
+    ),
+    Slip(
+        "EXP4 of D, then ⊕ the version",
+        {"short_key": lambda steps, d, version: xor(steps.exp4(d), steps.repeated(version, 8))},
+    ),
+    *map(_high_bits, range(1, 8)),
+    Slip("number at the left of its byte", {"number_byte": lambda _, number: bytes([number << 3])}),
+    _entry("bytes of the number exchanged", _number(exchanged)),
+    _entry("number left out", _number(lambda number: 0)),
+    _entry("number's digits taken as hexadecimal", _number(_digits)),
+    Slip("number before the key", {"joined": lambda steps, key, number: number + key}),
+    _entry("version and number exchanged", _numbers_exchanged),
+    _entry("version and number exchanged in sealing", _numbers_exchanged, sealing=True),
+    _entry("key reversed", lambda e: e._replace(key=e.key[::-1])),
+)
+
+
+# ---- the sealed text and the identity
+
+
+def _dropping(place: int) -> Mapping[str, Alteration]:
+    return {"dropped": lambda steps, output: output[:place] + output[place + 1 :]}
+
+
+def _order(order: tuple[int, ...]) -> Slip:
+    """TA61's strings in another order."""
+    return Slip(
+        f"TA61's strings in the order {' '.join(f'K{i + 1}' for i in order)}",
+        {"strings": lambda steps, output: tuple(Steps.strings(steps, output)[i] for i in order)},
+    )
+
+
+def _one_p(steps: Steps, strings: Blocks, identity: bytes) -> bytes:
+    """The second P left out."""
+    one, two, three = strings
+    return steps.mixed(steps.mixed(steps.p(steps.mixed(identity, one)), two), three)
+
+
+def _plain_p(steps: Steps, a: bytes) -> bytes:
+    """P's sums, without S."""
+    return bytes((2 * sum(a) - 3 * a[place]) & 0xFF for place in (2, 1, 0))
+
+
+RECORD_SLIPS: tuple[Slip, ...] = (
+    Slip("last byte dropped, not byte 8", _dropping(15)),
+    Slip("byte 7 dropped, which is 8th from the left counted from 0", _dropping(8)),
+    Slip("first byte dropped, not byte 8", _dropping(0)),
+    Slip(
+        "text reversed",
+        {
+            "record": lambda steps, entry, identity, text: Steps.record(
+                steps, entry, identity, text[::-1]
+            )
+        },
+    ),
+    Slip("identity not encrypted", {"encrypted": lambda steps, strings, identity: identity}),
+    Slip("TA61's inverse for TA61", {"encrypted": Steps.decrypted}),
+    Slip(
+        "identity reversed",
+        {"encrypted": lambda steps, strings, i: Steps.encrypted(steps, strings, i[::-1])},
+    ),
+    Slip(
+        "encrypted identity reversed",
+        {"encrypted": lambda steps, strings, i: Steps.encrypted(steps, strings, i)[::-1]},
+    ),
+    *map(_order, list(permutations(range(3)))[1:]),
+    Slip("decryption for encryption in TA61", {"bc": _decrypting}),
+    Slip(
+        "TA61's strings of neighbouring bytes",
+        {"strings": lambda steps, output: (output[:3], output[3:6], output[6:] + output[:1])},
+    ),
+    Slip(
+        "TA61's input ⊕ of neighbours",
+        {"shrunk_key": lambda steps, common_key: xor(common_key[:8], common_key[1:])},
+    ),
+    Slip("TA61's input C's first eight bytes", {"shrunk_key": lambda steps, key: key[:8]}),
+    Slip("TA61 with one P", {"encrypted": _one_p}),
+    Slip("P without S", {"p": _plain_p}),
+    Slip("P's bytes in the other order", {"p": lambda steps, a: Steps.p(steps, a)[::-1]}),
+)
+
+SLIPS: tuple[Slip, ...] = (*RING_SLIPS, *CORE_SLIPS, *ENTRY_SLIPS, *RECORD_SLIPS)
+
+# What stands in another entry's record: no step, but found among the model's records.
+EXCHANGED: dict[str, Slip] = {
+    "identity": Slip("two entries' identities exchanged", {}),
+    "version": Slip("two entries' versions exchanged in their records", {}),
+    "text": Slip("two entries' texts exchanged", {}),
+}
+ANOTHERS: dict[str, Slip] = {
+    "identity": Slip("another entry's identity", {}),
+    "text": Slip("another entry's text", {}),
+}
+EXCHANGES = (*EXCHANGED.values(), *ANOTHERS.values())
+
+
 class Worked(NamedTuple):
-    """What a slip makes of the model: for each entry that it alters, the record."""
+    """What a slip makes of the model: the keys and, by their entries, the records that differ."""
 
     slip: Slip
+    keys: Keys
     records: dict[int, bytes]
 
 
 def work(desk: Desk, sitting: Sitting, plain: bytes) -> Iterator[Worked]:
-    """The model's sealed records under each slip, where they differ from the model.
+    """The model's keys and sealed records under each slip, where they differ from the model.
 
-    A slip whose inputs the engine refuses makes no book, as with exchanged masks,
-    which have other counts of ones; an entry that it refuses stays as it was.
+    A slip whose key has another length than the ring's makes no book, as with exchanged
+    masks; an entry with which a slip can't be made stays as it was.
     """
     entries = [Entry.of(record) for record in split(plain, PLAIN)]
-    ring = Ring.of(desk.call("ring", *sitting)["ring"])
+    keys = Steps(desk).keys(sitting)
+    ring = ring_of(keys)
     model = split(desk.call("seal_book", ring.data, plain)["out"], SEALED)
     for slip in SLIPS:
+        steps = Steps(desk, slip.altered)
+        made = steps.keys(sitting)
+        under = ring_of(made)
+        if list(map(len, under)) != list(map(len, ring)):
+            records = model
+        elif not slip.in_keys_alone:
+            records = _sealed(steps, under, entries, model)
+        elif under != ring:
+            records = split(desk.call("seal_book", under.data, plain)["out"], SEALED)
+        else:
+            records = model
+        yield Worked(
+            slip,
+            {name: value for name, value in made.items() if value != keys[name]},
+            {i: made for i, (made, right) in enumerate(zip(records, model)) if made != right},
+        )
+
+
+def _sealed(steps: Steps, ring: Ring, entries: list[Entry], model: list[bytes]) -> list[bytes]:
+    """The records under altered steps; the model's where they can't be made."""
+    strings = steps.k_strings(ring.c)
+    records = []
+    for entry, right in zip(entries, model):
         try:
-            records = _records(desk, slip, sitting, ring, entries)
-        except Refused:
-            continue
-        altered = {i: made for i, (made, right) in enumerate(zip(records, model)) if made != right}
-        yield Worked(slip, altered)
-
-
-def _records(
-    desk: Desk, slip: Slip, sitting: Sitting, ring: Ring, entries: list[Entry]
-) -> list[bytes]:
-    """The sealed records of the model under a slip."""
-    if slip.sitting:
-        ring = Ring.of(desk.call("ring", *slip.sitting(sitting))["ring"])
-    if slip.ring:
-        ring = slip.ring(desk, sitting, ring)
-    made = [_altered(desk, slip, entry) for entry in entries]
-    plain = b"".join(entry.data for entry in made)
-    records = split(desk.call("seal_book", ring.data, plain)["out"], SEALED)
-    if slip.keeps:
-        records = [
-            entry.data[:1] + record[1:4] + entry.data[4:6] + record[6:]
-            for entry, record in zip(entries, records)
-        ]
-    if slip.record:
-        records = [slip.record(desk, ring, e, record) for e, record in zip(entries, records)]
+            records.append(steps.sealed(entry, ring, strings))
+        except (ValueError, OverflowError):  # a number too wide for its byte or bytes
+            records.append(right)
     return records
-
-
-def _altered(desk: Desk, slip: Slip, entry: Entry) -> Entry:
-    """An entry under a slip, or itself where the slip can't be made."""
-    altered = slip.entry(entry) if slip.entry else None
-    if altered is None:
-        return entry
-    try:
-        desk.call("check_plain", altered.data)
-    except (Refused, OverflowError):
-        return entry
-    return altered

@@ -179,6 +179,11 @@ def inserted(data: bytes, sizes: Iterable[int]) -> bytes:
     return b"".join(group + bytes([xored(group)]) for group in groups(data, sizes))
 
 
+def ring_of(keys: Keys) -> Ring:
+    """The ring among the keys."""
+    return Ring(*(keys[name] or b"" for name in ("D", "O", "C", "G")))
+
+
 class Steps:
     """The working, with any step altered.
 
