@@ -120,16 +120,18 @@ class Marker:
         sealed = desk.call("seal_book", self.ring.data, plain)["out"]
         self.model = split(sealed, SEALED)
         self.parts = [parts_of(record) for record in self.model]
+        self.places: dict[bytes, list[int]] = defaultdict(list)  # of whole records
         # by bytes that stand in records, the entries of the model that they are signs of
-        self.places: dict[bytes, set[int]] = defaultdict(set)
+        self.signs: dict[bytes, set[int]] = defaultdict(set)
         self.said: dict[bytes, list[int]] = defaultdict(list)
         self.fields: dict[tuple[str, bytes], list[int]] = defaultdict(list)
         for place, (record, entry) in enumerate(zip(self.model, self.entries)):
+            self.places[record].append(place)
             self.said[record[:6]].append(place)
             for field, at in FIELDS.items():
                 self.fields[field, record[at]].append(place)
             for value in (record[1:4], record[6:], entry.key):
-                self.places[value].add(place)
+                self.signs[value].add(place)
         self.table = Table()
         for worked in work(desk, sitting, plain):
             altered = {
@@ -140,13 +142,13 @@ class Marker:
             }
             self.table.add(worked.slip, altered)
             for (place, _), value in altered.items():
-                self.places[value].add(place)
+                self.signs[value].add(place)
         self.known: dict[bytes, Opened] = {}
 
     def mark(self, name: str, book: bytes) -> Sheet:
         """The mark sheet of a book."""
         records = split(book, SEALED)
-        pairs = pair(records, self.model, self._signs, self._said, self._alike)
+        pairs = pair(records, self.model, self.places, self._signs, self._said, self._alike)
         refused: Optional[Refused] = None
         try:
             self.desk.call("open_book", self.ring.data, book)
@@ -214,7 +216,7 @@ class Marker:
         parts = parts_of(record)
         key = self._open(record).key
         for value, weight in ((parts[IDENTITY], 3), (parts[TEXT], 2), (record[6:], 2), (key, 1)):
-            for place in self.places.get(value, ()) if value else ():
+            for place in self.signs.get(value, ()) if value else ():
                 weights[place] += 2 * weight
         for place in weights:
             weights[place] += self._alike(record, place)

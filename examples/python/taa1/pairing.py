@@ -3,7 +3,7 @@
 from __future__ import annotations
 
 from bisect import bisect_left
-from typing import Callable, Iterable, NamedTuple, Optional, Sequence
+from typing import Callable, Iterable, Mapping, NamedTuple, Optional, Sequence
 
 
 class Pairs(NamedTuple):
@@ -18,12 +18,13 @@ class Pairs(NamedTuple):
 def pair(
     records: Sequence[bytes],
     model: Sequence[bytes],
+    places: Mapping[bytes, list[int]],
     signs: Callable[[bytes], dict[int, int]],
     attempt: Callable[[bytes], Iterable[int]],
     alike: Callable[[bytes, int], int],
 ) -> Pairs:
-    """Pairs records with the model's: equal ones, then those with signs of an entry, by
-    their weight, then those that are alike, then in order.
+    """Pairs records with the model's, whose places are known: equal ones, then those with
+    signs of an entry, by their weight, then those that are alike, then in order.
 
     `attempt` has the entries that a record says it is. If all of those are taken, it is
     a further attempt.
@@ -31,9 +32,6 @@ def pair(
     entries = {i: i for i, (a, b) in enumerate(zip(records, model)) if a == b}
     free = set(range(len(model))) - set(entries)
     again: dict[int, int] = {}
-    places: dict[bytes, list[int]] = {}
-    for place, record in enumerate(model):
-        places.setdefault(record, []).append(place)
 
     def take(index: int, place: int) -> None:
         if index not in entries and place in free:
