@@ -16,9 +16,10 @@ from pathlib import Path
 from typing import Any, Callable, NoReturn, Optional, Sequence
 from urllib.parse import quote
 
-from . import draw, files, handins, names, pages, texts
+from . import draw, files, handins, names, pages, paper, texts
 from .calls import CALLS, Call, Parameter
 from .desk import Desk, RefusedFile, refusals
+from .document import Document, as_page, as_text
 from .engine import MOST_RECORDS, Refused
 from .files import STANDARD, Problem, place, shown
 from .handins import Reader
@@ -382,13 +383,40 @@ def run_model(args: argparse.Namespace) -> int:
     """The model answer."""
     _once(args.sitting, args.book)
     desk = Desk()
-    sitting = texts.read_sitting(args.sitting)
+    sitting, heading = texts.read_headed(args.sitting)
     plain = texts.read_plain(desk, args.book, args.bytes)
     model = model_answer(desk, sitting, plain, place(args.sitting))
     if args.html:
-        _emit_text(args, pages.model_page(model))
+        _emit_text(args, pages.model_page(model, heading.line))
     else:
         _emit_text(args, _json(model) if args.json else model_text(model))
+    return ACCEPTED
+
+
+PARTS: dict[str, Callable[[paper.Examination], Document]] = {
+    "paper": paper.question_paper,
+    "form": paper.answer_form,
+    "solution": paper.solution,
+}
+
+
+def run_paper(args: argparse.Namespace) -> int:
+    """The question paper, the blank answer form and the worked solution."""
+    _once(args.sitting, args.book)
+    if args.html is not None and (args.part or args.output != STANDARD):
+        raise Problem("paper: --html writes all three pages into its folder: no --part, no -o")
+    desk = Desk()
+    sitting, heading = texts.read_headed(args.sitting)
+    plain = texts.read_plain(desk, args.book, args.bytes)
+    of = paper.examination(desk, sitting, heading, plain, place(args.sitting))
+    parts = [args.part] if args.part else list(PARTS)
+    documents = {part: PARTS[part](of) for part in parts}
+    if args.html is not None:
+        content = {f"{part}.html": as_page(made).encode() for part, made in documents.items()}
+        files.write_folder(args.html, content, private={"solution.html"})
+    else:
+        text = "\n\n".join(map(as_text, documents.values()))
+        files.write(args.output, text.encode(), private="solution" in parts)
     return ACCEPTED
 
 
@@ -636,12 +664,18 @@ def parser() -> Parser:
     _common(command("tables", run_tables))
 
     model = command("model", run_model)
+    papers = command("paper", run_paper)
     mark = command("mark", run_mark)
-    for each_ in (model, mark):
+    for each_ in (model, papers, mark):
         each_.add_argument("sitting", metavar="SITTING", help="names, bytes or hexadecimal")
         each_.add_argument("book", metavar="BOOK", help="a plain book: lines, bytes or hexadecimal")
     model.add_argument("--html", action="store_true", help="write a page of HTML")
     _common(model, bytes="", json="")
+    papers.add_argument("--part", choices=tuple(PARTS), help="one of the three; default: all")
+    papers.add_argument(
+        "--html", metavar="FOLDER", help="write paper.html, form.html and solution.html"
+    )
+    _common(papers, bytes="")
     mark.add_argument(
         "candidate", nargs="+", metavar="CANDIDATE", help="a sealed book, or a folder of such"
     )

@@ -8,6 +8,7 @@ from __future__ import annotations
 
 from typing import NamedTuple, Optional, Sequence
 
+from .document import columns
 from .records import KINDS
 
 
@@ -167,13 +168,8 @@ def kind_rows() -> list[tuple[str, ...]]:
     ]
 
 
-def columns(rows: Sequence[Sequence[str]], indent: str = "") -> str:
-    """Rows of words in columns."""
-    wide = [max(map(len, column)) for column in zip(*rows)]
-    lines = [
-        indent + "  ".join(cell.ljust(width) for cell, width in zip(row, wide)) for row in rows
-    ]
-    return "".join(line.rstrip() + "\n" for line in lines)
+def _table(rows: Sequence[Sequence[str]]) -> str:
+    return "".join(f"  {line}\n" for line in columns(rows))
 
 
 def kinds_text() -> str:
@@ -182,11 +178,11 @@ def kinds_text() -> str:
     keys = [(name, words) for name, words in KEY_WORDS.items()]
     return (
         "The kinds of entries. A sealed text has 15 bytes; a version is 0 to 65535.\n\n"
-        + columns([KIND_HEADS, *kind_rows()], "  ")
+        + _table([KIND_HEADS, *kind_rows()])
         + "\n"
-        + columns(keys, "  ")
+        + _table(keys)
         + "\nThe values of a sitting and of its working: the desk's name, and the field's.\n\n"
-        + columns(terms, "  ")
+        + _table(terms)
         + "\nThe number of sides.\n\n"
-        + columns([(str(sides), what) for sides, what in SIDES.items()], "  ")
+        + _table([(str(sides), what) for sides, what in SIDES.items()])
     )

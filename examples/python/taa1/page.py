@@ -30,7 +30,9 @@ th, td { border-bottom: 1px solid #999; padding: .25em .8em .25em 0; text-align:
   vertical-align: baseline; }
 th { border-bottom: 1.5px solid #000; }
 th:last-child, td:last-child { padding-right: 0; }
-th.number, td.number { text-align: right; font-variant-numeric: tabular-nums; }
+th.title { border: 0; padding-top: .8em; }
+th.number, td.number { text-align: right; font-variant-numeric: tabular-nums; width: 1%; }
+th.number:not(:last-child), td.number:not(:last-child) { padding-right: 1.2em; }
 .hex { font-family: "Liberation Mono", "DejaVu Sans Mono", Consolas, monospace; font-size: .9em;
   line-height: 1.55; }
 td.hex, .keys td:first-child { white-space: nowrap; }
@@ -38,15 +40,17 @@ td.hex, .keys td:first-child { white-space: nowrap; }
 section { break-inside: avoid; }
 a { color: inherit; }
 @media screen and (max-width: 40em) {
-  .wide thead { display: none; }
-  .wide tr, .wide td, .wide td.number { display: block; text-align: left; }
+  .wide thead, .wide tbody, .wide th.title { display: block; }
+  .wide thead tr:not(.title) { display: none; }
+  .wide tr, .wide td, .wide td.number { display: block; text-align: left; width: auto; }
   .wide tr { border-bottom: 1px solid #999; padding: .4em 0; }
   .wide td { border: 0; padding: 0; }
   .wide td:first-child { font-weight: bold; }
   .wide td::before { content: attr(data-head) " "; font: 11pt/1.4 Arial, "Liberation Sans",
     sans-serif; color: #444; }
+  .pairs th { width: 33%; }
   .wide td:first-child:not(.number)::before { content: none; }
-  td.hex, .keys td:first-child, .pairs th { white-space: normal; }
+  td, td.hex, .keys td:first-child, .pairs th { white-space: normal; }
 }
 @media print {
   body { font-size: 9.5pt; max-width: none; padding: 0; }
@@ -89,46 +93,51 @@ def text(name: str, content: str, **attributes: Any) -> Html:
     return tag(name, escape(content), **attributes)
 
 
-def grouped(data: bytes) -> str:
-    """Bytes in hexadecimal, in groups of four digits; three, an identity, in one."""
+def grouped(data: Any) -> str:
+    """Bytes in hexadecimal, in groups of four digits; three, an identity, in one. Several
+    strings have a stroke between them."""
+    if not isinstance(data, bytes):
+        return " | ".join(map(grouped, data))
     digits = data.hex()
     if len(data) <= 3:
         return digits
     return " ".join(digits[at : at + 4] for at in range(0, len(digits), 4))
 
 
-def code(data: bytes) -> Html:
-    """Bytes within a sentence."""
-    return text("span", grouped(data), class_="hex")
-
-
 def _cell(value: Any, head: str, number: bool) -> Html:
     """A cell: bytes in groups, a column of numbers to the right, text as text."""
-    if isinstance(value, bytes):
+    if isinstance(value, (bytes, tuple)):
         return text("td", grouped(value), class_="hex", data_head=head)
     said = value if isinstance(value, Html) else escape("-" if value is None else str(value))
     return tag("td", said, class_="number" if number else "", data_head=head)
 
 
-def table(heads: Sequence[str], rows: Iterable[Any], class_: str = "") -> Html:
-    """A table; a row is a sequence of cells or a Row. A column of numbers stands to the
-    right with its head; a table of more than two columns is wide."""
-    made = [each if isinstance(each, Row) else Row(each) for each in rows]
-    columns = list(zip(*(each.cells for each in made))) or [()] * len(heads)
-    numbers = [
-        any(isinstance(value, int) for value in column)
-        and all(value is None or isinstance(value, int) for value in column)
-        for column in columns
+def numbers(rows: Sequence[Sequence[Any]], count: int) -> list[bool]:
+    """Which of so many columns have numbers, and nothing else."""
+    return [
+        any(isinstance(row[at], int) for row in rows)
+        and all(row[at] is None or isinstance(row[at], int) for row in rows)
+        for at in range(count)
     ]
+
+
+def table(heads: Sequence[str], rows: Iterable[Any], class_: str = "", title: str = "") -> Html:
+    """A table; a row is a sequence of cells or a Row. A column of numbers stands to the
+    right with its head; a table of more than two columns is wide. The title is repeated
+    with the heads on each printed page."""
+    made = [each if isinstance(each, Row) else Row(each) for each in rows]
+    right = numbers([each.cells for each in made], len(heads))
     head = "".join(
-        text("th", each, class_="number" if number else "") for each, number in zip(heads, numbers)
+        text("th", each, class_="number" if number else "") for each, number in zip(heads, right)
     )
+    above = tag("tr", text("th", title, class_="title", colspan=len(heads)), class_="title")
     body = "\n".join(
-        tag("tr", "".join(map(_cell, each.cells, heads, numbers)), class_=each.class_)
+        tag("tr", "".join(map(_cell, each.cells, heads, right)), class_=each.class_)
         for each in made
     )
     classes = f"{'wide' if len(heads) > 2 else ''} {class_}".strip()
-    return tag("table", tag("thead", tag("tr", head)) + tag("tbody", body), class_=classes)
+    head = (above if title else "") + tag("tr", head)
+    return tag("table", tag("thead", head) + tag("tbody", body), class_=classes)
 
 
 def pairs(rows: Iterable[tuple[str, Any]], class_: str = "") -> Html:

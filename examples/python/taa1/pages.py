@@ -22,8 +22,8 @@ MADE_BY = "taa1 mark"  # a candidate's page
 RIGHT, WRONG, FAILS = "#2f6690", "#e0a458", "#b23a48"
 
 
-def model_page(model: dict[str, Any]) -> str:
-    """The model answer."""
+def model_page(model: dict[str, Any], heading: str = "") -> str:
+    """The model answer, under the sitting's heading."""
     sitting = [(both(IN_SITTING[name]), value) for name, value in sitting_values(model["sitting"])]
     keys = [(both(key["name"]), key["value"], key["how"]) for key in model["keys"]]
     entries = [
@@ -43,6 +43,7 @@ def model_page(model: dict[str, Any]) -> str:
         tag("h2", "The entries"),
         *entries,
         tag("p", f"Sealing the book takes {model['runs']} cipher runs."),
+        above=heading,
     )
 
 

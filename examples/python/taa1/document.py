@@ -1,0 +1,199 @@
+"""A document of headings, words and tables: written once, shown as text and as a page."""
+
+from __future__ import annotations
+
+import textwrap
+from typing import Any, Iterable, NamedTuple, Sequence, Union
+
+from . import page
+from .page import Row, grouped, tag, text
+
+WIDTH = 96  # of a text's lines
+
+
+class Head(NamedTuple):
+    """A heading; a new page is for paper."""
+
+    words: str
+    level: int = 2
+    new_page: bool = False
+
+
+class Words(NamedTuple):
+    """A paragraph."""
+
+    words: str
+
+
+class Pairs(NamedTuple):
+    """Names and values."""
+
+    rows: Sequence[tuple[str, Any]]
+
+
+class Table(NamedTuple):
+    """Rows of cells under their heads, and a title over these."""
+
+    heads: Sequence[str]
+    rows: Sequence[Any]
+    class_: str = ""
+    title: str = ""
+
+
+class Fields(NamedTuple):
+    """Places to write on behind names."""
+
+    names: Sequence[str]
+
+
+class Lines(NamedTuple):
+    """Ruled lines to write on."""
+
+    number: int
+
+
+class Together(NamedTuple):
+    """Blocks that a printed page keeps together."""
+
+    blocks: Sequence[Any]
+
+
+Block = Union[Head, Words, Pairs, Table, Fields, Lines, Together]
+
+
+class Boxes(NamedTuple):
+    """A cell with an empty box for each byte, or for each thing to tick."""
+
+    number: int
+    tick: bool = False
+
+
+class Document(NamedTuple):
+    """A title, what stands over it, and the blocks."""
+
+    title: str
+    above: str
+    blocks: Sequence[Block]
+
+
+# ---- as text
+
+
+def _shown(value: Any) -> str:
+    """A cell's text."""
+    if isinstance(value, Boxes):
+        return " ".join(["[ ]" if value.tick else "__"] * value.number)
+    if isinstance(value, (bytes, tuple)):
+        return grouped(value)
+    return "-" if value is None else str(value)
+
+
+def columns(rows: Iterable[Any], heads: Sequence[str] = ()) -> list[str]:
+    """Rows in columns, numbers to the right."""
+    cells = [row.cells if isinstance(row, Row) else row for row in rows]
+    right = page.numbers(cells, len(heads or cells[0])) if cells else []
+    shown = [list(heads)] * bool(heads) + [[_shown(value) for value in row] for row in cells]
+    wide = [max(map(len, column)) for column in zip(*shown)]
+    lines = []
+    for row in shown:
+        padded = (
+            cell.rjust(width) if number else cell.ljust(width)
+            for cell, width, number in zip(row, wide, right or [False] * len(row))
+        )
+        lines.append("  ".join(padded).rstrip())
+    return lines
+
+
+def _lines(block: Block) -> list[str]:
+    """A block's lines, and a blank one behind it."""
+    if isinstance(block, Head):
+        return [block.words, "-" * len(block.words), ""] if block.level < 3 else [block.words]
+    if isinstance(block, Words):
+        return [*textwrap.wrap(block.words, WIDTH), ""]
+    if isinstance(block, Pairs):
+        return [*(f"  {line}" for line in columns(block.rows)), ""]
+    if isinstance(block, Table):
+        title = [block.title] if block.title else []
+        return [*title, *(f"  {line}" for line in columns(block.rows, block.heads)), ""]
+    if isinstance(block, Fields):
+        return [*(f"{name} {'_' * (40 - len(name))}" for name in block.names), ""]
+    if isinstance(block, Lines):
+        return ["_" * WIDTH, ""] * block.number
+    return [line for each in block.blocks for line in _lines(each)]
+
+
+def as_text(document: Document) -> str:
+    """The document as lines of text."""
+    lines = [f"{document.title}, {document.above}" if document.above else document.title]
+    lines += ["=" * len(lines[0]), ""]
+    for block in document.blocks:
+        lines += _lines(block)
+    return "\n".join(lines).rstrip("\n") + "\n"
+
+
+# ---- as a page
+
+STYLE = """
+.boxes { display: inline-flex; flex-wrap: wrap; vertical-align: middle; }
+.boxes i { width: 6.5mm; height: 8mm; border: 1px solid #000; margin: 0 -1px 1px 0; }
+.boxes i:nth-child(2n) { margin-right: 1mm; }
+.boxes i.tick { width: 4mm; height: 4mm; margin: .2mm 1mm; }
+.form td, .form th { border: 0; padding-bottom: .1em; vertical-align: middle; }
+.fields { display: flex; flex-wrap: wrap; gap: 1em 1.5em; margin: 1em 0; }
+.fields p { flex: 1 1 14em; display: flex; margin: 0; white-space: nowrap; }
+.fields p:first-child { flex-basis: 100%; }
+.fields span { flex: 1; border-bottom: 1px solid #000; margin-left: .5em; min-height: 1.8em; }
+.line { border-bottom: 1px solid #777; height: 9mm; }
+.result td { font-weight: bold; }
+@media print, (min-width: 40em) {
+  .steps { font-size: .9em; line-height: 1.25; }
+  .steps td { border-color: #ccc; padding-bottom: .12em; padding-top: .12em; }
+  .steps td.hex { line-height: 1.25; white-space: normal; width: 43ch; }
+  .steps td:nth-child(2) { white-space: nowrap; width: 14em; }
+  .steps td:nth-child(3) { width: 5em; }
+  .rows th:nth-child(2) { width: 12em; }
+}
+@media screen and (max-width: 40em) {
+  .steps td:nth-child(-n+3), .rows td:nth-child(-n+2) { display: inline; padding-right: .8em; }
+  .steps td::before, .rows td::before { content: none; }
+  .boxes i { width: 5.2mm; }
+}
+@media print { .new { break-before: page; margin-top: 0; } }
+"""
+
+
+def _in_page(value: Any) -> Any:
+    """A cell for a page's table."""
+    if isinstance(value, Boxes):
+        box = '<i class="tick"></i>' if value.tick else "<i></i>"
+        return tag("span", box * value.number, class_="boxes")
+    return value
+
+
+def _row(row: Any) -> Row:
+    made = row if isinstance(row, Row) else Row(row)
+    return Row([_in_page(value) for value in made.cells], made.class_)
+
+
+def _html(block: Block) -> str:
+    """A block's HTML."""
+    if isinstance(block, Head):
+        return text(f"h{block.level}", block.words, class_="new" if block.new_page else "")
+    if isinstance(block, Words):
+        return text("p", block.words)
+    if isinstance(block, Pairs):
+        return page.pairs([(name, _in_page(value)) for name, value in block.rows])
+    if isinstance(block, Table):
+        return page.table(block.heads, map(_row, block.rows), block.class_, block.title)
+    if isinstance(block, Fields):
+        places = "".join(tag("p", text("b", name) + "<span></span>") for name in block.names)
+        return tag("div", places, class_="fields")
+    if isinstance(block, Lines):
+        return '<div class="line"></div>\n' * block.number
+    return tag("section", "\n".join(map(_html, block.blocks)))
+
+
+def as_page(document: Document) -> str:
+    """The document as a page."""
+    blocks = map(_html, document.blocks)
+    return page.page(document.title, *blocks, above=document.above, style=STYLE)

@@ -1,0 +1,223 @@
+"""The question paper, the form and the solution: nothing that is asked for is in the first two."""
+
+from __future__ import annotations
+
+import re
+import stat
+from html import unescape
+from unittest import mock
+
+from common import CLASS, DESK, ENTRIES, LINES, PLAIN_BOOK, SITTING, Case, here, taa1
+from taa1 import paper
+from taa1.document import Document, as_page, as_text
+from taa1.engine import Sitting
+from taa1.model import model_answer
+from taa1.names import both
+from taa1.page import grouped
+from taa1.records import SEALED, split
+from taa1.texts import Heading, format_lines, format_sitting, sitting_bytes
+from taa1.working import Steps
+
+INPUTS = (CLASS / "sitting.txt", CLASS / "model.txt")
+OTHER = Sitting(*(bytes(range(at, at + 16 if at == 60 else at + 10)) for at in (60, 90, 120, 150, 180, 210)),
+                bytes(range(30, 42)), 3, 0x000F, 0x3FF0)  # fmt: skip
+
+
+def examined(sitting: Sitting, plain: bytes = PLAIN_BOOK) -> paper.Examination:
+    """A sitting with the sample's book, worked."""
+    return paper.examination(DESK, sitting, Heading("A & B", "today"), plain, "f")
+
+
+def candidates(of: paper.Examination) -> list[Document]:
+    """What a candidate gets."""
+    return [paper.question_paper(of), paper.answer_form(of)]
+
+
+def asked_for(of: paper.Examination) -> list[bytes]:
+    """Every value that a candidate is to work out."""
+    keys = [key for key in of.model["keys"] if key["name"] != "C" and "does not" not in key["how"]]
+    records = split(of.model["sealed"], SEALED)
+    parts = [part for record in records for part in (record, record[1:4], record[6:])]
+    return [key["value"] for key in keys] + parts
+
+
+def digits(text: str) -> str:
+    """All hexadecimal digits of a page or a text, whatever stands between them."""
+    return "".join(re.findall("[0-9a-f]", unescape(re.sub("<style.*?</style>|<[^>]*>", "", text, flags=re.S)).lower()))
+
+
+class Paper(Case):
+    """taa1 paper."""
+
+    def test_nothing_asked_for(self) -> None:
+        """No value is in the candidate's pages, in whatever groups; the solution has each."""
+        for sitting in (SITTING, OTHER):
+            for sides in (1, 2, 3):
+                of = examined(sitting._replace(sides=sides))
+                values = asked_for(of)
+                self.assertEqual(len(values), (9 if sides == 3 else 6) + 3 * len(ENTRIES))
+                for document in candidates(of):
+                    for shown in (as_page(document), as_text(document)):
+                        have, source = digits(shown), shown.lower()
+                        for value in values:
+                            self.assertNotIn(value.hex(), have)
+                            self.assertNotIn(value.hex(), source)
+                for shown in (as_page(paper.solution(of)), as_text(paper.solution(of))):
+                    have = digits(shown)
+                    for value in values:
+                        self.assertIn(value.hex(), have)
+
+    def test_every_grouping_is_found(self) -> None:
+        """The search above finds a value in pieces of any size, in cells and in capitals."""
+        value = "e8747aa2cbbf900258cfc4ec4fd4d63e"
+        for size in (1, 2, 4, 8, 32):
+            parts = [value[at : at + size] for at in range(0, 32, size)]
+            for text in (" ".join(parts), "</td>\n<td>".join(parts).upper(), "&#32;".join(parts)):
+                self.assertIn(value, digits(f"<tr><td>{text}</td></tr>"))
+
+    def test_given(self) -> None:
+        """The paper has all that is given, and which bytes the masks choose."""
+        said = as_text(paper.question_paper(examined(SITTING)))
+        for value in SITTING[:7]:
+            self.assertIn(f"  {grouped(value)}\n", said)
+        self.assertIn("9009, which chooses B15 B12 B3 B0\n", said)
+        self.assertIn("6db6, which chooses B14 B13 B11 B10 B8 B7 B5 B4 B2 B1\n", said)
+        for entry in ENTRIES:
+            self.assertRegex(said, rf"{entry.identity:06x} +{entry.version} +(-|{entry.number}) +{grouped(entry.key)}\n")
+        for name in ("session key 1", "session key 2", "response 1", "key 2", "D", "O", "G"):
+            self.assertIn(both(name), said)
+        self.assertIn("The argument\nWhy can a sealed text open to one entry only?", said)
+
+    def test_chosen(self) -> None:
+        """A mask chooses the bytes that TA12 takes."""
+        text = bytes(range(15, -1, -1))
+        for mask in (0x9009, 0x6DB6, 0x000F, 0xFFC0):
+            named = [int(name[1:]) for name in paper.chosen(mask).split()]
+            self.assertEqual(bytes(named), Steps(DESK).chosen(text, mask))
+
+    def test_form(self) -> None:
+        """A box for each byte that is asked for, and numbered rows."""
+        for sides, boxes, last in ((3, 102, 9), (1, 72, 6), (2, 72, 6)):
+            of = examined(SITTING._replace(sides=sides))
+            page = as_page(paper.answer_form(of))
+            self.assertEqual(page.count("<i></i>"), boxes + 21 * len(ENTRIES))
+            rows = [row for _, values in paper.asked(sides) for row in (v.row for v in values)]
+            self.assertEqual(rows, list(range(1, last + 1)))
+            for name in ("Name", "Candidate's number", "Date", "row", "entry"):
+                self.assertIn(name, unescape(page))
+
+    def test_one_side(self) -> None:
+        """Nothing is asked of a side that does not run, and what stands for it is said."""
+        for sides, idle, absent in ((1, "TA22", ("KS'", "RES2", "DCK2")), (2, "TA12", ("RES1", "DCK1"))):
+            for document in candidates(examined(SITTING._replace(sides=sides))):
+                for name in absent:
+                    self.assertNotIn(f"({name})", as_text(document))
+            said = as_text(paper.question_paper(examined(SITTING._replace(sides=sides))))
+            self.assertIn(f"{idle} does not run: zeros stand for its key in TB4.\n", said)
+
+    def test_solution(self) -> None:
+        """Every part ends with the engine's value, and has the steps that lead to it."""
+        of = examined(SITTING)
+        said = as_text(paper.solution(of))
+        parts = {part.split("\n")[0]: part for part in said.split("\n\n")}
+        model = model_answer(DESK, SITTING, PLAIN_BOOK, "f")
+        values = {key["name"]: grouped(key["value"]) for key in model["keys"]}
+        core = ["EXP1", "EXP2's last byte", "EXP2", "left block", "chaining", "right block", "BL1"]
+        for title, names, steps in (
+            ("TA11: session key 1 (KS)", ["session key 1"], core),
+            ("TA12: response 1 (RES1) and key 1 (DCK1)", ["response 1", "key 1"],
+             [*core, "bytes chosen by a mask", "bytes chosen by a mask"]),
+            ("TA21: session key 2 (KS')", ["session key 2"], ["seed reversed", *core]),
+            ("TA41: O (KSO)", ["O"], core),
+            ("TB4: D (DCK)", ["D"], []),
+            ("TB7: G (EGSKO)", ["G"], []),
+        ):  # fmt: skip
+            lines = parts[title].splitlines()[2:]
+            self.assertEqual([self.step(line) for line in lines], [*steps, title.split(":")[0]])
+            self.assertIn(" | ".join(values[name] for name in names), lines[-1])
+            self.assertTrue(lines[-1].endswith(" | ".join(both(name) for name in names)))
+        for entry, made in zip(ENTRIES, model["entries"]):
+            title = next(name for name in parts if name.startswith(f"Entry {made['entry']}:"))
+            lines = parts[title].splitlines()[2:]
+            steps = [self.step(line) for line in lines]
+            for step in ("left block", "chaining", "right block", "BL1", "byte 8 dropped", made["call"],
+                         "identity encrypted"):
+                self.assertEqual(steps.count(step), 1, (title, step))
+            self.assertEqual((steps.count("P"), steps.count("⊕ with a K-string")), (2, 3))
+            self.assertIn(grouped(made["record"]), lines[-1])
+            whole = bytes.fromhex(lines[steps.index("BL1")][40:].split("  ")[0].replace(" ", "")[-32:])
+            self.assertTrue(lines[steps.index("byte 8 dropped")].endswith(f"which is {whole[7]:02x}"))
+            self.assertEqual(whole[:7] + whole[8:], made["text"])
+            expansion = {1: "EXP1", 2: "EXP3", 3: "X16", 4: "X16", 5: "EXP3", 6: "X16"}[entry.kind]
+            self.assertIn(expansion, steps)
+
+    @staticmethod
+    def step(line: str) -> str:
+        """The name in a line of the solution."""
+        return re.split(r"\s{2,}", re.sub(r"^\s*(\d+|-)\s+", "", line))[0]
+
+    def test_disagreement(self) -> None:
+        """A working that is not the engine's answer makes no page."""
+        for method, wrong in (
+            ("last_byte", 0),
+            ("tb7", bytes(16)),
+            ("dropped", bytes(15)),
+            ("strings", (bytes(3),) * 3),
+        ):
+            with mock.patch.object(Steps, method, lambda *inputs, wrong=wrong: wrong):
+                done = here("paper", *INPUTS, "--html", self.folder / "pages", cwd=self.folder)
+            said = "the working, step by step, is not what the engine answers: no page is made"
+            self.assertEqual((done.status, done.error), (2, f"taa1: {said}\n"), method)
+            self.assertFalse((self.folder / "pages").exists())
+
+    def test_pages(self) -> None:
+        """Three pages; the solution is its owner's alone. Their text is the command's."""
+        heading = Heading('<b> "Winter" & more', "3 December")
+        sitting = self.file("sitting.txt", format_sitting(sitting_bytes(SITTING), heading))
+        pages = self.folder / "pages"
+        self.assertEqual(self.accepted("paper", sitting, INPUTS[1], "--html", pages), b"")
+        modes = {path.name: stat.S_IMODE(path.stat().st_mode) & 0o077 for path in pages.iterdir()}
+        self.assertEqual(set(modes), {"paper.html", "form.html", "solution.html"})
+        self.assertEqual(modes["solution.html"], 0)
+        self.assertTrue(modes["paper.html"])
+        for path in pages.iterdir():
+            text = path.read_text()
+            self.assertIn("<p>&lt;b&gt; &quot;Winter&quot; &amp; more, 3 December</p>", text)
+            for word in ("<script", "src=", "http", "@import", "url(", "<b> "):
+                self.assertNotIn(word, text)
+
+    def test_texts(self) -> None:
+        """Each part by itself, or all three; a file with the solution is private."""
+        parts = [self.accepted("paper", *INPUTS, "--part", part) for part in ("paper", "form", "solution")]
+        self.assertEqual(self.accepted("paper", *INPUTS), b"\n\n".join(parts))
+        for part, private in (("form", False), ("solution", True)):
+            name = self.folder / part
+            self.accepted("paper", *INPUTS, "--part", part, "-o", name)
+            self.assertEqual(stat.S_IMODE(name.stat().st_mode) & 0o077 == 0, private)
+
+    def test_all_or_none(self) -> None:
+        """Where one page can't be written, the others are as they were."""
+        pages = self.folder / "pages"
+        self.accepted("paper", *INPUTS, "--html", pages)
+        (pages / "solution.html").unlink()
+        (pages / "solution.html").mkdir()
+        before = (pages / "form.html").read_bytes()
+        shorter = self.file("book.txt", "".join(LINES.splitlines(True)[:3]))
+        done = taa1("paper", INPUTS[0], shorter, "--html", pages)
+        self.assertEqual((done.status, done.error), (2, f"taa1: {pages}/solution.html: Is a directory\n"))
+        self.assertEqual((pages / "form.html").read_bytes(), before)
+        self.assertEqual(len(list(pages.iterdir())), 3)
+
+    def test_empty_and_long(self) -> None:
+        """A book of no entries and one of 1,024 have their papers."""
+        self.file("empty.txt", "entries 0\n")
+        said = self.accepted("paper", INPUTS[0], "empty.txt", cwd=self.folder).decode()
+        self.assertIn("The plain entries\n-----------------\n\nNone.\n", said)
+        self.file("long.txt", format_lines(PLAIN_BOOK * 85 + PLAIN_BOOK[:72]))
+        said = self.accepted("paper", INPUTS[0], "long.txt", "--part", "form", cwd=self.folder).decode()
+        self.assertIn("\n   1023  __ ", said)
+
+    def test_wrong_use(self) -> None:
+        said = "paper: --html writes all three pages into its folder: no --part, no -o"
+        for options in (("--part", "form"), ("-o", "f")):
+            self.fails(2, said, "paper", *INPUTS, "--html", "pages", *options, cwd=self.folder)
