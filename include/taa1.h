@@ -15,8 +15,8 @@
  * structs: padding is no part of an answer.
  *
  * An output is a pointer and a length too, and must not overlap an input. It may
- * be longer than the result: the bytes behind those written stay as they are. It
- * may be null where its length is 0. A refusal leaves it unchanged.
+ * be longer than the result: the bytes behind those written stay as they are. For
+ * an output of no bytes, null will do. A refusal leaves it unchanged.
  *
  * A Rust host declares `*const u8, usize` for a byte string, `*mut u8, usize`
  * for an output, and never `&[u8]`: Rust's slices do not pass this way.
