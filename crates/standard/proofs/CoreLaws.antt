@@ -20,16 +20,16 @@ unfoldable pub unsealCore : List ℕ → List ℕ → List ℕ
 unsealCore k t = bl2 k (with8 t)
 
 -- BL1 under a key
-bl1-blocks : (k x : List ℕ) → bl1 k x
+pub bl1-blocks : (k x : List ℕ) → bl1 k x
     ≡ part 0 8 (encrypt k (part 0 8 x)) ++ part 0 8 (encrypt k (xors 8 (part 8 8 x) (encrypt k (part 0 8 x))))
 unfolding bl1 bl1With encrypt
 bl1-blocks k x = refl
 
 -- the cipher's laws as the cores meet them: a block written out in between
-decrypt-part : (k x : List ℕ) → Bytes 8 x → decrypt k (part 0 8 (encrypt k x)) ≡ x
+pub decrypt-part : (k x : List ℕ) → Bytes 8 x → decrypt k (part 0 8 (encrypt k x)) ≡ x
 decrypt-part k x h = ap (decrypt k) (spell (encrypt-bytes k x h)) ∙ decrypt-encrypt k x (h .len)
 
-encrypt-part : (k x : List ℕ) → Bytes 8 x → encrypt k (part 0 8 (decrypt k x)) ≡ x
+pub encrypt-part : (k x : List ℕ) → Bytes 8 x → encrypt k (part 0 8 (decrypt k x)) ≡ x
 encrypt-part k x h = ap (encrypt k) (spell (decrypt-bytes k x h)) ∙ encrypt-decrypt k x (h .len)
 
 unseal-seal : (k u : List ℕ) → Bytes 15 u → unsealCore k (sealCore k u) ≡ u

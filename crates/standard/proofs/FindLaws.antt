@@ -64,7 +64,7 @@ number-on (suc n) acc x =
     let m : x % 2 ^ (8 * suc n) ≡ x / 2 ^ (8 * n) % 256 * 2 ^ (8 * n) + x % 2 ^ (8 * n) = ap (λ (k : ℕ). x % 2 ^ k) s ∙ mod-pow-add x 8 (8 * n) in
     number-on n (acc * 256 + x / 2 ^ (8 * n) % 256) x ∙ rw (add-mul, add-assoc, ← m, mul-assoc acc 256 (2 ^ (8 * n)), ← p)
 
-number-bytes : (n x : ℕ) → number (bytesOf n x) ≡ x % 2 ^ (8 * n)
+pub number-bytes : (n x : ℕ) → number (bytesOf n x) ≡ x % 2 ^ (8 * n)
 unfolding number
 number-bytes n x = number-on n 0 x ∙ rw (zero-mul, zero-add)
 
