@@ -1,0 +1,102 @@
+-- One text, one entry: the checks, a text, a record, a book. Each is `only-image` of two maps that are inverse.
+-- Assumes nothing.
+use mathlib.Core.Bool.{Bool, true, false}
+use mathlib.Core.List.{List, [], _∷_, _++_}
+use mathlib.Core.Logic.{_↔_, Iff·trans}
+use mathlib.Core.Path.{_≡_, refl, sym, ap, _∙_}
+use Prim.Native.Nat.{ℕ, _≤_}
+use native.Mathlib.Omega.{arith}
+use lib.Dec.{eqb}
+use lib.ListN.{length, take, drop}
+use lib.Seq.{take-at}
+use borrow.Author.Tests.{eqb-true, eqb-false, eq-eqb, le-leb}
+use Rattle.standard.specs.Books.{plainFault, sealRecord, openFault, openRecord, bookCall, openBook}
+use Rattle.standard.specs.Bytes.{part, same, Bytes, Passed}
+use Rattle.standard.specs.Demand3.{IsSealedForm}
+use Rattle.standard.specs.Lists.{answer, written}
+use Rattle.standard.specs.Seals.{formOf, failed, seal}
+use Rattle.standard.specs.Sizes.{ringSize, plainSize, sealedSize}
+use Rattle.standard.specs.declared.Algorithm.{Algorithm}
+use Rattle.standard.specs.declared.Bytes15.{Bytes15}
+use Rattle.standard.specs.declared.Version.{Version}
+use Rattle.standard.proofs.BytesLaws.{spelled, spell, part-left}
+use Rattle.standard.proofs.CheckLaws.{clear-same}
+use Rattle.standard.proofs.Demand3Laws.{demand3}
+use Rattle.standard.proofs.RecordLaws.{Plain, Sealed, record-law}
+use Rattle.standard.proofs.SealLaws.{Body, form-law, sealing}
+use Rattle.claims.specs.Entries.{Legal, sealingSize, sealCall, Unsealing}
+use Rattle.claims.specs.TrueClaims.{ChecksExactly, OneText, OneRecord, OneBook, RecordAlone}
+use Rattle.claims.proofs.OnlyLaws.{only-image, only-same}
+use Rattle.claims.proofs.TermLaws.{pair, legal-body, sealed-by, unsealed-by, opens-clear}
+
+-- ---- texts
+
+seals-to : (a : Algorithm) (s : List ℕ) (v : Version) (t : List ℕ) → length s ≡ sealingSize a → (b : List ℕ)
+    → (Body (formOf a) b × (seal (formOf a) s (pair v) b ≡ t)) ↔ (Legal a b × (sealCall a b v s ≡ record { refusal = 0; bytes = t }))
+seals-to a s v t hs b = (
+  λ h. let l = legal-body a b .1 (h .0) in (l, sealed-by a s v b hs l ∙ ap (λ (x : List ℕ). record { refusal = 0; bytes = x }) (h .1)),
+  λ h. (legal-body a b .0 (h .0), ap (λ (x : Bytes15). x .bytes) (sym (sealed-by a s v b hs (h .0)) ∙ h .1)),
+)
+
+pub one-text : OneText
+one-text a s v t hs h =
+    Iff·trans (opens-clear a s v t hs)
+    (Iff·trans (only-image (sealing a s (pair v)) t)
+    (only-same (seals-to a s v t hs) (ap (λ (u : Unsealing). u .body) (sym (unsealed-by a s v t hs h)))))
+
+-- ---- the checks of BL2's output
+
+passes : (a : Algorithm) (u : List ℕ) → Bytes 15 u → (failed (formOf a) u ≡ 0) ↔ Passed 15 (λ w. same (formOf a .found w) (formOf a .wanted w)) u
+passes a u h = (
+  λ e. record { bytes = h; passed = sym (clear-same a u) ∙ eq-eqb _ 0 e },
+  λ p. eqb-true _ 0 (clear-same a u ∙ p .passed),
+)
+
+expands-to : (a : Algorithm) (u : List ℕ) → Bytes 15 u → (b : List ℕ)
+    → (Body (formOf a) b × (part 0 15 (formOf a .input b) ≡ u)) ↔ (Legal a b × (formOf a .input b ≡ u ++ 0 ∷ []))
+expands-to a u h b = (
+  λ e. (legal-body a b .1 (e .0), form-law a .ends b ∙ ap (λ (x : List ℕ). x ++ 0 ∷ []) (e .1)),
+  λ e. (legal-body a b .0 (e .0), ap (part 0 15) (e .1) ∙ part-left 0 15 u (0 ∷ []) (omega (arith, h .len)) ∙ spell h),
+)
+
+pub checks-exactly : ChecksExactly
+checks-exactly a u h = Iff·trans (passes a u h) (Iff·trans (only-image (form-law a .checks) u) (only-same (expands-to a u h) refl))
+
+-- ---- records
+
+plain-parts : (r t p : List ℕ) → (Plain p × (sealRecord r p ≡ t)) ↔ (Bytes plainSize p × (plainFault p ≡ 0) × (sealRecord r p ≡ t))
+plain-parts r t p = (
+  λ h. (h .0 .bytes, eqb-true _ 0 (h .0 .passed), h .1),
+  λ h. (record { bytes = h .0; passed = eq-eqb _ 0 (h .1) }, h .2),
+)
+
+sealed-parts : (r t : List ℕ) → Bytes sealedSize t → (openFault r t ≡ 0) ↔ Sealed r t
+sealed-parts r t h = (λ e. record { bytes = h; passed = eq-eqb _ 0 e }, λ p. eqb-true _ 0 (p .passed))
+
+pub one-record : OneRecord
+one-record r t hr h = Iff·trans (sealed-parts r t h) (Iff·trans (only-image (record-law r hr) t) (only-same (plain-parts r t) refl))
+
+-- ---- books
+
+pub one-book : OneBook
+one-book r s out hr bs room =
+    let d = demand3 r hr s bs out room in
+    let is : (p : List ℕ) → IsSealedForm r p s → take (openBook r s out .0 .written) (openBook r s out .1) ≡ p =
+    λ p q. rw (d .writes p q) (take-at p (drop (length p) out) (length p) refl) in (
+      λ e.
+          let q = d .opens .0 e in
+          record { has = rw (is (q .0) (q .1)) (q .1); only = λ p h. sym (is p h) },
+      λ o. d .opens .1 (_, o .has),
+    )
+
+-- a record is a book of one
+alone : (r t out : List ℕ) → length r ≡ ringSize → length t ≡ sealedSize → plainSize ≤ length out → (z : Bool) → eqb (openFault r t) 0 ≡ z
+    → (openBook r t out .0 .refusal ≡ openFault r t) × (openFault r t ≡ 0 → openBook r t out .1 ≡ openRecord r t ++ drop plainSize out)
+unfolding openBook bookCall written answer
+alone r t out hr ht room true e =
+    rw (ht, eq-eqb _ _ hr, le-leb _ _ room, spelled sealedSize t ht, e) (sym (eqb-true _ 0 e), λ z. refl)
+alone r t out hr ht room false e =
+    rw (ht, eq-eqb _ _ hr, le-leb _ _ room, spelled sealedSize t ht, e) (ap (openFault r) (spelled sealedSize t ht), λ z. absurd (eqb-false _ 0 e z))
+
+pub record-alone : RecordAlone
+record-alone r t out hr ht room = alone r t out hr ht room (eqb (openFault r t) 0) refl

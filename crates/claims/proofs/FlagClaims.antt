@@ -1,0 +1,153 @@
+-- What the flag says of a text, and what it does not.
+-- Assumes nothing.
+use mathlib.Core.Bool.{Bool, true, false}
+use mathlib.Core.List.{List, [], _∷_, _++_}
+use mathlib.Core.Path.{_≡_, refl, sym, ap, _∙_, subst}
+use Prim.Native.Nat.{ℕ, _+_, _<_, _≤_}
+use native.Mathlib.Omega.{arith}
+use lib.Bits.{xor-comm, xor-self, xor-zero-r}
+use lib.Dec.{ltb}
+use borrow.Author.Tests.{eqb-true, eq-eqb, ltb-true, ltb-false}
+use Rattle.standard.specs.Bytes.{_!_, _⊕_, part, xors, Bytes}
+use Rattle.standard.specs.Cores.{bl2}
+use Rattle.standard.specs.Expansions.{xorOf}
+use Rattle.standard.specs.Hurdle.{decrypt}
+use Rattle.standard.specs.Seals.{formOf, failed, seal, unseal, fails, opened}
+use Rattle.standard.specs.declared.Algorithm.{Algorithm}
+use Rattle.standard.specs.declared.Algorithm.the-variants.{Ta31, Ta51, Ta81, Ta91}
+use Rattle.standard.specs.declared.Bytes15.{Bytes15}
+use Rattle.standard.proofs.BytesLaws.{table-same, same-eq, bytes-append, bytes-part, bytes-one}
+use Rattle.standard.proofs.CheckLaws.{clear-same}
+use Rattle.standard.proofs.CoreLaws.{sealCore, unsealCore, core}
+use Rattle.standard.proofs.SealLaws.{form-law, sealing}
+use Rattle.standard.proofs.XorLaws.{xor-cancel-l, xor-byte}
+use Rattle.claims.specs.Entries.{Legal, Unsealing, unsealCall}
+use Rattle.claims.specs.TrueClaims.{UnsealsAllTheSame, changed, Carried, Noticed, noticedFrom}
+use Rattle.claims.proofs.ChangeLaws.{changed-elsewhere, changed-xors, xor-changed}
+use Rattle.claims.proofs.TermLaws.{pair, legal-body, sealed-by, unsealed-by, failed-by}
+
+-- ---- the last inserted byte changed
+
+-- it is no part of the body, whatever the kind
+last-left-out : (a : Algorithm) (u : List ℕ) (x : ℕ) → formOf a .shrink (part 0 14 u ++ x ∷ []) ≡ formOf a .shrink u
+last-left-out Ta31 u x = refl
+last-left-out Ta51 u x = refl
+last-left-out Ta81 u x = refl
+last-left-out Ta91 u x = refl
+
+-- x ⊕ 1 is not x
+not-itself : (x : ℕ) → x ≡ x ⊕ 1 → ⊥
+not-itself x e =
+    let z : _≡_ {A = ℕ} 0 1 = sym (xor-self x) ∙ ap (_⊕_ x) e ∙ xor-cancel-l x 1 in
+    omega arith
+
+module _ (a : Algorithm) (k b : List ℕ) (h : Legal a b) where
+  abbrev expansion : List ℕ
+  expansion = part 0 15 (formOf a .input b)
+
+  abbrev spoilt : List ℕ
+  spoilt = part 0 14 expansion ++ (expansion ! 14 ⊕ 1) ∷ []
+
+  spoilt-bytes : Bytes 15 spoilt
+  spoilt-bytes =
+      let e = form-law a .checks .to b (legal-body a b .0 h) .bytes in
+      bytes-append (bytes-part 0 14 e) (bytes-one (xor-byte (expansion ! 14) 1 (e .bound 14) (omega arith)))
+
+  spoilt-body : formOf a .shrink spoilt ≡ b
+  spoilt-body = last-left-out a expansion _ ∙ form-law a .checks .back b (legal-body a b .0 h)
+
+  -- were no check to fail, it would be the expansion
+  spoilt-fails : failed (formOf a) spoilt ≡ 0 → ⊥
+  spoilt-fails e =
+      let c = form-law a .checks .forth spoilt (record { bytes = spoilt-bytes; passed = sym (clear-same a spoilt) ∙ eq-eqb _ 0 e }) in
+      let same : expansion ≡ spoilt = ap (λ (x : List ℕ). part 0 15 (formOf a .input x)) (sym spoilt-body) ∙ c in
+      not-itself (expansion ! 14) (ap (λ (x : List ℕ). x ! 14) same)
+
+pub unseals-all-the-same : UnsealsAllTheSame
+unfolding unseal fails opened unsealCore
+unseals-all-the-same a s v b hs h =
+    let k = formOf a .key s (pair v) in
+    let u = spoilt a k b h in
+    let ub = spoilt-bytes a k b h in
+    let t = sealCore k u in
+    let tb = core k .to u ub in
+    let e : unsealCore k t ≡ u = core k .back u ub in
+    let c = unsealed-by a s v t hs tb in
+    let set : unsealCall a t s v .failed ≡ 0 → ⊥ =
+    λ z. spoilt-fails a k b h (ap (failed (formOf a)) (sym e) ∙ sym (ap (λ (x : Unsealing). x .failed) c) ∙ z) in (
+      t,
+      record {
+        bytes = tb;
+        accepted = ap (λ (x : Unsealing). x .refusal) c;
+        same = ap (λ (x : Unsealing). x .body) c ∙ ap (formOf a .shrink) e ∙ spoilt-body a k b h;
+        set = set;
+        other = λ z.
+            let y : seal (formOf a) s (pair v) b ≡ t = ap (λ (x : Bytes15). x .bytes) (sym (sealed-by a s v b hs h)) ∙ z in
+            let p = sealing a s (pair v) .to b (legal-body a b .0 h) .passed in
+            set (ap (λ (x : Unsealing). x .failed) c ∙ ap (fails (formOf a) s (pair v)) (sym y) ∙ eqb-true _ 0 p);
+      },
+    )
+
+-- ---- one byte changed
+
+right-part : (k t : List ℕ) → part 8 7 (opened k t) ≡ xors 7 (decrypt k (part 7 8 t)) t
+unfolding opened bl2
+right-part k t = refl
+
+pub carried : Carried
+carried k t i d h =
+    let same : part 7 8 (changed 15 i d t) ≡ part 7 8 t =
+    table-same 8 (λ j. changed 15 i d t ! (7 + j)) (λ j. t ! (7 + j)) (λ j l. changed-elsewhere 15 i d t (7 + j) (omega arith) (λ e. omega (arith, e))) in
+    right-part k (changed 15 i d t)
+    ∙ ap (λ (r : List ℕ). xors 7 (decrypt k r) (changed 15 i d t)) same
+    ∙ changed-xors 7 15 i d (decrypt k (part 7 8 t)) t (omega arith)
+    ∙ ap (changed 7 i d) (sym (right-part k t))
+
+-- the groups that stand wholly in the right part: where each starts there, and how many bytes it has with its inserted byte
+abbrev rightGroups : Algorithm → List (ℕ × ℕ)
+rightGroups Ta31 = (1, 3) ∷ (4, 3) ∷ []
+rightGroups Ta51 = (3, 4) ∷ []
+rightGroups Ta81 = (2, 5) ∷ []
+rightGroups Ta91 = (2, 5) ∷ []
+
+-- the ⊕ of each is 0 ..
+abbrev Even : List (ℕ × ℕ) → List ℕ → Type 0
+Even [] w = Unit {0}
+Even (g ∷ gs) w = (xorOf (g .0) (g .1) w ≡ 0) × Even gs w
+
+-- .. if no check fails
+right-even : (a : Algorithm) (u : List ℕ) → failed (formOf a) u ≡ 0 → Even (rightGroups a) (part 8 7 u)
+right-even a u z = go a (same-eq (formOf a .found u) (formOf a .wanted u) (sym (clear-same a u) ∙ eq-eqb _ 0 z))
+  where
+    even : (x y : ℕ) → y ≡ x → x ⊕ y ≡ 0
+    even x y e = ap (_⊕_ x) e ∙ xor-self x
+
+    go : (a : Algorithm) → formOf a .found u ≡ formOf a .wanted u → Even (rightGroups a) (part 8 7 u)
+    go Ta31 e = (even (xorOf 9 2 u) (u ! 11) (ap (λ (l : List ℕ). l ! 3) e), (even (xorOf 12 2 u) (u ! 14) (ap (λ (l : List ℕ). l ! 4) e), tt))
+    go Ta51 e = (even (xorOf 11 3 u) (u ! 14) (ap (λ (l : List ℕ). l ! 3) e), tt)
+    go Ta81 e = (even (xorOf 10 4 u) (u ! 14) (ap (λ (l : List ℕ). l ! 2) e), tt)
+    go Ta91 e = (even (xorOf 10 4 u) (u ! 14) (ap (λ (l : List ℕ). l ! 2) e), tt)
+
+-- a byte of such a group changed, and the ⊕ still 0: it was no change
+module _ (w : List ℕ) (i d : ℕ) where
+  no-change : (from n : ℕ) → xorOf from n w ≡ 0 → xorOf from n (changed 7 i d w) ≡ 0 → from ≤ i → i < from + n → from + n ≤ 7 → d ≡ 0
+  no-change from n e e′ a b h =
+      sym (xor-comm 0 d ∙ xor-zero-r d) ∙ ap (λ (x : ℕ). x ⊕ d) (sym e) ∙ sym (xor-changed 7 i d w from n a b h) ∙ e′
+
+  which-group : (a : Algorithm) → Even (rightGroups a) w → Even (rightGroups a) (changed 7 i d w) → noticedFrom a ≤ i → i < 7 → d ≡ 0
+  which-group Ta31 e e′ l h = go (ltb i 4) refl
+    where
+      go : (t : Bool) → ltb i 4 ≡ t → d ≡ 0
+      go true z = no-change 1 3 (e .0) (e′ .0) l (ltb-true i 4 z) (omega arith)
+      go false z = no-change 4 3 (e .1 .0) (e′ .1 .0) (ltb-false i 4 z) h (omega arith)
+  which-group Ta51 e e′ l h = no-change 3 4 (e .0) (e′ .0) l h (omega arith)
+  which-group Ta81 e e′ l h = no-change 2 5 (e .0) (e′ .0) l h (omega arith)
+  which-group Ta91 e e′ l h = no-change 2 5 (e .0) (e′ .0) l h (omega arith)
+
+pub noticed : Noticed
+unfolding fails
+noticed a s v t i d hs o l h other z =
+    let k = formOf a .key s (pair v) in
+    let before = right-even a (opened k t) (sym (failed-by a s v t hs (o .bytes .len)) ∙ o .clear) in
+    let after = right-even a (opened k (changed 15 i d t)) (sym (failed-by a s v (changed 15 i d t) hs refl) ∙ z) in
+    other (which-group (part 8 7 (opened k t)) i d a before (subst (Even (rightGroups a)) (carried k t i d h) after) l h)

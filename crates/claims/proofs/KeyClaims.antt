@@ -1,0 +1,83 @@
+-- Sealing key and version enter by their ⊕ alone.
+-- Assumes nothing.
+use mathlib.Core.List.{List}
+use mathlib.Core.Path.{_≡_, sym, ap, _∙_}
+use Prim.Native.Nat.{ℕ, _/_, _%_, _^_}
+use native.Mathlib.Omega.{arith}
+use lib.Bits.{xor-comm, xor-self}
+use lib.ListN.{length}
+use borrow.Author.Tests.{eq-eqb}
+use Rattle.standard.specs.Bytes.{_!_, _⊕_}
+use Rattle.standard.specs.Seals.{formOf, failed, key10, key16, sealed, opened, seal, unseal, fails, ta31Call, ta32Call, ta51Call, ta52Call, ta81Call, ta82Call, ta91Call, ta92Call}
+use Rattle.standard.specs.declared.Algorithm.{Algorithm}
+use Rattle.standard.specs.declared.Algorithm.the-variants.{Ta31, Ta51, Ta81, Ta91}
+use Rattle.standard.specs.declared.Version.{Version}
+use Rattle.standard.proofs.XorLaws.{xor-assoc, xor-cancel-l, xor-cancel-r}
+use Rattle.claims.specs.Entries.{sealingSize, sealCall, unsealCall}
+use Rattle.claims.specs.FalseClaims.{otherKey, KeyAndVersion}
+use Rattle.claims.proofs.TermLaws.{pair}
+
+-- what the other key has of both versions: one goes, the other stays
+exchanged : (s v w : ℕ) → w ⊕ (s ⊕ (v ⊕ w)) ≡ v ⊕ s
+exchanged s v w = xor-comm w _ ∙ ap (λ (x : ℕ). x ⊕ w) (sym (xor-assoc s v w)) ∙ xor-cancel-r (s ⊕ v) w ∙ xor-comm s v
+
+same-key : (a : Algorithm) (s : List ℕ) (v w : Version) → formOf a .key (otherKey (sealingSize a) s v w) (pair w) ≡ formOf a .key s (pair v)
+unfolding key10 key16
+same-key Ta31 s v w = simp exchanged
+same-key Ta51 s v w = simp exchanged
+same-key Ta81 s v w = simp exchanged
+same-key Ta91 s v w = simp exchanged
+
+module _ (a : Algorithm) (s : List ℕ) (v w : Version) where
+  abbrev other : List ℕ
+  other = otherKey (sealingSize a) s v w
+
+  same-seal : (b : List ℕ) → seal (formOf a) other (pair w) b ≡ seal (formOf a) s (pair v) b
+  unfolding seal
+  same-seal b = ap (λ (k : List ℕ). sealed (formOf a) k b) (same-key a s v w)
+
+  same-unseal : (t : List ℕ) → unseal (formOf a) other (pair w) t ≡ unseal (formOf a) s (pair v) t
+  unfolding unseal
+  same-unseal t = ap (λ (k : List ℕ). formOf a .shrink (opened k t)) (same-key a s v w)
+
+  same-fails : (t : List ℕ) → fails (formOf a) other (pair w) t ≡ fails (formOf a) s (pair v) t
+  unfolding fails
+  same-fails t = ap (λ (k : List ℕ). failed (formOf a) (opened k t)) (same-key a s v w)
+
+same-sealing : (a : Algorithm) (s : List ℕ) (v w : Version) → length s ≡ sealingSize a → (b : List ℕ)
+    → sealCall a b w (otherKey (sealingSize a) s v w) ≡ sealCall a b v s
+unfolding ta31Call ta51Call ta81Call ta91Call
+same-sealing Ta31 s v w hs b = rw (eq-eqb _ _ hs, same-seal Ta31 s v w)
+same-sealing Ta51 s v w hs b = rw (eq-eqb _ _ hs, same-seal Ta51 s v w)
+same-sealing Ta81 s v w hs b = rw (eq-eqb _ _ hs, same-seal Ta81 s v w)
+same-sealing Ta91 s v w hs b = rw (eq-eqb _ _ hs, same-seal Ta91 s v w)
+
+same-unsealing : (a : Algorithm) (s : List ℕ) (v w : Version) → length s ≡ sealingSize a → (t : List ℕ)
+    → unsealCall a t (otherKey (sealingSize a) s v w) w ≡ unsealCall a t s v
+unfolding ta32Call ta52Call ta82Call ta92Call
+same-unsealing Ta31 s v w hs t = rw (eq-eqb _ _ hs, same-unseal Ta31 s v w, same-fails Ta31 s v w)
+same-unsealing Ta51 s v w hs t = rw (eq-eqb _ _ hs, same-unseal Ta51 s v w, same-fails Ta51 s v w)
+same-unsealing Ta81 s v w hs t = rw (eq-eqb _ _ hs, same-unseal Ta81 s v w, same-fails Ta81 s v w)
+same-unsealing Ta91 s v w hs t = rw (eq-eqb _ _ hs, same-unseal Ta91 s v w, same-fails Ta91 s v w)
+
+-- ---- and it is another key
+
+-- x ⊕ (p ⊕ q) is x only if p and q are the same
+not-changed : (x p q : ℕ) → x ⊕ (p ⊕ q) ≡ x → p ≡ q
+not-changed x p q e =
+    let z : p ⊕ q ≡ 0 = sym (xor-cancel-l x (p ⊕ q)) ∙ ap (_⊕_ x) e ∙ xor-self x in
+    sym (xor-cancel-r p q) ∙ ap (λ (y : ℕ). y ⊕ q) z
+
+same-version : (a : Algorithm) (s : List ℕ) (v w : Version) → otherKey (sealingSize a) s v w ≡ s
+    → (v .0 / 2 ^ 8 % 256 ≡ w .0 / 2 ^ 8 % 256) × (v .0 / 2 ^ 0 % 256 ≡ w .0 / 2 ^ 0 % 256)
+same-version Ta31 s v w e = (not-changed (s ! 0) _ _ (ap (λ (l : List ℕ). l ! 0) e), not-changed (s ! 1) _ _ (ap (λ (l : List ℕ). l ! 1) e))
+same-version Ta51 s v w e = (not-changed (s ! 0) _ _ (ap (λ (l : List ℕ). l ! 0) e), not-changed (s ! 1) _ _ (ap (λ (l : List ℕ). l ! 1) e))
+same-version Ta81 s v w e = (not-changed (s ! 0) _ _ (ap (λ (l : List ℕ). l ! 0) e), not-changed (s ! 1) _ _ (ap (λ (l : List ℕ). l ! 1) e))
+same-version Ta91 s v w e = (not-changed (s ! 0) _ _ (ap (λ (l : List ℕ). l ! 0) e), not-changed (s ! 1) _ _ (ap (λ (l : List ℕ). l ! 1) e))
+
+pub key-and-version : KeyAndVersion
+key-and-version a s v w hs = record {
+  seals = same-sealing a s v w hs;
+  unseals = same-unsealing a s v w hs;
+  another = λ hv hw other e. let z = same-version a s v w e in other (omega (arith, z .0, z .1));
+}

@@ -1,0 +1,62 @@
+-- From two maps that are inverse to "exactly one" and "exactly so many".
+-- Assumes nothing.
+use mathlib.Core.List.{List}
+use mathlib.Core.Logic.{_↔_}
+use mathlib.Core.Path.{_≡_, sym, ap, _∙_, subst}
+use Prim.Native.Nat.{ℕ, _<_}
+use Rattle.standard.proofs.InverseLaws.{Inverse, is-image, of-one}
+use Rattle.claims.specs.Entries.{Only, Count}
+
+-- what has Q is the image of one thing alone that has P: of its own inverse image
+pub only-image : {A B : Type 0} {P : A → Type 0} {Q : B → Type 0} {f : A → B} {g : B → A} (m : Inverse P Q f g) (y : B)
+    → Q y ↔ Only (λ x. P x × (f x ≡ y)) (g y)
+only-image {g = g} m y = (
+  λ q. record { has = (m .from y q, m .forth y q); only = λ x h. of-one m x y (h .0) (h .1) },
+  λ o. is-image m y .1 (g y, o .has .0, o .has .1),
+)
+
+-- the same of properties that say the same
+pub only-same : {A : Type 0} {P P′ : A → Type 0} {x x′ : A} → ((y : A) → P y ↔ P′ y) → x ≡ x′ → Only P x ↔ Only P′ x′
+only-same {P = P} {P′ = P′} same e = (
+  λ o. record { has = subst P′ e (same _ .0 (o .has)); only = λ y h. o .only y (same y .1 h) ∙ e },
+  λ o. record { has = subst P (sym e) (same _ .1 (o .has)); only = λ y h. o .only y (same y .0 h) ∙ sym e },
+)
+
+-- one pair of maps behind another
+pub inverse-then : {A B C : Type 0} {P : A → Type 0} {Q : B → Type 0} {R : C → Type 0} {f : A → B} {g : B → A} {f′ : B → C} {g′ : C → B}
+    → Inverse P Q f g → Inverse Q R f′ g′ → Inverse P R (λ x. f′ (f x)) (λ z. g (g′ z))
+inverse-then {f = f} {g = g} {f′ = f′} {g′ = g′} m n = record {
+  to = λ x p. n .to (f x) (m .to x p);
+  from = λ z r. m .from (g′ z) (n .from z r);
+  back = λ x p. ap g (n .back (f x) (m .to x p)) ∙ m .back x p;
+  forth = λ z r. ap f′ (m .forth (g′ z) (n .from z r)) ∙ n .forth z r;
+}
+
+pub inverse-same : {A B : Type 0} {P P′ : A → Type 0} {Q Q′ : B → Type 0} {f : A → B} {g : B → A}
+    → ((x : A) → P x ↔ P′ x) → ((y : B) → Q y ↔ Q′ y) → Inverse P Q f g → Inverse P′ Q′ f g
+inverse-same {f = f} {g = g} p q m = record {
+  to = λ x h. q (f x) .0 (m .to x (p x .1 h));
+  from = λ y h. p (g y) .0 (m .from y (q y .1 h));
+  back = λ x h. m .back x (p x .1 h);
+  forth = λ y h. m .forth y (q y .1 h);
+}
+
+-- the same maps where one thing more is asked
+pub inverse-where : {A B : Type 0} {P : A → Type 0} {Q : B → Type 0} {f : A → B} {g : B → A} (R : A → Type 0) → Inverse P Q f g
+    → Inverse (λ x. P x × R x) (λ y. Q y × R (g y)) f g
+inverse-where {f = f} {g = g} R m = record {
+  to = λ x h. (m .to x (h .0), subst R (sym (m .back x (h .0))) (h .1));
+  from = λ y h. (m .from y (h .0), h .1);
+  back = λ x h. m .back x (h .0);
+  forth = λ y h. m .forth y (h .0);
+}
+
+pub counted : {n : ℕ} {P : List ℕ → Type 0} {nth : ℕ → List ℕ} {place : List ℕ → ℕ} → Inverse (λ i. i < n) P nth place → Count n P
+counted {nth = nth} {place = place} m =
+    record { nth = nth; place = place; has = m .to; below = m .from; back = m .back; forth = m .forth }
+
+-- as many have Q
+pub counted-then : {n : ℕ} {P Q : List ℕ → Type 0} {f g : List ℕ → List ℕ} → Count n P → Inverse P Q f g → Count n Q
+counted-then {n = n} {P = P} c m =
+    let i : Inverse (λ i. i < n) P (c .nth) (c .place) = record { to = c .has; from = c .below; back = c .back; forth = c .forth } in
+    counted (inverse-then i m)

@@ -1,0 +1,83 @@
+-- The terms in which the claims stand: exactly one, exactly so many, the body of an entry, a text that opens, and the single calls over
+-- the algorithm. Kind 1 is TA31's, kinds 2 and 5 are TA51's, kinds 3 and 6 are TA81's, and kind 4 is TA91's.
+-- Assumes nothing.
+use mathlib.Core.List.{List}
+use mathlib.Core.Path.{_≡_}
+use Prim.Native.Nat.{ℕ, _<_}
+use Rattle.standard.specs.Bytes.{_!_, part, table, Bytes}
+use Rattle.standard.specs.Seals.{formOf, body31, body51, body81, body91, number2, ta31Call, ta32Call, ta51Call, ta52Call, ta81Call, ta82Call, ta91Call, ta92Call}
+use Rattle.standard.specs.declared.Algorithm.{Algorithm}
+use Rattle.standard.specs.declared.Algorithm.the-variants.{Ta31, Ta51, Ta81, Ta91}
+use Rattle.standard.specs.declared.Bytes15.{Bytes15}
+use Rattle.standard.specs.declared.Version.{Version}
+
+-- ---- how many
+
+-- x has P, and nothing else has
+pub record Only {A : Type 0} (P : A → Type 0) (x : A) : Type 0 where
+  pub has : P x
+  pub only : (y : A) → P y → y ≡ x
+
+-- exactly one string has P
+abbrev pub ExactlyOne : (List ℕ → Type 0) → Type 0
+ExactlyOne P = (x : List ℕ) × Only P x
+
+-- exactly n strings have P: they stand one to one with the numbers below n. `nth` gives the string of a number, `place` takes it back
+pub record Count (n : ℕ) (P : List ℕ → Type 0) : Type 0 where
+  pub nth : ℕ → List ℕ
+  pub place : List ℕ → ℕ
+  pub has : (i : ℕ) → i < n → P (nth i)
+  pub below : (x : List ℕ) → P x → place x < n
+  pub back : (i : ℕ) → i < n → place (nth i) ≡ i
+  pub forth : (x : List ℕ) → P x → nth (place x) ≡ x
+
+-- ---- entries
+
+-- the body of an entry: 12 bytes to which neither refusal 4 nor refusal 5 applies
+pub record Legal (a : Algorithm) (b : List ℕ) : Type 0 where
+  pub bytes : Bytes 12 b
+  pub accepted : formOf a .fault b ≡ 0
+
+-- ---- the single calls, over the algorithm
+
+-- how many bytes the sealing key has: D's, or O's and G's
+abbrev pub sealingSize : Algorithm → ℕ
+sealingSize Ta31 = 10
+sealingSize Ta51 = 16
+sealingSize Ta81 = 16
+sealingSize Ta91 = 16
+
+-- sealing: the key, and the number where there is one, are taken out of the body
+abbrev pub sealCall : Algorithm → (b : List ℕ) → Version → (s : List ℕ) → Bytes15
+sealCall Ta31 b v s = ta31Call (part 0 10 b) v s
+sealCall Ta51 b v s = ta51Call (part 0 10 b) v s (record { 0 = b ! 11 })
+sealCall Ta81 b v s = ta81Call (part 0 10 b) v s (record { 0 = number2 b })
+sealCall Ta91 b v s = ta91Call (part 0 12 b) v s
+
+-- what an unsealing call answers, the key and the number put into a body
+pub record Unsealing : Type 0 where
+  pub refusal : ℕ
+  pub body : List ℕ
+  pub failed : ℕ
+
+abbrev pub unsealCall : Algorithm → (t s : List ℕ) → Version → Unsealing
+unsealCall Ta31 t s v =
+    record { refusal = ta32Call t s v .refusal; body = body31 (ta32Call t s v .key); failed = ta32Call t s v .«failed_checks» }
+unsealCall Ta51 t s v =
+    record { refusal = ta52Call t s v .refusal; body = body51 (ta52Call t s v .key) (ta52Call t s v .number); failed = ta52Call t s v .«failed_checks» }
+unsealCall Ta81 t s v =
+    record { refusal = ta82Call t s v .refusal; body = body81 (ta82Call t s v .key) (ta82Call t s v .number); failed = ta82Call t s v .«failed_checks» }
+unsealCall Ta91 t s v =
+    record { refusal = ta92Call t s v .refusal; body = body91 (ta92Call t s v .key); failed = ta92Call t s v .«failed_checks» }
+
+-- a text that opens: 15 bytes that the unsealing call takes, and it finds no check failed
+pub record Opens (a : Algorithm) (s : List ℕ) (v : Version) (t : List ℕ) : Type 0 where
+  pub bytes : Bytes 15 t
+  pub accepted : unsealCall a t s v .refusal ≡ 0
+  pub clear : unsealCall a t s v .failed ≡ 0
+
+-- ---- strings that examples share
+
+-- 00 01 02 .., n bytes
+abbrev pub upward : ℕ → List ℕ
+upward n = table n (λ i. i)

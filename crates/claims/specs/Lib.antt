@@ -1,0 +1,4 @@
+pub mod Entries
+pub mod Variants
+pub mod TrueClaims
+pub mod FalseClaims
