@@ -90,6 +90,20 @@ def looked_at(pages: list[Path], *widths: int) -> dict[tuple[str, int], list[str
     return {(page.name, width): wrong for (page, width), (_, wrong) in zip(cases, seen)}
 
 
+def pictured(page: Path, width: int) -> bytes:
+    """A page's picture at a width, as PNG; a window itself can't be as narrow as a phone."""
+    with tempfile.TemporaryDirectory() as folder:
+        frame, picture = Path(folder) / "frame.html", Path(folder) / "picture.png"
+        frame.write_text(
+            '<!DOCTYPE html><meta charset="utf-8"><body style="margin: 0"><iframe '
+            f'style="border: 0; width: {width}px; height: 1400px" '
+            f'srcdoc="{html.escape(page.read_text())}"></iframe>'
+        )
+        size = f"--window-size={max(width, 500)},1400"
+        _run(folder, size, f"--screenshot={picture}", frame.as_uri())
+        return picture.read_bytes()
+
+
 class _Words(HTMLParser):
     """A page's texts and headings: what stands in h1 to h3, titles and rows of heads."""
 

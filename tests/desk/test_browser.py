@@ -4,7 +4,7 @@ from __future__ import annotations
 
 from pathlib import Path
 
-from browser import MISSING, PHONE, POINTS, SCREEN, looked_at, printed
+from browser import MISSING, PHONE, POINTS, SCREEN, looked_at, pictured, printed
 from common import CLASS, Case
 from taa1.page import page, tag, text
 
@@ -33,6 +33,14 @@ class Looking(Case):
         """No text is cut off, broken or over other text."""
         seen = looked_at(self.pages(), SCREEN, PHONE)
         self.assertEqual({case: wrong for case, wrong in seen.items() if wrong}, {})
+
+    def test_pictures(self) -> None:
+        """Each page's picture has something on it."""
+        blank = self.file("blank.txt", "<!DOCTYPE html><title>blank</title>")
+        for width in (SCREEN, PHONE):
+            least = 2 * len(pictured(blank, width))
+            for path in self.pages():
+                self.assertGreater(len(pictured(path, width)), least, path.name)
 
     def test_paper(self) -> None:
         """On A4 and Letter nothing is lost, no sheet ends in a heading, and all is grey."""

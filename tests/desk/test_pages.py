@@ -18,7 +18,7 @@ CANDIDATES = ("ann", "ben", "cho", "dee", "eve", "fay")
 VOID = {"meta", "rect", "br"}
 ALLOWED = {
     "html", "head", "meta", "title", "style", "body", "h1", "h2", "p", "ul", "li", "a",
-    "header", "h3", "section", "span", "table", "thead", "tbody", "tr", "th", "td", "svg", "rect", "text",
+    "header", "h3", "section", "span", "div", "b", "i", "table", "thead", "tbody", "tr", "th", "td", "svg", "rect", "text",
 }  # fmt: skip
 
 
@@ -40,7 +40,7 @@ class Page(HTMLParser):
         self.count[tag] = self.count.get(tag, 0) + 1
         for name, value in attrs:
             assert name in ("class", "lang", "charset", "name", "content", "href", "viewbox", "width",
-                            "height", "role", "x", "y", "fill", "text-anchor", "data-head"), name
+                            "height", "role", "x", "y", "fill", "text-anchor", "data-head", "colspan"), name
             if name == "href":
                 self.links.append(value or "")
         if tag not in VOID:

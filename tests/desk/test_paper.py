@@ -17,6 +17,7 @@ from taa1.page import grouped
 from taa1.records import SEALED, split
 from taa1.texts import Heading, format_lines, format_sitting, sitting_bytes
 from taa1.working import Steps
+from test_pages import Page
 
 INPUTS = (CLASS / "sitting.txt", CLASS / "model.txt")
 OTHER = Sitting(*(bytes(range(at, at + 16 if at == 60 else at + 10)) for at in (60, 90, 120, 150, 180, 210)),
@@ -182,6 +183,7 @@ class Paper(Case):
         self.assertTrue(modes["paper.html"])
         for path in pages.iterdir():
             text = path.read_text()
+            self.assertEqual(Page(path).links, [])
             self.assertIn("<p>&lt;b&gt; &quot;Winter&quot; &amp; more, 3 December</p>", text)
             for word in ("<script", "src=", "http", "@import", "url(", "<b> "):
                 self.assertNotIn(word, text)

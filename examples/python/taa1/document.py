@@ -151,11 +151,12 @@ STYLE = """
   .steps td.hex { line-height: 1.25; white-space: normal; width: 43ch; }
   .steps td:nth-child(2) { white-space: nowrap; width: 14em; }
   .steps td:nth-child(3) { width: 5em; }
-  .rows th:nth-child(2) { width: 12em; }
+  .rows th:nth-child(2), .asked th:nth-child(2) { width: 12em; }
 }
 @media screen and (max-width: 40em) {
   .steps td:nth-child(-n+3), .rows td:nth-child(-n+2) { display: inline; padding-right: .8em; }
   .steps td::before, .rows td::before { content: none; }
+  .claims td:nth-child(n+4) { display: inline; padding-right: .8em; }
   .boxes i { width: 5.2mm; }
 }
 @media print { .new { break-before: page; margin-top: 0; } }

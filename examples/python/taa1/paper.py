@@ -107,12 +107,11 @@ def _given(sitting: Sitting) -> Pairs:
 
 
 def _entries(entries: list[Entry]) -> Table:
-    heads = ("entry", "kind", "seals", "identity (SSI)", "version", "number", "key")
+    heads = ("entry", "kind", "identity (SSI)", "version", "number", "key")
     rows = [
         (
             index,
-            entry.kind,
-            sealing(entry.kind),
+            f"{entry.kind}: {sealing(entry.kind)}",
             entry.identity.to_bytes(3, "big"),
             entry.version,
             entry.number,
@@ -137,7 +136,7 @@ def question_paper(of: Examination) -> Document:
     generations: list[Block] = []
     for title, values in asked(of.sitting.sides):
         rows = [(value.row, both(value.name), value.length, value.how) for value in values]
-        table = Table(("row", "value", "bytes", "made by"), rows)
+        table = Table(("row", "value", "bytes", "made by"), rows, "asked")
         generations.append(Together((Head(title, 3), table)))
     sealed = "; ".join(f"{name} ({count})" for name, count in RECORD)
     kind_rows = [
