@@ -13,11 +13,12 @@ import secrets
 import subprocess
 import sys
 from pathlib import Path
-from typing import Any, Callable, NoReturn, Optional, Sequence
+from typing import Any, Callable, NoReturn, Optional, Sequence, Union
 from urllib.parse import quote
 
 from . import draw, files, handins, names, pages, paper, texts
 from .calls import CALLS, Call, Parameter
+from .damage import Damage, damaged
 from .desk import Desk, RefusedFile, refusals
 from .document import Document, as_page, as_text
 from .engine import MOST_RECORDS, Refused
@@ -26,8 +27,9 @@ from .handins import Reader
 from .library import PACKAGE, LibraryError, repository
 from .mark import Marker, Sheet
 from .model import model_answer, model_text
+from .opened import OpenedMarker
 from .page import is_made_by
-from .records import KINDS, PLAIN, RING
+from .records import KINDS, PLAIN, RING, Entry, split
 from .sheets import reading, sheet_json, sheet_text, summary, summary_text
 from .slips import EXCHANGES, SLIPS
 
@@ -105,6 +107,17 @@ def _entries(text: str) -> int:
         f"{number} entries: with every kind in it a book has {len(KINDS)} to {MOST_RECORDS:,};"
         " --kinds draws others"
     )
+
+
+def _damages(text: str) -> list[Damage]:
+    """Entries to damage: I or I:CHECK, with commas between."""
+    wanted = []
+    for word in text.split(","):
+        entry, colon, check = word.strip().partition(":")
+        if not entry.isdecimal() or colon and not check.isdecimal():
+            raise argparse.ArgumentTypeError(f"{word!r} is no entry I nor I:CHECK, as in 3,5:4")
+        wanted.append(Damage(int(entry[:9]), int(check[:9]) if colon else None))
+    return wanted
 
 
 def _once(*names: str) -> None:
@@ -244,7 +257,8 @@ def run_seal(args: argparse.Namespace) -> int:
     ring = texts.read_ring(desk, args.ring)
     plain = texts.read_plain(desk, args.file, args.bytes)
     answer = desk.call("seal_book", ring.data, plain)
-    _emit(args, answer["out"])
+    entries = [Entry.of(record) for record in split(plain, PLAIN)]
+    _emit(args, damaged(desk, ring, entries, answer["out"], args.damage))
     _runs(args, answer["runs"])
     return ACCEPTED
 
@@ -427,14 +441,7 @@ def run_mark(args: argparse.Namespace) -> int:
     handed = handins.hand_ins(args.candidate, (args.sitting, args.book))
     _once(args.sitting, args.book, *handed.names)
     forms = _forms(args, handed.names)
-    desk = Desk()
-    sitting = texts.read_sitting(args.sitting)
-    plain = texts.read_plain(desk, args.book, args.bytes)
-    if not plain:
-        raise Problem(f"{place(args.book)}: no entry in it, so there is nothing to mark")
-    texts.make_ring(desk, sitting, place(args.sitting))
-    marker = Marker(desk, sitting, plain)
-    reader = Reader(marker)
+    reader = _reader(args)
     sheets = []
     for done, (name, form) in enumerate(zip(handed.names, forms)):
         files.progress(done, len(handed.names))
@@ -442,7 +449,7 @@ def run_mark(args: argparse.Namespace) -> int:
             sheet = reader.mark(name, files.read(name), form)
         except Problem as problem:
             reason = str(problem).removeprefix(f"{place(name)}: ")
-            sheet = marker.unreadable(place(name), reason)
+            sheet = reader.unreadable(place(name), reason)
         if sheet.problem and not args.dry:
             files.progress(0, 0)
             files.say(f"{sheet.name}: {sheet.problem}")
@@ -463,6 +470,21 @@ def run_mark(args: argparse.Namespace) -> int:
         end = summary_text(of) if len(sheets) > 1 else ""
         _emit_text(args, "".join(map(sheet_text, sheets)) + end)
     return REFUSED if of.unreadable else ACCEPTED
+
+
+def _reader(args: argparse.Namespace) -> Union[Reader, OpenedMarker]:
+    """What reads hand-ins and marks them: sealed books beside the model, or what was opened
+    beside the sealed book that was handed out."""
+    desk = Desk()
+    sitting = texts.read_sitting(args.sitting)
+    texts.make_ring(desk, sitting, place(args.sitting))
+    if args.opened:
+        sealed = files.read_bytes(args.book, args.bytes)
+        return OpenedMarker(desk, sitting, sealed, place(args.book))
+    plain = texts.read_plain(desk, args.book, args.bytes)
+    if not plain:
+        raise Problem(f"{place(args.book)}: no entry in it, so there is nothing to mark")
+    return Reader(Marker(desk, sitting, plain))
 
 
 def _forms(args: argparse.Namespace, names: list[str]) -> list[str]:
@@ -618,6 +640,15 @@ def parser() -> Parser:
     seal = command("seal", run_seal)
     seal.add_argument("ring", metavar="RING", help=ring_help)
     seal.add_argument("--runs", action="store_true", help="say how many cipher runs it took")
+    seal.add_argument(
+        "--damage",
+        type=_damages,
+        default=[],
+        metavar="I,..",
+        help="set the flag of these entries, for candidates to find: I flips a bit of the text, "
+        "I:CHECK makes one check fail alone (0 is the leftmost redundancy byte; 4 of kinds 2 and 5 "
+        "the three zero bits)",
+    )
     _common(seal, file="a plain book in lines, bytes or hexadecimal", hex="", bytes="")
 
     open_ = command("open", run_open)
@@ -678,6 +709,12 @@ def parser() -> Parser:
     _common(papers, bytes="")
     mark.add_argument(
         "candidate", nargs="+", metavar="CANDIDATE", help="a sealed book, or a folder of such"
+    )
+    mark.add_argument(
+        "--opened",
+        action="store_true",
+        help="BOOK is a sealed book that was handed out, and each CANDIDATE what was opened from "
+        "it: lines, where `entry I flag` says that a flag is set, or a plain book's bytes",
     )
     mark.add_argument("--html", metavar="FOLDER", help="write a page for each, and index.html")
     mark.add_argument("--clean", action="store_true", help="remove pages of earlier runs there")

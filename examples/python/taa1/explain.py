@@ -7,10 +7,11 @@ the rest of it, a key. So two slips at once are both found, each in parts of its
 from __future__ import annotations
 
 from collections import defaultdict
-from typing import Any, Iterable, Mapping, NamedTuple
+from typing import Any, Collection, Iterable, Mapping, NamedTuple
 
-from .slips import Slip
+from .slips import ANOTHERS, EXCHANGED, Slip
 
+IDENTITY, TEXT = "identity", "text"  # the parts of an entry that slips explain apart
 Part = tuple[int, str]  # an entry's place, and the part of it; of a key, KEY and its name
 KEY = -1
 
@@ -43,24 +44,30 @@ class Table:
         """Whether a slip gives this value for a part."""
         return (part, value) in self.given
 
-    def explain(self, wrong: Mapping[Part, Any], right: Iterable[Part]) -> list[Found]:
+    def explain(
+        self, wrong: Mapping[Part, Any], right: Iterable[Part], weak: Collection[Part] = ()
+    ) -> list[Found]:
         """The slips that give the wrong parts.
 
         The one that explains most comes first, then the one that explains most of the
         rest. Of slips that explain as many, the one is likelier that would have altered
-        fewer of the parts that are right, or that only other slips explain.
+        fewer of the parts that are right, or that only other slips explain. Parts that
+        very many slips give are weak: no slip is named for such parts alone.
         """
-        explains: dict[int, set[Part]] = defaultdict(set)
+        given: dict[int, set[Part]] = defaultdict(set)
         for part, value in wrong.items():
             for slip in self.given.get((part, value), ()):
-                explains[slip].add(part)
-        left = set().union(*explains.values())
+                given[slip].add(part)
+        explains = {slip: parts for slip, parts in given.items() if not parts <= set(weak)}
+        left: set[Part] = set().union(*explains.values())
         known = left.union(right)
         against = {slip: len(self.alters[slip] & known - parts) for slip, parts in explains.items()}
         found: list[Found] = []
         while left:
             best = min(explains, key=lambda s: (-len(explains[s] & left), against[s], s))
             parts = explains[best] & left
+            if parts <= set(weak):
+                break
             same = [
                 self.slips[slip]
                 for slip in explains
@@ -79,3 +86,24 @@ class Table:
                 kin.add(slip.kin)
                 made.append(slip)
         return tuple(made)
+
+
+def exchanges(
+    wrong: Mapping[tuple[int, str], Any], owners: Mapping[tuple[str, Any], list[int]]
+) -> tuple[list[Found], dict[int, dict[str, int]]]:
+    """Wrong fields, by their entries' places, that are another entry's of the model: what
+    they are called, and by place and field whose they are.
+
+    A version alone is too common to be anybody's unless two are exchanged.
+    """
+    found = {at: owners.get((at[1], value), []) for at, value in wrong.items()}
+    named: dict[str, set[Part]] = defaultdict(set)
+    whose: dict[int, dict[str, int]] = defaultdict(dict)
+    for (place, field), others in found.items():
+        mutual = [other for other in others if place in found.get((other, field), ())]
+        slip = EXCHANGED[field] if mutual else ANOTHERS.get(field)
+        if others and slip:
+            named[slip.name].add((place, IDENTITY if field == IDENTITY else TEXT))
+            whose[place][field] = (mutual or others)[0]
+    slips = {slip.name: slip for slip in (*EXCHANGED.values(), *ANOTHERS.values())}
+    return [Found(slips[name], frozenset(parts), ()) for name, parts in named.items()], whose

@@ -266,6 +266,10 @@ class Reader:
             problem += f"; --as {shlex.quote(name)}={reading.form} marks it all the same"
         return self.marker.unreadable(where, problem)
 
+    def unreadable(self, name: str, problem: str) -> Sheet:
+        """The sheet of a hand-in that can't be read."""
+        return self.marker.unreadable(name, problem)
+
     def common(self, book: bytes, size: int = SEALED) -> int:
         """How much is the model's: records, and kinds with versions or identities."""
         names, places = self.names.get(size, self.sealed_names), self.marker.places

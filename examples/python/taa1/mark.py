@@ -10,17 +10,16 @@ from __future__ import annotations
 
 from collections import Counter, defaultdict
 from dataclasses import dataclass
-from typing import NamedTuple, Optional
+from typing import NamedTuple, Optional, Union
 
 from .desk import Desk
 from .engine import Refused, Sitting
-from .explain import Found, Part, Table
+from .explain import IDENTITY, TEXT, Found, Part, Table, exchanges
 from .pairing import Pairs, out_of_order, pair
 from .records import KINDS, PLAIN, SEALED, Entry, Ring, split, whole
-from .slips import ANOTHERS, EXCHANGED, Slip, work
+from .slips import work
 
-IDENTITY, TEXT = "identity", "text"  # the parts of a record that slips explain apart
-PARTS = {IDENTITY: "identities", TEXT: "texts"}
+PARTS = {IDENTITY: "identities", TEXT: "texts", "flag": "flags"}
 FIELDS = {"identity": slice(1, 4), "version": slice(4, 6), "text": slice(6, SEALED)}
 
 
@@ -48,13 +47,25 @@ class Marked:
     """One record of a candidate's book."""
 
     index: int
-    state: str  # right, wrong, doubled or extra
+    state: str  # right, wrong, doubled or extra; of what was opened, also unsaid
     model: Optional[int]  # the model's entry that it is, repeats or is most like
     moved: bool = False  # it stands in another order than the model's
     opened: Optional[Opened] = None
     differences: tuple[Difference, ...] = ()
     slip: Optional[str] = None
-    borrowed: tuple[tuple[str, int], ...] = ()  # parts that are another entry's, and whose
+    borrowed: tuple[tuple[str, int], ...] = ()  # fields that are another entry's, and whose
+    note: str = ""  # what else is wrong
+
+
+class Flags(NamedTuple):
+    """Entries of a book that was opened: whose flag is set, and of these or others, which
+    flag the hand-in misses, invents, leaves out with the entry or, being bytes, can't say."""
+
+    set: tuple[int, ...]
+    missed: tuple[int, ...]
+    invented: tuple[int, ...]
+    left_out: tuple[int, ...]
+    unsaid: tuple[int, ...]
 
 
 class Explained(NamedTuple):
@@ -79,6 +90,9 @@ class Sheet(NamedTuple):
     left: int = 0  # bytes behind the last whole record
     slips: tuple[Explained, ...] = ()
     read_as: str = ""  # the hand-in's form, but for bytes as they are
+    again: int = 0  # further answers, about entries that have one or that there are none of
+    problems: tuple[str, ...] = ()  # of lines that can't be read
+    flags: Optional[Flags] = None  # of a book that was opened
 
     @property
     def right(self) -> int:
@@ -95,12 +109,12 @@ class Sheet(NamedTuple):
         """How many records there are beyond one for each entry of the model: those too
         many, or further attempts at the same entries."""
         attempts = sum(entry.state == "extra" for entry in self.entries)
-        return max(len(self.entries) - self.size, attempts)
+        return max(len(self.entries) - self.size, attempts, self.again)
 
     @property
     def perfect(self) -> bool:
         """Whether the book is the model, in whatever order."""
-        whole_book = not (self.problem or self.refused or self.missing or self.left)
+        whole_book = not (self.problem or self.refused or self.missing or self.left or self.again)
         return whole_book and all(entry.state == "right" for entry in self.entries)
 
 
@@ -128,6 +142,7 @@ class Marker:
         for place, (record, entry) in enumerate(zip(self.model, self.entries)):
             self.places[record].append(place)
             self.said[record[:6]].append(place)
+            self.fields["key", entry.key].append(place)
             for field, at in FIELDS.items():
                 self.fields[field, record[at]].append(place)
             for value in (record[1:4], record[6:], entry.key):
@@ -167,14 +182,14 @@ class Marker:
                 entries.append(Marked(index, "right", model, index in moved))
                 continue
             opened = self._open(record)
-            differences = () if model is None else _differences(opened, self.entries[model])
+            differ = () if model is None else differences(opened, self.entries[model])
             entries.append(
                 Marked(
                     index,
                     *_state(pairs, index),
                     index in moved,
                     opened,
-                    differences,
+                    differ,
                     "; ".join(named[index]) or None,
                     tuple(borrowed.get(index, {}).items()),
                 )
@@ -249,33 +264,29 @@ class Marker:
                     wrong[place, part] = value
         found = self.table.explain(wrong, right)
         rest = set(wrong).difference(*(each.parts for each in found))
-        exchanges, borrowed = self._exchanged({p: records[i] for p, i in at.items()}, rest)
-        slips = tuple(_explained(each, set(wrong), at) for each in [*found, *exchanges])
+        alone = {
+            (place, field): value
+            for place in {place for place, _ in rest}
+            for field, value in self._wrong_alone(records[at[place]], place).items()
+            if (place, IDENTITY if field == IDENTITY else TEXT) in rest
+        }
+        others, borrowed = exchanges(alone, self.fields)
+        slips = tuple(explained(each, set(wrong), at) for each in [*found, *others])
         return slips, {at[place]: fields for place, fields in borrowed.items()}
 
-    def _exchanged(
-        self, records: dict[int, bytes], rest: set[Part]
-    ) -> tuple[list[Found], dict[int, dict[str, int]]]:
-        """Fields that are another entry's, where no slip explains them and nothing else is
-        wrong in their part."""
-        owners: dict[tuple[int, str], list[int]] = {}
-        for place, record in records.items():
-            model = self.model[place]
-            for field, at in FIELDS.items():
-                part = IDENTITY if field == IDENTITY else TEXT
-                mended = record[: at.start] + model[at] + record[at.stop :]
-                if (place, part) in rest and parts_of(mended)[part] == self.parts[place][part]:
-                    owners[place, field] = self.fields.get((field, record[at]), [])
-        named: dict[str, tuple[Slip, set[Part]]] = {}
-        borrowed: dict[int, dict[str, int]] = defaultdict(dict)
-        for (place, field), others in owners.items():
-            mutual = [other for other in others if place in owners.get((other, field), ())]
-            slip = EXCHANGED[field] if mutual else ANOTHERS.get(field)
-            if others and slip:
-                part = IDENTITY if field == IDENTITY else TEXT
-                named.setdefault(slip.name, (slip, set()))[1].add((place, part))
-                borrowed[place][field] = (mutual or others)[0]
-        return [Found(slip, frozenset(parts), ()) for slip, parts in named.values()], borrowed
+    def _wrong_alone(self, record: bytes, place: int) -> dict[str, bytes]:
+        """The fields of a record that are wrong with nothing else wrong in their part."""
+        model, fields = self.model[place], {}
+        for field, at in FIELDS.items():
+            mended = record[: at.start] + model[at] + record[at.stop :]
+            part = IDENTITY if field == IDENTITY else TEXT
+            if mended != record and parts_of(mended)[part] == self.parts[place][part]:
+                fields[field] = record[at]
+        opened = self._open(record)
+        wrong = {d.field for d in differences(opened, self.entries[place])} - {IDENTITY}
+        if opened.key and wrong == {"key"}:
+            fields["key"] = opened.key
+        return fields
 
 
 def _state(pairs: Pairs, index: int) -> tuple[str, Optional[int]]:
@@ -287,12 +298,12 @@ def _state(pairs: Pairs, index: int) -> tuple[str, Optional[int]]:
     return "extra", pairs.attempts.get(index)
 
 
-def _explained(found: Found, wrong: set[Part], at: dict[int, int]) -> Explained:
+def explained(found: Found, wrong: set[Part], at: dict[int, int]) -> Explained:
     """A slip in the words of a sheet."""
     places = {place for place, _ in found.parts}
     kinds = {part for _, part in found.parts}
     all_of_them = all((p, part) in found.parts for p, part in wrong if p in places)
-    part = "" if all_of_them or len(kinds) > 1 else PARTS[kinds.pop()]
+    part = "" if all_of_them or len(kinds) > 1 else PARTS[min(kinds)]
     return Explained(
         found.slip.name,
         tuple(sorted(at[place] for place in places)),
@@ -302,16 +313,16 @@ def _explained(found: Found, wrong: set[Part], at: dict[int, int]) -> Explained:
     )
 
 
-def _differences(opened: Opened, entry: Entry) -> tuple[Difference, ...]:
-    """The fields of an opened record that are not the model's."""
+def differences(has: Union[Opened, Entry], entry: Entry) -> tuple[Difference, ...]:
+    """The fields of a record that are not the model's."""
     pairs = [
-        ("kind", opened.kind, entry.kind),
-        ("identity", f"{opened.identity:06x}", f"{entry.identity:06x}"),
-        ("version", opened.version, entry.version),
+        ("kind", has.kind, entry.kind),
+        ("identity", f"{has.identity:06x}", f"{entry.identity:06x}"),
+        ("version", has.version, entry.version),
     ]
-    if opened.key is not None:
-        pairs.append(("key", opened.key.hex(), entry.key.hex()))
-        pairs.append(("number", _dash(opened.number), _dash(entry.number)))
+    if has.key is not None:
+        pairs.append(("key", has.key.hex(), entry.key.hex()))
+        pairs.append(("number", _dash(has.number), _dash(entry.number)))
     return tuple(Difference(f, str(has), str(wants)) for f, has, wants in pairs if has != wants)
 
 

@@ -9,7 +9,7 @@ from .mark import Marked, Sheet
 from .model import entry_title, entry_values, sitting_values
 from .names import IN_SITTING, both
 from .page import Row, page, pairs, table, tag, text
-from .sheets import Summary, explanation, fault, others, verdict
+from .sheets import Summary, class_numbers, explanation, fault, others, verdict
 
 STYLE = """
 tr.right td { color: #333; }
@@ -130,10 +130,7 @@ def class_page(sheets: list[Sheet], of: Summary, links: list[str]) -> str:
         name = text("a", sheet.name, href=link)
         right, said = f"{sheet.right} of {sheet.size}", verdict(sheet).partition("; ")[2]
         rows.append((name, "-", verdict(sheet), named) if sheet.problem else (name, right, said, named))
-    numbers = (
-        f"{of.candidates} candidates: {of.perfect} all right, "
-        f"{of.unopened} do not open, {of.unreadable} not marked."
-    )
+    numbers = f"{of.candidates} candidates: {class_numbers(of)}."
     return page(
         "The class",
         tag("p", numbers),

@@ -2,9 +2,9 @@
 
 from __future__ import annotations
 
-from typing import Any, Iterable, NamedTuple
+from typing import Any, Iterable, NamedTuple, Optional, Sequence
 
-from .mark import Explained, Marked, Opened, Sheet
+from .mark import Explained, Flags, Marked, Sheet
 from .records import KINDS, SEALED
 
 MOST_VALUES = 12  # lines of what is wrong with one book's entries that have values
@@ -25,8 +25,25 @@ def verdict(sheet: Sheet) -> str:
     if sheet.refused:
         refused = sheet.refused
         opens = f"does not open: refused {refused.number} at {refused.index} ({refused.name})"
+    if sheet.flags:
+        opens = flags_said(sheet.flags)
     read_as = f"; read as {sheet.read_as}" if sheet.read_as else ""
     return f"{sheet.right} of {sheet.size} entries right; {opens}{read_as}"
+
+
+def flags_said(flags: Flags) -> str:
+    """What a hand-in says of the flags."""
+    said = [
+        f"{len(of)} flag{'s' * (len(of) != 1)} {what}"
+        for of, what in (
+            (flags.missed, "missed"),
+            (flags.invented, "invented"),
+            (flags.left_out, "left out"),
+            (flags.unsaid, "set, which bytes can't say (lines can: entry I flag)"),
+        )
+        if of
+    ]
+    return ", ".join(said) or ("every flag right" if flags.set else "no flag is set")
 
 
 def reading(sheet: Sheet) -> str:
@@ -59,9 +76,9 @@ def _entries(indexes: list[int]) -> str:
     return f"{'entry' if len(indexes) == 1 else 'entries'} {spans(indexes)}"
 
 
-def failed_checks(opened: Opened) -> str:
-    """Which checks of the redundancy fail; bytes are counted from the left."""
-    kind, failed = KINDS[opened.kind], list(opened.failed)
+def failed_checks(number: int, failed: Sequence[int]) -> str:
+    """Which checks of a kind's redundancy fail; bytes are counted from the left."""
+    kind = KINDS[number]
     if len(failed) == kind.checks:
         return f"all {kind.checks} checks fail"
     zero_bits = kind.number == 1 and failed[-1] == kind.checks - 1
@@ -78,15 +95,15 @@ def _like(entry: Marked, values: bool = True) -> tuple[Any, ...]:
     if entry.state == "doubled" or entry.state == "extra" and entry.model is not None:
         return entry.state, 0, (), (), "", False
     opened = entry.opened
-    failed = failed_checks(opened) if opened and opened.failed else ""
+    failed = failed_checks(opened.kind, opened.failed) if opened and opened.failed else ""
     no_kind = opened is not None and opened.kind not in KINDS
-    shift = 0 if entry.model is None else entry.model - entry.index
+    shift = 0 if entry.model is None or not values else entry.model - entry.index
     borrowed = tuple((field, owner - entry.index) for field, owner in entry.borrowed)
     said = tuple(
         f"{d.field} {d.has}, not {d.wants}" if values else f"another {d.field}"
         for d in entry.differences
     )
-    return entry.state, shift, said, borrowed, failed, no_kind
+    return entry.state, shift, (*said, *[entry.note] * bool(entry.note)), borrowed, failed, no_kind
 
 
 def fault(*entries: Marked, values: bool = True) -> str:
@@ -131,7 +148,7 @@ def faults(sheet: Sheet) -> list[str]:
     said = []
     for group in shown:
         models = [entry.model for entry in group if entry.model is not None]
-        away = group[0].state == "wrong" and models[0] != group[0].index
+        away = values and group[0].state == "wrong" and models[0] != group[0].index
         like = f" (the model's {spans(models)})" if away else ""
         what = fault(*group, values=values)
         said.append(f"{_entries([entry.index for entry in group])}{like}: {what}")
@@ -146,7 +163,8 @@ def too_many(sheet: Sheet) -> list[str]:
     if not sheet.extra:
         return []
     extra = f"{sheet.extra} extra record{'s' * (sheet.extra != 1)}"
-    return [f"{extra}: {len(sheet.entries)} records, where the model has {sheet.size} entries"]
+    records = len(sheet.entries) + sheet.again
+    return [f"{extra}: {records} records, where the model has {sheet.size} entries"]
 
 
 def others(sheet: Sheet) -> list[str]:
@@ -157,6 +175,7 @@ def others(sheet: Sheet) -> list[str]:
         said.append(f"in another order: {_entries(moved)}")
     if sheet.missing and not sheet.problem:
         said.append(f"missing: the model's {_entries(list(sheet.missing))}")
+    said += sheet.problems
     if sheet.left:
         more = f"{plural(sheet.left, 'more byte')} behind the last record"
         cut = f"the last record is cut short: {sheet.left} of {SEALED} bytes"
@@ -186,7 +205,7 @@ class Summary(NamedTuple):
     candidates: int
     perfect: int
     unreadable: int
-    unopened: int
+    unopened: Optional[int]  # None: they are opened books
     slips: tuple[tuple[str, int], ...]  # and how many candidates made each
     checks: tuple[tuple[int, int, int], ...]  # kind, check, entries that fail it
 
@@ -195,6 +214,7 @@ def summary(sheets: list[Sheet]) -> Summary:
     """The class in numbers."""
     slips: dict[str, int] = {}
     checks: dict[tuple[int, int], int] = {}
+    opened_books = any(sheet.flags for sheet in sheets)
     for sheet in sheets:
         for slip in sheet.slips:
             slips[slip.name] = slips.get(slip.name, 0) + 1
@@ -206,18 +226,21 @@ def summary(sheets: list[Sheet]) -> Summary:
         len(sheets),
         sum(sheet.perfect for sheet in sheets),
         sum(sheet.problem is not None for sheet in sheets),
-        sum(sheet.refused is not None for sheet in sheets),
+        None if opened_books else sum(sheet.refused is not None for sheet in sheets),
         tuple(sorted(slips.items(), key=lambda item: (-item[1], item[0]))),
         tuple((kind, check, count) for (kind, check), count in sorted(checks.items())),
     )
 
 
+def class_numbers(of: Summary) -> str:
+    """How many candidates there are, and how they did."""
+    unopened = "" if of.unopened is None else f"{of.unopened} do not open, "
+    return f"{of.perfect} all right, {unopened}{of.unreadable} not marked"
+
+
 def summary_text(of: Summary) -> str:
     """The class in lines of text."""
-    lines = [
-        f"candidates {of.candidates}: {of.perfect} all right, "
-        f"{of.unopened} do not open, {of.unreadable} not marked"
-    ]
+    lines = [f"candidates {of.candidates}: {class_numbers(of)}"]
     lines += [f"  slip: {name}: {count}" for name, count in of.slips]
     return "\n".join(lines) + "\n"
 
@@ -228,7 +251,7 @@ def sheet_json(sheet: Sheet) -> dict[str, Any]:
         "candidate": sheet.name,
         "problem": sheet.problem,
         "read_as": None if sheet.problem else sheet.read_as or "bytes",
-        "opens": sheet.problem is None and sheet.refused is None,
+        "opens": None if sheet.flags else sheet.problem is None and sheet.refused is None,
         "refusal": sheet.refused.number if sheet.refused else 0,
         "refused_at": sheet.refused.index if sheet.refused else None,
         "right": sheet.right,
@@ -236,6 +259,8 @@ def sheet_json(sheet: Sheet) -> dict[str, Any]:
         "extra": sheet.extra,
         "entries": [_entry_json(entry) for entry in sheet.entries],
         "missing": list(sheet.missing),
+        "flags": sheet.flags._asdict() if sheet.flags else None,
+        "lines_not_read": list(sheet.problems),
         "bytes_left": sheet.left,
         "slips": [
             {
@@ -260,5 +285,6 @@ def _entry_json(entry: Marked) -> dict[str, Any]:
         "failed_checks": list(entry.opened.failed) if entry.opened else [],
         "differences": [difference._asdict() for difference in entry.differences],
         "of_other_entries": dict(entry.borrowed),
+        "note": entry.note or None,
         "slip": entry.slip,
     }

@@ -23,6 +23,7 @@ from .working import (
     Keys,
     Opened,
     Steps,
+    Unsealed,
     groups,
     ring_of,
     summed,
@@ -154,6 +155,11 @@ def _d_and_zeros(steps: Steps, sitting: Sitting, ring: Ring) -> bytes:
     return ring.d + bytes(6)
 
 
+def _ta41(steps: Steps, sitting: Sitting, derive: Callable[[bytes, bytes], bytes]) -> bytes:
+    """O under a session key."""
+    return steps.ta41(derive(sitting.root, sitting.rs), sitting.rso)
+
+
 def _kind_under(kind: int, key: str) -> Slip:
     """A kind under another key of the ring."""
 
@@ -244,6 +250,8 @@ RING_SLIPS: tuple[Slip, ...] = (
     _ring("D and zeros for O", o=_d_and_zeros),
     _ring("zeros and D for O", o=lambda steps, s, r: bytes(6) + r.d),
     _ring("root for O", o=lambda steps, s, r: s.root),
+    _ring("TA41 under session key 1", o=lambda steps, s, r: _ta41(steps, s, steps.ta11)),
+    _ring("TA41 under session key 2", o=lambda steps, s, r: _ta41(steps, s, steps.ta21)),
     Slip("group key filled with zeros for its TB7 form", {"tb7": lambda _, key: key + bytes(4)}),
     Slip("zeros and group key for its TB7 form", {"tb7": lambda _, key: bytes(4) + key}),
     Slip("G as X16 of the group key, not TB7", {"tb7": lambda steps, key: steps.x16(key)}),
@@ -426,7 +434,11 @@ CORE_SLIPS: tuple[Slip, ...] = (
             "x16": lambda steps, data: _turned(Steps.x16(steps, data)),
         },
     ),
-    *(slip for name, alter in _EXP4.items() for slip in _limited(name, {"exp4": alter}, _TA31_OR_TA61)),
+    *(
+        slip
+        for name, alter in _EXP4.items()
+        for slip in _limited(name, {"exp4": alter}, _TA31_OR_TA61)
+    ),
     *(
         slip
         for name, altered in _BL1.items()
@@ -643,16 +655,110 @@ RECORD_SLIPS: tuple[Slip, ...] = (
     Slip("P's bytes in the other order", {"p": lambda steps, a: Steps.p(steps, a)[::-1]}),
 )
 
+
+# ---- unsealing
+
+
+def _put_back(place: int) -> Mapping[str, Alteration]:
+    return {"zero_back": lambda steps, text: text[:place] + b"\0" + text[place:]}
+
+
+def _bl2(
+    left: Callable[[bytes, bytes], bytes], right: Callable[[bytes, bytes, bytes], bytes]
+) -> Mapping[str, Alteration]:
+    """BL2 with another left block, of the left input and the right block decrypted; or with
+    another right output, of these and the left output."""
+
+    def run(steps: Steps, key: bytes, data: bytes) -> bytes:
+        back = steps.decrypt(key, data[8:])
+        output = steps.decrypt(key, left(data[:8], back))
+        return output + right(data[:8], back, output)[:7]
+
+    return {"bl2": run}
+
+
+def _mended(left: bytes, back: bytes) -> bytes:
+    return left[:7] + xor(left[7:], back[7:])
+
+
+def _unchecked(steps: Steps, *inputs: Any) -> int:
+    return 0
+
+
+def _failed_sums(steps: Steps, data: bytes, sizes: tuple[int, ...]) -> int:
+    cut = groups(data, [size + 1 for size in sizes])
+    return sum(1 << i for i, group in enumerate(cut) if summed(group[:-1]) != group[-1])
+
+
+def _number_last(steps: Steps, text: bytes, sealing_key: bytes, version: int) -> Unsealed:
+    data = steps.bl2(steps.long_key(sealing_key, version), steps.zero_back(text))
+    return Steps.ta52(steps, text, sealing_key, version)._replace(number=data[14] & 31)
+
+
+def _written(name: str, change: Callable[[Opened], Opened]) -> Slip:
+    """Another entry written down than was opened."""
+    return Slip(name, {"written": lambda steps, opened: change(opened)})
+
+
+OPENING_SLIPS: tuple[Slip, ...] = (
+    Slip("zero byte put back at the end, not at byte 8", _put_back(15)),
+    Slip("zero byte put back in front, not at byte 8", _put_back(0)),
+    Slip("zero byte put back at byte 7, not at byte 8", _put_back(8)),
+    Slip("three zero bits not checked", {"failed_bits": _unchecked}),
+    Slip(
+        "three zero bits not checked, and taken into the number",
+        {"failed_bits": _unchecked, "five_bits": lambda steps, number: number},
+    ),
+    Slip("redundancy not checked", {"failed": _unchecked, "failed_bits": _unchecked}),
+    Slip("redundancy checked as sums", {"failed": _failed_sums}),
+    Slip(
+        "first bytes for the key, redundancy left in",
+        {"shrunk": lambda steps, data, sizes: data[: sum(sizes)]},
+    ),
+    Slip("no chaining in BL2", _bl2(_mended, lambda left, back, output: back)),
+    Slip(
+        "BL2 chained with the left output",
+        _bl2(_mended, lambda left, back, output: xor(output, back)),
+    ),
+    Slip(
+        "left block's zero byte kept in BL2",
+        _bl2(lambda left, back: left, lambda left, back, output: xor(left, back)),
+    ),
+    Slip(
+        "left block ⊕ the whole right one in BL2",
+        _bl2(xor, lambda left, back, output: xor(left, back)),
+    ),
+    Slip("encryption for decryption in BL2", {"right_back": _encrypting, "left_back": _encrypting}),
+    Slip("BL1 for BL2", {"bl2": lambda steps, key, data: steps.bl1(key, data)[:15]}),
+    Slip("number from the last byte", {"ta52": _number_last}),
+    _written(
+        "bytes of the number exchanged",
+        lambda o: o._replace(number=exchanged(o.number)) if o.kind in (3, 6) and o.number else o,
+    ),
+    _written("bytes of the version exchanged", lambda o: o._replace(version=exchanged(o.version))),
+    _written("key reversed", lambda o: o._replace(key=o.key[::-1])),
+    _written("identity reversed", lambda o: o._replace(identity=_identity_bytes(o.identity))),
+    Slip("identity not decrypted", {"decrypted": lambda steps, strings, identity: identity}),
+    Slip("TA61 for its inverse", {"decrypted": Steps.encrypted}),
+    Slip("P for its inverse", {"p_inverse": lambda steps, b: steps.p(b)}),
+)
+# The steps of unsealing, and those that it shares with sealing.
+OPEN_STEPS = {"short_key", "long_key", "repeated", "core_key", "exp4", "sealing_key"}
+OPEN_STEPS |= {"strings", "shrunk_key", "bc"}
+OPEN_STEPS |= {step for slip in OPENING_SLIPS for step in slip.altered}
+
 SLIPS: tuple[Slip, ...] = (*RING_SLIPS, *CORE_SLIPS, *ENTRY_SLIPS, *RECORD_SLIPS)
 
-# What stands in another entry's record: no step, but found among the model's records.
+# Fields of another entry: no step, but found among the model's entries.
 EXCHANGED: dict[str, Slip] = {
     "identity": Slip("two entries' identities exchanged", {}),
-    "version": Slip("two entries' versions exchanged in their records", {}),
+    "version": Slip("two entries' versions exchanged", {}),
+    "key": Slip("two entries' keys exchanged", {}),
     "text": Slip("two entries' texts exchanged", {}),
 }
 ANOTHERS: dict[str, Slip] = {
     "identity": Slip("another entry's identity", {}),
+    "key": Slip("another entry's key", {}),
     "text": Slip("another entry's text", {}),
 }
 EXCHANGES = (*EXCHANGED.values(), *ANOTHERS.values())
@@ -664,6 +770,13 @@ class Worked(NamedTuple):
     slip: Slip
     keys: Keys
     records: dict[int, bytes]
+
+
+class WorkedOpened(NamedTuple):
+    """What a slip makes of sealed records: by their entries, what they open to."""
+
+    slip: Slip
+    opened: dict[int, Opened]
 
 
 def work(desk: Desk, sitting: Sitting, plain: bytes) -> Iterator[Worked]:
@@ -705,3 +818,25 @@ def _sealed(steps: Steps, ring: Ring, entries: list[Entry], model: list[bytes]) 
         except (ValueError, OverflowError):  # a number too wide for its byte or bytes
             records.append(right)
     return records
+
+
+def work_opened(desk: Desk, sitting: Sitting, sealed: list[bytes]) -> Iterator[WorkedOpened]:
+    """What sealed records open to under each slip, where that differs from what they do."""
+    right = Steps(desk)
+    ring = ring_of(right.keys(sitting))
+    truth = opened(right, ring, sealed)
+    for slip in (*SLIPS, *OPENING_SLIPS):
+        steps = Steps(desk, slip.altered)
+        under = ring_of(steps.keys(sitting))
+        if list(map(len, under)) != list(map(len, ring)):
+            continue
+        if under == ring and not OPEN_STEPS & set(slip.altered):
+            continue
+        made = opened(steps, under, sealed)
+        yield WorkedOpened(slip, {i: o for i, (o, t) in enumerate(zip(made, truth)) if o != t})
+
+
+def opened(steps: Steps, ring: Ring, sealed: list[bytes]) -> list[Opened]:
+    """What sealed records open to."""
+    strings = steps.k_strings(ring.c)
+    return [steps.opened(record, ring, strings) for record in sealed]

@@ -238,7 +238,7 @@ def _digits(word: str, length: int, what: str) -> bytes:
     return bytes.fromhex(word)
 
 
-def _entry(words: list[str]) -> Entry:
+def entry_of(words: list[str]) -> Entry:
     """The entry of a line's words behind the index. Raises ValueError."""
     if words[0::2] != list(_WORDS) or len(words) != 2 * len(_WORDS):
         raise ValueError("no line of the form [entry I] " + " .. ".join(_WORDS) + " ..")
@@ -289,7 +289,7 @@ def parse_lines(desk: Desk, text: str, where: str) -> bytes:
                 if index != len(records) - 1:
                     raise ValueError(f"entry {index}, where entry {len(records) - 1} stands")
                 words = words[2:] or [""]
-            record = _entry(words).data
+            record = entry_of(words).data
             desk.call("check_plain", record)
             records[-1] = record
         except Refused as refused:

@@ -1,0 +1,345 @@
+"""Marking what candidates opened from a sealed book that was handed out.
+
+A hand-in is lines, where `entry I flag` says that the flag of entry I is set, or a
+plain book's bytes, which can't say it. An entry is right if it is what the engine
+opens, or if its flag is set and the hand-in says so.
+"""
+
+from __future__ import annotations
+
+from collections import defaultdict
+from typing import Any, NamedTuple, Optional
+
+from . import texts
+from .desk import Desk, RefusedFile
+from .engine import MOST_RECORDS, Refusal, Refused, Sitting
+from .explain import IDENTITY, TEXT, Found, Part, Table, exchanges
+from .files import Problem, place
+from .handins import BYTES, FORMS, text_of
+from .mark import Difference, Flags, Marked, Sheet, differences, explained
+from .pairing import pair
+from .records import KINDS, PLAIN, SEALED, Entry, split
+from .sheets import failed_checks
+from .slips import EXCHANGED, opened, work_opened
+from .working import Opened, Steps, ring_of
+
+FLAG = "flag"  # the part of an entry that says whether its flag is set
+SET = {"set": True, "true": True, "1": True, "clear": False, "false": False, "0": False}
+
+
+class Answer(NamedTuple):
+    """What a hand-in says of an entry."""
+
+    flag: Optional[bool]  # None: it can't say it
+    entry: Optional[Entry] = None  # None: it says no more, or what can't be read
+    problem: str = ""  # why it can't be read
+
+
+class Read(NamedTuple):
+    """A hand-in as it was read."""
+
+    answers: dict[int, Answer]
+    extra: int = 0  # further answers, about entries that have one or that there are none of
+    problems: tuple[str, ...] = ()  # of lines about no entry
+    how: str = ""
+    in_bytes: bool = False  # which can't say a flag
+
+
+class OpenedMarker:
+    """Marks opened books beside what a sealed one opens to."""
+
+    def __init__(self, desk: Desk, sitting: Sitting, sealed: bytes, where: str) -> None:
+        """Opens the book, and under every slip, once.
+
+        A flag that is set is no refusal here; any other refusal of opening is.
+        """
+        self.sealed = sealed
+        records = split(sealed, SEALED)
+        self._check(records, where)
+        steps = Steps(desk)
+        self.truth = opened(steps, ring_of(steps.keys(sitting)), records)
+        self.table = Table()
+        for worked in work_opened(desk, sitting, records):
+            altered = {
+                (index, part): value
+                for index, made in worked.opened.items()
+                for part, value in _parts(made).items()
+                if value != _parts(self.truth[index])[part]
+            }
+            self.table.add(worked.slip, altered)
+
+    def _check(self, records: list[bytes], where: str) -> None:
+        bad = next((i for i, record in enumerate(records) if record[0] not in KINDS), 0)
+        for number, refused in (
+            (Refusal.BOOK_TOO_LONG, len(records) > MOST_RECORDS),
+            (Refusal.BOOK_NOT_WHOLE, len(self.sealed) % SEALED),
+            (Refusal.WRONG_KIND, records and records[bad][0] not in KINDS),
+        ):
+            if refused:
+                raise RefusedFile(where, Refused(number, bad if number == Refusal.WRONG_KIND else 0))
+        if not records:
+            raise Problem(f"{where}: no entry in it, so there is nothing to mark")
+
+    # ---- reading
+
+    def read(self, data: bytes, form: str = "") -> Read:
+        """What a hand-in says. Raises ValueError where it can't be read."""
+        if not data.strip():
+            raise ValueError("the file is empty")
+        text, code = text_of(data) or (None, "")
+        if form == BYTES or text is None:
+            return self._plain(data, "")
+        if not form and texts.is_lines(text.lower()):
+            return self._lines(text, f"lines{code}")
+        if form:
+            return self._plain(FORMS[form].read(text), FORMS[form].what)
+        readings = []
+        for each in FORMS.values():
+            try:
+                readings.append((each.read(text), each.what + code))
+            except (Problem, ValueError, SyntaxError):
+                pass
+        heads = {(opened.kind, opened.version) for opened in self.truth}
+        plain, how = max(
+            readings,
+            key=lambda reading: sum((e.kind, e.version) in heads for e in _entries(reading[0])),
+            default=(b"", ""),
+        )
+        if not plain:
+            raise ValueError("this looks like text that is neither lines of entries nor hexadecimal")
+        return self._plain(plain, how)
+
+    def _plain(self, data: bytes, how: str) -> Read:
+        """A plain book's bytes, whose records are paired with the entries."""
+        if data == self.sealed:
+            raise ValueError("this is the sealed book that was handed out, not an opened one")
+        if not data or len(data) % PLAIN:
+            raise ValueError(
+                f"this looks like no plain book: {len(data)} bytes, where a record has {PLAIN}"
+            )
+        records = split(data, PLAIN)
+        model = [_entry(opened).data for opened in self.truth]
+        signs: dict[bytes, list[int]] = defaultdict(list)
+        places: dict[bytes, list[int]] = defaultdict(list)
+        for index, record in enumerate(model):
+            places[record].append(index)
+            for part in (record[1:4], record[6:]):
+                signs[part].append(index)
+        pairs = pair(
+            records,
+            model,
+            places,
+            lambda r: {i: 1 for part in (r[1:4], r[6:]) for i in signs.get(part, ())},
+            lambda r: [],
+            lambda r, i: (r[0] == model[i][0]) + (r[4:6] == model[i][4:6]),
+        )
+        answers = {}
+        for index, at in pairs.entries.items():
+            known = records[index][0] in KINDS
+            entry = Entry.of(records[index]) if known else None
+            answers[at] = Answer(None, entry, "" if known else "there is no such kind")
+        return Read(answers, len(records) - len(answers), how=how, in_bytes=True)
+
+    def _lines(self, text: str, how: str) -> Read:
+        """Lines of entries and flags. One without an index is about the next entry."""
+        answers: dict[int, Answer] = {}
+        problems: list[str] = []
+        extra, last = 0, -1
+        for number, line in texts.lines_of(text):
+            words = line.lower().replace(":", " ").replace(",", " ").split()
+            if words[0] == "entries":
+                continue
+            index = last + 1
+            if words[0] == "entry":
+                if not (words[1:] and words[1].isdecimal() and len(words[1]) < 10):
+                    problems.append(f"line {number}: no number behind entry")
+                    continue
+                index, words = int(words[1]), words[2:]
+            last = index
+            if index in answers:
+                extra += 1
+            else:
+                answers[index] = _answer(words, number)
+        if self._counted_from_1(answers):
+            answers = {index - 1: answer for index, answer in answers.items()}
+            how += ", whose entries are counted from 1"
+        beyond = [index for index in answers if index >= len(self.truth)]
+        for index in beyond:
+            del answers[index]
+        return Read(answers, extra + len(beyond), tuple(problems), how)
+
+    def _counted_from_1(self, answers: dict[int, Answer]) -> bool:
+        """Whether every line is about the entry before the one that it names."""
+        if 0 in answers or max(answers, default=0) != len(self.truth):
+            return False
+        return self._right(answers, 1) > self._right(answers, 0)
+
+    def _right(self, answers: dict[int, Answer], start: int) -> int:
+        """How many answers are right if the entries are counted from here."""
+        at = ((index - start, answer) for index, answer in answers.items())
+        return sum(i < len(self.truth) and self._state(i, answer) == "right" for i, answer in at)
+
+    # ---- marking
+
+    def mark(self, name: str, data: bytes, form: str = "") -> Sheet:
+        """The mark sheet of a hand-in."""
+        where = place(name)
+        try:
+            read = self.read(data, form)
+        except (Problem, ValueError, SyntaxError) as error:
+            return self.unreadable(where, str(error).lstrip(", :"))
+        wrong: dict[Part, Any] = {}
+        right: list[Part] = []
+        for index, answer in read.answers.items():
+            truth, said = _parts(self.truth[index]), _said(answer)
+            state = self._state(index, answer)
+            right += [(index, p) for p in said if state == "right" or said[p] == truth[p]]
+            if state == "wrong":
+                wrong.update({(index, p): v for p, v in said.items() if v != truth[p]})
+        flags = self._flags(read)
+        invented = {part for part, value in wrong.items() if part[1] == FLAG and value}
+        found = self.table.explain(wrong, right, invented)
+        others, borrowed = self._exchanged(
+            read.answers, set(wrong).difference(*(each.parts for each in found))
+        )
+        at = {index: index for index in range(len(self.truth))}
+        slips = tuple(explained(each, set(wrong), at) for each in [*found, *others])
+        named: dict[int, list[str]] = defaultdict(list)
+        for slip in slips:
+            for index in slip.entries:
+                named[index].append(slip.name)
+        return Sheet(
+            where,
+            None,
+            None,
+            len(self.truth),
+            tuple(
+                self._marked(index, answer, named[index], borrowed.get(index, {}))
+                for index, answer in sorted(read.answers.items())
+            ),
+            tuple(i for i in at if i not in read.answers and i not in flags.unsaid),
+            slips=slips,
+            read_as=read.how,
+            again=read.extra,
+            problems=read.problems,
+            flags=flags,
+        )
+
+    def _exchanged(
+        self, answers: dict[int, Answer], rest: set[Part]
+    ) -> tuple[list[Found], dict[int, dict[str, int]]]:
+        """Fields that are another entry's, where no slip explains them and nothing else is
+        wrong beside them."""
+        alone: dict[tuple[int, str], Any] = {}
+        for index in {index for index, _ in rest}:
+            entry = answers[index].entry
+            wrong = differences(entry, _entry(self.truth[index])) if entry else ()
+            if entry and len(wrong) == 1 and wrong[0].field in EXCHANGED:
+                alone[index, wrong[0].field] = getattr(entry, wrong[0].field)
+        owners: dict[tuple[str, Any], list[int]] = defaultdict(list)
+        for index, truth in enumerate(self.truth):
+            for field in EXCHANGED.keys() - {TEXT}:
+                owners[field, getattr(truth, field)].append(index)
+        return exchanges(alone, owners)
+
+    def unreadable(self, name: str, problem: str) -> Sheet:
+        """The sheet of a hand-in that can't be read."""
+        missing = tuple(range(len(self.truth)))
+        return Sheet(name, problem, None, len(missing), missing=missing, flags=Flags((), (), (), (), ()))
+
+    def _state(self, index: int, answer: Answer) -> str:
+        """Right, wrong, or unsaid: a flag that bytes can't say."""
+        truth = self.truth[index]
+        if truth.failed:
+            return {True: "right", False: "wrong", None: "unsaid"}[answer.flag]
+        return "right" if not answer.flag and answer.entry == _entry(truth) else "wrong"
+
+    def _flags(self, read: Read) -> Flags:
+        """Flags that are set, missed, invented, left out, and that the hand-in can't say."""
+        truth = [index for index, opened in enumerate(self.truth) if opened.failed]
+        said = {index: answer.flag for index, answer in read.answers.items()}
+        return Flags(
+            tuple(truth),
+            tuple(index for index in truth if said.get(index) is False),
+            tuple(index for index, flag in sorted(said.items()) if flag and index not in truth),
+            tuple(index for index in truth if not read.in_bytes and index not in said),
+            tuple(index for index in truth if read.in_bytes),
+        )
+
+    def _marked(
+        self, index: int, answer: Answer, slips: list[str], borrowed: dict[str, int]
+    ) -> Marked:
+        truth, state = self.truth[index], self._state(index, answer)
+        note, differ = "", ()  # type: tuple[str, tuple[Difference, ...]]
+        if answer.problem and state == "wrong":
+            note = answer.problem
+        elif truth.failed and state == "wrong":
+            checks = failed_checks(truth.kind, _bits(truth.failed))
+            note = f"flag missed: {checks}"
+        elif state == "unsaid":
+            note = "the flag is set, which bytes can't say"
+        elif answer.flag and state == "wrong":
+            note = "flag invented"
+        elif answer.entry and state == "wrong":
+            differ = differences(answer.entry, _entry(truth))
+        return Marked(
+            index,
+            state,
+            index,
+            differences=differ,
+            slip="; ".join(slips) or None,
+            borrowed=tuple(borrowed.items()),
+            note=note,
+        )
+
+
+def _answer(words: list[str], line: int) -> Answer:
+    """What a line says of an entry, in its words behind the index: the flag, set unless it
+    is said to be clear, the entry's fields, or both."""
+    before, flag, behind = _partition(words)
+    if flag and behind and behind[0] in SET:
+        flag, behind = SET[behind[0]], behind[1:]
+    if flag and not before and not behind:
+        return Answer(True)
+    try:
+        return Answer(flag, texts.entry_of([*before, *behind]))
+    except (ValueError, IndexError) as error:
+        return Answer(flag, None, f"line {line}: {error}")
+
+
+def _partition(words: list[str]) -> tuple[list[str], bool, list[str]]:
+    """The words before and behind the flag's."""
+    if FLAG not in words:
+        return words, False, []
+    at = words.index(FLAG)
+    return words[:at], True, words[at + 1 :]
+
+
+def _entries(plain: bytes) -> list[Entry]:
+    """The entries of plain records that have a kind."""
+    return [Entry.of(record) for record in split(plain, PLAIN) if record[0] in KINDS]
+
+
+def _entry(opened: Opened) -> Entry:
+    return Entry(*opened[:5])
+
+
+def _bits(failed: int) -> tuple[int, ...]:
+    return tuple(bit for bit in range(failed.bit_length()) if failed >> bit & 1)
+
+
+def _parts(opened: Opened) -> dict[str, Any]:
+    """The parts of an opened entry that slips explain apart."""
+    text = (opened.kind, opened.version, opened.key, opened.number)
+    return {IDENTITY: opened.identity, TEXT: text, FLAG: bool(opened.failed)}
+
+
+def _said(answer: Answer) -> dict[str, Any]:
+    """Those of them that an answer says."""
+    said: dict[str, Any] = {}
+    if answer.entry:
+        said = _parts(Opened(*answer.entry, 0))
+    said[FLAG] = answer.flag
+    if answer.flag is None:
+        del said[FLAG]
+    return said

@@ -1,0 +1,178 @@
+"""What candidates opened: damaged books, lines and flags, and the command."""
+
+from __future__ import annotations
+
+import json
+import unittest
+
+from common import CLASS, DESK, ENTRIES, LINES, PLAIN_BOOK, RING, SITTING, Case, seal, taa1
+from taa1.damage import Damage, damaged
+from taa1.files import Problem
+from taa1.mark import Sheet
+from taa1.opened import OpenedMarker
+from taa1.records import KINDS, SEALED, split
+from taa1.sheets import sheet_text
+from taa1.slips import SLIPS, opened
+from taa1.working import Steps
+
+SEALED_BOOK = seal()
+DAMAGED = damaged(DESK, RING, ENTRIES, SEALED_BOOK, [Damage(2, 4), Damage(6)])
+MARKER = OpenedMarker(DESK, SITTING, DAMAGED, "handout")
+TRUE = [line for line in LINES.splitlines() if line.startswith("entry ")]
+TRUE[2], TRUE[6] = "entry 2 flag", "entry 6 flag"
+
+
+def mark(*lines: str) -> Sheet:
+    return MARKER.mark("hand-in", "\n".join(lines).encode())
+
+
+def but(index: int, line: str) -> Sheet:
+    """The right lines, but for one."""
+    return mark(*TRUE[:index], line, *TRUE[index + 1 :])
+
+
+class Damages(unittest.TestCase):
+    """seal --damage: the flag is set, and by the check that is wanted."""
+
+    def test_each_check(self) -> None:
+        for index, entry in enumerate(ENTRIES):
+            kind = KINDS[entry.kind]
+            for check in (None, *range(kind.checks)):
+                book = damaged(DESK, RING, ENTRIES, SEALED_BOOK, [Damage(index, check)])
+                before, after = split(SEALED_BOOK, SEALED), split(book, SEALED)
+                self.assertEqual([i for i in range(12) if before[i] != after[i]], [index])
+                self.assertEqual(before[index][:6], after[index][:6])
+                failed = DESK.call(
+                    kind.unseal, after[index][6:], getattr(RING, kind.sealing_key), entry.version
+                )["failed_checks"]
+                self.assertEqual(failed, failed if check is None else 1 << check)
+                self.assertNotEqual(failed, 0)
+
+    def test_wrong(self) -> None:
+        for wanted, said in (
+            (Damage(12), "damage: entry 12, where the book has 0 to 11"),
+            (Damage(0, 5), "damage: check 5 of entry 0, whose kind has 0 to 4"),
+            (Damage(4, 3), "damage: check 3 of entry 4, whose kind has 0 to 2"),
+        ):
+            with self.assertRaisesRegex(Problem, said):
+                damaged(DESK, RING, ENTRIES, SEALED_BOOK, [wanted])
+
+
+class Lines(unittest.TestCase):
+    """How lines are read and marked."""
+
+    def test_right(self) -> None:
+        sheet = mark(*TRUE)
+        self.assertTrue(sheet.perfect)
+        self.assertEqual(sheet_text(sheet), "hand-in: 12 of 12 entries right; every flag right; read as lines\n")
+        self.assertTrue(mark(*TRUE[::-1]).perfect)
+
+    def test_flags(self) -> None:
+        """A flag may be called set or clear, and have the fields behind it."""
+        fields = TRUE[3].partition(" kind ")[2]
+        for line in ("entry 2 flag set", "entry 2: flag true", "ENTRY 2 FLAG 1", f"{TRUE[2]} kind {fields}"):
+            self.assertTrue(but(2, line).perfect, line)
+        self.assertTrue(but(3, f"{TRUE[3]} flag clear").perfect)
+        sheet = but(3, "entry 3 flag")
+        assert sheet.flags is not None
+        self.assertEqual((sheet.right, sheet.flags.invented), (11, (3,)))
+        self.assertIn("  entry 3: flag invented\n", sheet_text(sheet))
+
+    def test_fields_behind_a_flag(self) -> None:
+        """Flags alone show no slip; the bytes behind them do."""
+        slip = next(slip for slip in SLIPS if slip.name == "RSO reversed")
+        steps = Steps(DESK, slip.altered)
+        keys = steps.keys(SITTING)
+        ring = RING._replace(o=keys["O"] or b"")
+        made = opened(steps, ring, split(DAMAGED, SEALED))
+        alone = [f"entry {i} flag" if o.failed else TRUE[i] for i, o in enumerate(made)]
+        self.assertEqual(mark(*alone).slips, ())
+        behind = [
+            f"entry {i} flag kind {o.kind} identity {o.identity:06x} version {o.version} "
+            f"key {o.key.hex()} number {'-' if o.number is None else o.number}"
+            for i, o in enumerate(made)
+            if o.failed
+        ]
+        sheet = mark(*behind, *(line for line in alone if "flag" not in line))
+        self.assertEqual([(s.name, s.entries) for s in sheet.slips], [("RSO reversed", (3, 4, 5, 7))])
+
+    def test_further_lines(self) -> None:
+        """A second line about an entry is extra, and so is one about no entry."""
+        sheet = mark(*TRUE, TRUE[0], "entry 12 flag")
+        self.assertEqual((sheet.right, sheet.extra, sheet.perfect), (12, 2, False))
+        first = sheet_text(sheet).splitlines()[1]
+        self.assertEqual(first, "  2 extra records: 14 records, where the model has 12 entries")
+
+    def test_bad_lines(self) -> None:
+        """A line that can't be read costs its own entry alone."""
+        sheet = but(4, "entry 4 kind 3 identity 00c001 version 256 key 31 number 4660")
+        self.assertEqual(sheet.right, 11)
+        self.assertIn("  entry 4: line 5: key has 2 hexadecimal digits, not 20\n", sheet_text(sheet))
+        sheet = but(4, "entry four flag")
+        self.assertEqual((sheet.right, sheet.missing), (11, (4,)))
+        self.assertIn("  line 5: no number behind entry\n", sheet_text(sheet))
+
+    def test_no_index(self) -> None:
+        """A line without entry I is about the next entry."""
+        lines = [line.partition(" kind ")[2] for line in TRUE]
+        made = [f"kind {line}" if line else TRUE[index] for index, line in enumerate(lines)]
+        self.assertTrue(mark(*made).perfect)
+
+    def test_no_book(self) -> None:
+        for data, said in (
+            (b"\n", "the file is empty"),
+            (b"\0" * 17, "this looks like no plain book: 17 bytes, where a record has 18"),
+            (b"nothing", "this looks like text that is neither lines of entries nor hexadecimal"),
+        ):
+            sheet = MARKER.mark("hand-in", data)
+            self.assertEqual((sheet.problem, sheet.right, len(sheet.missing)), (said, 0, 12))
+
+
+class Command(Case):
+    """taa1 mark --opened, and seal --damage."""
+
+    def test_command(self) -> None:
+        handout, lines = self.folder / "handout.book", self.file("ann.opened", "\n".join(TRUE))
+        plain = self.file("ben.opened", PLAIN_BOOK)
+        sitting, model = CLASS / "sitting.txt", CLASS / "model.txt"
+        self.accepted("seal", sitting, model, "--damage", "2:4,6", "-o", handout)
+        self.assertEqual(handout.read_bytes(), DAMAGED)
+        done = self.accepted("mark", "--opened", sitting, handout, lines, plain)
+        self.assertEqual(
+            done.decode(),
+            f"{lines}: 12 of 12 entries right; every flag right; read as lines\n"
+            f"{plain}: 10 of 12 entries right; 2 flags set, which bytes can't say "
+            "(lines can: entry I flag)\n"
+            "  entries 2 and 6: the flag is set, which bytes can't say\n"
+            "candidates 2: 1 all right, 0 not marked\n",
+        )
+        said = json.loads(self.accepted("mark", "--opened", sitting, handout, plain, "--json"))
+        (sheet,) = said["sheets"]
+        self.assertEqual((sheet["right"], sheet["opens"]), (10, None))
+        self.assertEqual(sheet["flags"]["unsaid"], [2, 6])
+        self.assertEqual([e["state"] for e in sheet["entries"]].count("unsaid"), 2)
+        pages = self.folder / "pages"
+        self.accepted("mark", "--opened", sitting, handout, lines, plain, "--html", pages)
+        self.assertIn("1 all right, 0 not marked.", (pages / "index.html").read_text())
+
+    def test_refused(self) -> None:
+        """A handed-out book that can't be opened entry by entry; and wrong uses."""
+        sitting, lines = CLASS / "sitting.txt", self.file("ann.opened", "\n".join(TRUE))
+        kind = self.file("kind.book", SEALED_BOOK[:42] + b"\7" + SEALED_BOOK[43:])
+        self.fails(1, f"{kind}: refused 3 at 2 (kind not 1 to 6)", "mark", "--opened", sitting, kind, lines)
+        cut = self.file("cut.book", SEALED_BOOK[:-1])
+        self.fails(
+            1,
+            f"{cut}: refused 2 at 0 (book not a whole number of records)",
+            *("mark", "--opened", sitting, cut, lines),
+        )
+        done = taa1("seal", sitting, CLASS / "model.txt", "--damage", "12")
+        said = "taa1: damage: entry 12, where the book has 0 to 11\n"
+        self.assertEqual((done.status, done.out, done.error), (2, b"", said))
+        done = taa1("seal", sitting, CLASS / "model.txt", "--damage", "one")
+        self.assertEqual((done.status, done.out), (2, b""))
+        self.assertIn("'one' is no entry I nor I:CHECK, as in 3,5:4", done.error)
+
+
+if __name__ == "__main__":
+    unittest.main()
