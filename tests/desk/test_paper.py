@@ -81,8 +81,8 @@ class Paper(Case):
         said = as_text(paper.question_paper(examined(SITTING)))
         for value in SITTING[:7]:
             self.assertIn(f"  {grouped(value)}\n", said)
-        self.assertIn("9009, which chooses B15 B12 B3 B0\n", said)
-        self.assertIn("6db6, which chooses B14 B13 B11 B10 B8 B7 B5 B4 B2 B1\n", said)
+        self.assertIn("9009: B15 B12 B3 B0\n", said)
+        self.assertIn("6db6: B14 B13 B11 B10 B8 B7 B5 B4 B2 B1\n", said)
         for entry in ENTRIES:
             self.assertRegex(said, rf"{entry.identity:06x} +{entry.version} +(-|{entry.number}) +{grouped(entry.key)}\n")
         for name in ("session key 1", "session key 2", "response 1", "key 2", "D", "O", "G"):

@@ -33,8 +33,8 @@ th:last-child, td:last-child { padding-right: 0; }
 th.title { border: 0; padding-top: .8em; }
 th.number, td.number { text-align: right; font-variant-numeric: tabular-nums; width: 1%; }
 th.number:not(:last-child), td.number:not(:last-child) { padding-right: 1.2em; }
-.hex { font-family: "Liberation Mono", "DejaVu Sans Mono", Consolas, monospace; font-size: .9em;
-  line-height: 1.55; }
+.hex, .code { font-family: "Liberation Mono", "DejaVu Sans Mono", Consolas, monospace;
+  font-size: .9em; line-height: 1.55; }
 td.hex, .keys td:first-child { white-space: nowrap; }
 .pairs th { border-bottom: 1px solid #999; font-weight: normal; white-space: nowrap; width: 1%; }
 section { break-inside: avoid; }
@@ -68,6 +68,10 @@ FOOT = """
 
 class Html(str):
     """Text that is HTML already."""
+
+
+class Code(str):
+    """Text with bytes in it, in their font."""
 
 
 class Row(NamedTuple):
@@ -109,7 +113,8 @@ def _cell(value: Any, head: str, number: bool) -> Html:
     if isinstance(value, (bytes, tuple)):
         return text("td", grouped(value), class_="hex", data_head=head)
     said = value if isinstance(value, Html) else escape("-" if value is None else str(value))
-    return tag("td", said, class_="number" if number else "", data_head=head)
+    class_ = "code" if isinstance(value, Code) else "number" if number else ""
+    return tag("td", said, class_=class_, data_head=head)
 
 
 def numbers(rows: Sequence[Sequence[Any]], count: int) -> list[bool]:
@@ -150,9 +155,8 @@ def pairs(rows: Iterable[tuple[str, Any]], class_: str = "") -> Html:
 
 def _in_css(said: str) -> str:
     """Text for a string of the style: all but letters and digits by their numbers."""
-    return "".join(
-        letter if letter.isascii() and letter.isalnum() else f"\\{ord(letter):x} " for letter in said
-    )
+    safe = (letter.isascii() and letter.isalnum() for letter in said)
+    return "".join(a if plain else f"\\{ord(a):x} " for a, plain in zip(said, safe))
 
 
 def _made_by(command: str) -> str:

@@ -14,11 +14,11 @@ from .engine import Sitting
 from .files import Problem
 from .model import STEPS, model_answer, sitting_values
 from .names import IN_SITTING, KIND_NAMES, both, sealing
-from .page import Row
-from .records import KINDS, PLAIN, Entry, Ring, split
+from .page import Code, Row
+from .records import KINDS, PLAIN, Entry, split
 from .texts import Heading
 from .working import STEPS as WORKED
-from .working import Step, Steps
+from .working import Step, Steps, ring_of
 
 LENGTHS = {"session key": 16, "response": 4, "key": 10, "D": 10, "O": 16, "G": 16}
 GENERATIONS = (
@@ -34,7 +34,8 @@ ARGUMENT_LINES = 24
 
 
 class Asked(NamedTuple):
-    """A value of the first two generations: its row of the form, name, bytes, and how it is made."""
+    """A value of the first two generations: its row of the form, its name, how many bytes it
+    has, and how it is made."""
 
     row: int
     name: str
@@ -54,13 +55,15 @@ class Examination(NamedTuple):
     records: list[list[Step]]  # and that of each entry
 
 
-def examination(desk: Desk, sitting: Sitting, heading: Heading, plain: bytes, where: str) -> Examination:
+def examination(
+    desk: Desk, sitting: Sitting, heading: Heading, plain: bytes, where: str
+) -> Examination:
     """Works a sitting, by the engine's calls and step by step; both must agree."""
     model = model_answer(desk, sitting, plain, where)
     entries = [Entry.of(record) for record in split(plain, PLAIN)]
     steps = Steps(desk, trace=True)
     made = steps.keys(sitting)
-    ring = Ring(*(made[name] or b"" for name in ("D", "O", "C", "G")))
+    ring = ring_of(made)
     keys, steps.trace = steps.trace, []
     strings = steps.k_strings(ring.c)
     of_strings, steps.trace = steps.trace, []
@@ -101,7 +104,7 @@ def _given(sitting: Sitting) -> Pairs:
     rows: list[tuple[str, Any]] = []
     for name, value in sitting_values(sitting._asdict()):
         if name.endswith("mask"):
-            value = f"{value.hex()}, which chooses {chosen(getattr(sitting, name))}"
+            value = Code(f"{value.hex()}: {chosen(getattr(sitting, name))}")
         rows.append((both(IN_SITTING[name]), value))
     return Pairs(rows)
 
@@ -165,8 +168,8 @@ def question_paper(of: Examination) -> Document:
         of.heading.line,
         [
             Words(
-                "Bytes are in hexadecimal, the leftmost first; the one at the right end of a string "
-                "is B0. Versions and numbers are decimal, two bytes with the high one first. "
+                "Bytes are in hexadecimal, the leftmost first; the one at the right end of a "
+                "string is B0. Versions and numbers are decimal, two bytes with the high one first. "
                 "Write the answers on the form, and the argument behind them."
             ),
             Head("What is given"),
@@ -199,7 +202,8 @@ def answer_form(of: Examination) -> Document:
     ]
     for title, values in asked(of.sitting.sides):
         rows = [(value.row, both(value.name), Boxes(value.length)) for value in values]
-        blocks.append(Together((Head(title, 2), Table(("row", "value", "bytes"), rows, "form rows"))))
+        table = Table(("row", "value", "bytes"), rows, "form rows")
+        blocks.append(Together((Head(title), table)))
     heads = ("entry", *(name for name, _ in RECORD))
     rows_ = [
         (index, *(Boxes(number) for _, number in RECORD)) for index in range(len(of.entries))
@@ -215,7 +219,8 @@ _WHAT = {
     step: (getattr(Steps, method).__doc__ or "").partition("\n")[0].rstrip(".")
     for method, step in WORKED.items()
 }
-_PASSED_ON = {"the sitting's inputs", "the entry's fields", "the fields that are sealed", "the ring"}
+# Steps that only hand on what they take.
+_PASSED_ON = {WORKED[method][0] for method in ("inputs", "entry", "sealed_as", "ring")}
 
 
 def _flat(step: Step, top: bool = True) -> Iterator[tuple[Step, bool]]:
@@ -277,8 +282,8 @@ def solution(of: Examination) -> Document:
     """Every step on the way."""
     blocks: list[Block] = [
         Words(
-            "Each step with the clause of TS 104 053-3 that it stands in (01: the examination's own "
-            "rules). The last step of each part gives what is asked for, or what the entries need."
+            "Each step with the clause of TS 104 053-3 that it stands in (01: the examination's "
+            "own rules). The last step of each part gives what is asked for, or what the entries need."
         ),
         Head("What is given"),
         _given(of.sitting),
