@@ -16,9 +16,10 @@ from typing import Any, Optional
 HERE = Path(__file__).resolve().parent
 sys.path.insert(0, str(HERE))
 
+from taa1 import __version__ as VERSION  # noqa: E402
 from taa1 import library  # noqa: E402
 
-NAME, VERSION = "taa1", "0.0.0"
+NAME = "taa1"
 TAG = "py3-none-linux_x86_64"
 INFO = f"{NAME}-{VERSION}.dist-info"
 

@@ -20,9 +20,11 @@ C_TYPES = {
     "version": "taa1_version",
     "number": "taa1_key_number",
     "mask": "uint16_t",
+    "identity": "uint64_t",
     "value": "uint64_t",
 }
 
+WIDTHS = {"identity": 6, "mask": 4}  # hexadecimal digits
 # Values that every call takes, by the parameter's kind and name.
 NUMBERS = {"sides": 3, "width": 16, "response_mask": 0xF000, "key_mask": 0x0FFC}
 
@@ -90,6 +92,7 @@ class Table(unittest.TestCase):
             "version": engine.Version,
             "number": engine.KeyNumber,
             "mask": ctypes.c_uint16,
+            "identity": ctypes.c_uint64,
             "value": ctypes.c_uint64,
         }
         self.assertEqual(set(engine._CALLS), set(CALLS))
@@ -153,6 +156,8 @@ class Command(Case):
         made = ["call", call.name]
         for parameter, given in zip(call.parameters, values(call)):
             text = given.hex() if isinstance(given, bytes) else str(given)
+            if parameter.kind in WIDTHS:
+                text = f"{given:0{WIDTHS[parameter.kind]}x}"
             made += ["--" + parameter.name.replace("_", "-"), text]
         return made
 
@@ -162,10 +167,9 @@ class Command(Case):
             with self.subTest(call.name):
                 fields = DESK.call(call.name, *values(call))
                 shown = {k: v.hex() if isinstance(v, bytes) else v for k, v in fields.items()}
-                lines = [
-                    f"{name} {f'0x{v:06x}' if name == 'identity' else v}"
-                    for name, v in shown.items()
-                ]
+                if "identity" in shown:
+                    shown["identity"] = f"{shown['identity']:06x}"
+                lines = [f"{name} {v}" for name, v in shown.items()]
                 arguments = self.arguments(call)
                 self.assertEqual(self.accepted(*arguments).decode(), "\n".join(lines) + "\n")
                 self.assertEqual(json.loads(self.accepted(*arguments, "--json")), shown)
@@ -185,6 +189,37 @@ class Command(Case):
         self.fails(1, f"tb1: refused 9 ({NAMES[9]})", "call", "tb1", "--value", 1, "--width", 15)
         book = ("call", "check_plain", "--plain", "09" + "00" * 17)
         self.fails(1, f"check_plain: refused 3 at 0 ({NAMES[3]})", *book)
+
+    def test_lengths(self) -> None:
+        """A refused length is named with its option, both lengths with it."""
+        key, root = "00" * 10, "00" * 16
+        seal = ("call", "ta51", "--version", 7, "--number", 3)
+        said = f"ta51: refused 11 ({NAMES[11]}): --cipher-key has 1 byte, not 10"
+        self.fails(1, said, *seal, "--cipher-key", "00", "--sealing-key", root)
+        both = f"{said}; --sealing-key has 10 bytes, not 16"
+        self.fails(1, both, *seal, "--cipher-key", "00", "--sealing-key", key)
+        said = f"schedule: refused 11 ({NAMES[11]}): KEY has 10 bytes, not 16"
+        self.fails(1, said, "schedule", key)
+
+    def test_numbers(self) -> None:
+        """Identities and masks are hexadecimal, six digits and four; 0x is taken anywhere."""
+        key = "c0c1c2c3c4c5c6c7c8c9"
+        ta61 = ("call", "ta61", "--common-key", key, "--identity")
+        wanted = self.accepted(*ta61, "00000a")
+        for text in ("0x00000a", "00000A"):
+            self.assertEqual(self.accepted(*ta61, text), wanted)
+        self.assertEqual(self.accepted("call", "ta61", "--common-key", f"0x{key}", "--identity", "00000a"), wanted)
+        for text in ("10", "0xa", "0000010", "00000g"):
+            error = f"call ta61: argument --identity: {text!r}: wanted 6 hexadecimal digits"
+            self.fails(2, error, *ta61, text)
+        ta12 = ("call", "ta12", "--session-key", "00" * 16, "--challenge", key, "--key-mask", "6db6")
+        self.accepted(*ta12, "--response-mask", "9009")
+        error = "call ta12: argument --response-mask: '36873': wanted 4 hexadecimal digits"
+        self.fails(2, error, *ta12, "--response-mask", "36873")
+        error = "call ta101: argument --mni: '1': wanted 6 hexadecimal digits"
+        self.fails(2, error, "call", "ta101", "--ks", "00" * 16, "--gck0", key, "--mni", "1")
+        tb1 = self.accepted("call", "tb1", "--value", "0x201", "--width", "0x10")
+        self.assertEqual(tb1, self.accepted("call", "tb1", "--value", "513", "--width", "16"))
 
     def test_files(self) -> None:
         """A value from a file, in bytes or hexadecimal, or from standard input."""

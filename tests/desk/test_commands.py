@@ -4,17 +4,24 @@ from __future__ import annotations
 
 import json
 import os
+import re
 import resource
 import secrets
+import shlex
 import shutil
 import subprocess
 import sys
+from contextlib import nullcontext
 from pathlib import Path
 from typing import Any
+from unittest import mock
 
 from common import CLASS, COMMAND, DESK, PLAIN_BOOK, RING, ROOT, SITTING, Case, Run, here, seal, taa1
+from taa1 import __version__
+from taa1.cli import parser
 from taa1.engine import NAMES, Refused
-from taa1.files import MOST_BYTES
+from taa1.files import MOST_BYTES, Problem, write_file
+from taa1.overview import EXAMPLES
 from taa1.texts import sitting_bytes
 
 INPUTS = (CLASS / "sitting.txt", CLASS / "model.txt")
@@ -81,9 +88,10 @@ class Good(Case):
         self.assertEqual(said, "location_area 1\ncarrier 2\ncolour_code 3\n")
         made = DESK.call("tb6", key, 5, 0xABC)["bytes"].hex()
         said = self.accepted("cell", key.hex(), made, "--by", "tb6").decode()
-        self.assertEqual(said, "carrier 5\nidentity 0x000abc\n")
+        self.assertEqual(said, "carrier 5\nidentity 000abc\n")
         self.fails(1, f"cell: refused 17 ({NAMES[17]})", "cell", key.hex(), key[::-1].hex())
-        self.fails(1, f"cell: refused 11 ({NAMES[11]})", "cell", key.hex(), "00")
+        said = f"cell: refused 11 ({NAMES[11]}): RESULT has 1 byte, not 10"
+        self.fails(1, said, "cell", key.hex(), "00")
 
     def test_diffusion(self) -> None:
         records = secrets.token_bytes(48)
@@ -109,7 +117,8 @@ class Good(Case):
         turned = DESK.call("register", KEY, 5)["bytes"]
         self.assertEqual(lines[5].split()[3], turned.hex())
         self.assertEqual(len(json.loads(self.accepted("schedule", KEY.hex(), "--json"))["registers"]), 17)
-        self.fails(1, f"schedule: refused 11 ({NAMES[11]})", "schedule", "00")
+        said = f"schedule: refused 11 ({NAMES[11]}): KEY has 1 byte, not 16"
+        self.fails(1, said, "schedule", "00")
 
     def test_tables(self) -> None:
         program = ROOT / "target" / "bin" / "printtables"
@@ -130,6 +139,8 @@ class Good(Case):
         self.assertEqual(both["bytes"].hex(), keys["D"])
         self.assertEqual(model["sealed"], SEALED_BOOK.hex())
         self.assertEqual(model["runs"], 25)
+        masks = (model["sitting"]["response_mask"], model["sitting"]["key_mask"])
+        self.assertEqual((masks, model["sitting"]["sides"]), (("9009", "6db6"), 3))
         for entry in model["entries"]:
             core, version = bytes.fromhex(entry["core_key_input"]), entry["version"].to_bytes(2, "big")
             under = getattr(RING, entry["sealing_key"].lower())
@@ -155,22 +166,75 @@ class Good(Case):
         self.assertIn(b"RAND1 and RAND2 exchanged\n", self.accepted("slips"))
 
     def test_output_files(self) -> None:
-        """A file has the mode that the user's mask gives, or the one that it had."""
-        name = self.folder / "ring"
-        self.accepted("ring", INPUTS[0], "-o", name)
+        """A file has the mode that the user's mask gives, or the one that it had; a link stays."""
+        name = self.folder / "sealed"
+        self.accepted("seal", *INPUTS, "-o", name)
         mask = os.umask(0)
         os.umask(mask)
         self.assertEqual(name.stat().st_mode & 0o777, 0o666 & ~mask)
         name.chmod(0o640)
-        self.accepted("ring", INPUTS[0], "-o", name, "--hex")
+        self.accepted("seal", *INPUTS, "-o", name, "--hex")
         self.assertEqual(name.stat().st_mode & 0o777, 0o640)
-        self.assertEqual(name.read_text()[:104], RING.data.hex())
-        self.assertEqual(os.listdir(self.folder), ["ring"])
+        self.assertEqual(name.read_text().strip(), SEALED_BOOK.hex())
+        self.assertEqual(os.listdir(self.folder), ["sealed"])
         link = self.folder / "link"
         link.symlink_to(name)
-        self.accepted("ring", INPUTS[0], "-o", link)
+        self.accepted("seal", *INPUTS, "-o", link)
         self.assertTrue(link.is_symlink())
-        self.assertEqual(name.read_bytes()[:52], RING.data)
+        self.assertEqual(name.read_bytes(), SEALED_BOOK)
+
+    def test_secrets(self) -> None:
+        """What holds secrets is its owner's alone, also in the place of a file that was not."""
+        sealed = self.file("sealed", SEALED_BOOK)
+        for args in (
+            ("draw",),
+            ("draw", "--book"),
+            ("sitting", INPUTS[0]),
+            ("ring", INPUTS[0]),
+            ("book", INPUTS[1]),
+            ("list", INPUTS[1]),
+            ("model", *INPUTS),
+            ("model", *INPUTS, "--json"),
+            ("model", *INPUTS, "--html"),
+            ("open", INPUTS[0], sealed),
+            ("columns", "plain", "/dev/null"),
+            ("lineage", CLASS / "lineage.txt"),
+            ("paper", *INPUTS, "--part", "solution"),
+        ):
+            with self.subTest(args=args[:2]):
+                name = self.folder / "secret"
+                for before in (False, True):
+                    if before and args[0] != "draw":
+                        name.write_bytes(b"")
+                        name.chmod(0o666)
+                    self.accepted(*args, "-o", name)
+                    self.assertEqual(name.stat().st_mode & 0o777, 0o600)
+                    name.unlink()
+
+    def test_two_draw_at_once(self) -> None:
+        """Of many that draw into one file at once, one does, and the others say so."""
+        name = self.folder / "sitting.txt"
+        command = [*COMMAND, "draw", "-o", str(name)]
+        runs = [subprocess.Popen(command, stderr=subprocess.PIPE) for _ in range(6)]
+        errors = [run.communicate()[1].decode() for run in runs]
+        self.assertEqual(sorted(run.returncode for run in runs), [0, 2, 2, 2, 2, 2])
+        said = f"taa1: {name}: it is there already, and draw replaces no file\n"
+        self.assertEqual(sorted(errors), ["", *[said] * 5])
+        self.assertEqual(len(self.accepted("ring", name)), 60)
+        self.assertEqual(os.listdir(self.folder), ["sitting.txt"])
+
+    def test_new_file(self) -> None:
+        """A new file takes no other's place, also where a file may have one name only."""
+        name = self.folder / "new"
+        for fails in (False, True):
+            patched = mock.patch("taa1.files.os.link", side_effect=PermissionError(1, "not permitted"))
+            with patched if fails else nullcontext():
+                write_file(str(name), b"first", private=True, new=True)
+                with self.assertRaisesRegex(Problem, "it is there already"):
+                    write_file(str(name), b"second", private=True, new=True)
+            self.assertEqual((name.read_bytes(), name.stat().st_mode & 0o777), (b"first", 0o600))
+            self.assertEqual(os.listdir(self.folder), ["new"])
+            name.unlink()
 
 
 # Commands that read one file, as the arguments around it.
@@ -356,6 +420,41 @@ class Bad(Case):
         said = "standard input: it can stand for one file only"
         for args in (("seal", "-"), ("open", "-", "-"), ("model", "-", "-"), ("mark", "-", INPUTS[1], "-")):
             self.fails(2, said, *args)
+
+    def test_help(self) -> None:
+        """The commands in the order of the work, each with an example that works."""
+        said = self.accepted("--help").decode()
+        self.assertEqual(self.accepted("help").decode(), said)
+        commands = list(next(a.choices for a in parser()._actions if a.dest == "command") or ())
+        self.assertEqual(set(EXAMPLES) - set(commands) - {"scheme"}, set())
+        self.assertEqual(set(commands) - set(EXAMPLES), set())
+        listed = [line.split()[0] for line in said.splitlines() if re.match(r"  [a-z]", line)]
+        self.assertEqual(set(listed), set(commands))
+        self.assertEqual(listed[:6], ["draw", "book", "model", "paper", "seal", "mark"])
+        self.assertEqual(listed[-1], "call")
+        (self.folder / "class").mkdir()
+        self.file("class/ann.book", SEALED_BOOK)
+        self.file("model.txt", INPUTS[1].read_text())
+        self.file("sheet.txt", (CLASS / "lineage.txt").read_text())
+        for name in listed:
+            with self.subTest(name):
+                self.assertIn(f"{EXAMPLES[name]}\n", said)
+                own = self.accepted("help", name).decode()
+                self.assertEqual(self.accepted(name, "--help").decode(), own)
+                self.assertIn(f"example: {EXAMPLES[name]}\n", own)
+                if name == "tables" and not (ROOT / "target" / "bin" / "printtables").exists():
+                    continue
+                done = taa1(*shlex.split(EXAMPLES[name])[1:], cwd=self.folder)
+                strange = name == "mark"  # the sitting was drawn, so ann's book is another's
+                self.assertEqual(done.status, 1 if strange else 0, done.error)
+
+    def test_version(self) -> None:
+        self.assertEqual(self.accepted("--version").decode(), f"taa1 {__version__}\n")
+
+    def test_no_such_help(self) -> None:
+        done = taa1("help", "nonsense")
+        self.said(done, 2)
+        self.assertIn("invalid choice: 'nonsense'", done.error)
 
     def test_wrong_uses(self) -> None:
         for error, args in (

@@ -107,7 +107,7 @@ class Lines(unittest.TestCase):
         """A line that can't be read costs its own entry alone."""
         sheet = but(4, "entry 4 kind 3 identity 00c001 version 256 key 31 number 4660")
         self.assertEqual(sheet.right, 11)
-        self.assertIn("  entry 4: line 5: key has 2 hexadecimal digits, not 20\n", sheet_text(sheet))
+        self.assertIn("  entry 4: line 5: key of kind 3: 2 hexadecimal digits, not 20\n", sheet_text(sheet))
         sheet = but(4, "entry four flag")
         self.assertEqual((sheet.right, sheet.missing), (11, (4,)))
         self.assertIn("  line 5: no number behind entry\n", sheet_text(sheet))

@@ -79,18 +79,22 @@ class Sittings(Case):
             ("f: no line for rso", without("rso")),
             ("f, line 11: rs for the second time, after line 2", NAMED + "rs = 00\n"),
             ("f, line 11: no line of the form name = hexadecimal", NAMED + "and so on\n"),
-            ("f, line 2: rs: 9 bytes, not 10", re.sub(r"(?m)^(rs +=) ..", r"\1 ", NAMED)),
+            ("f, line 2: rs: 18 hexadecimal digits, not 20", re.sub(r"(?m)^(rs +=) ..", r"\1 ", NAMED)),
             (
-                "f, line 2: rs: an odd number of hexadecimal digits, 19",
+                "f, line 2: rs: 19 hexadecimal digits, not 20",
                 re.sub(r"(?m)^(rs +=) .", r"\1 ", NAMED),
             ),
             ("f, line 2: rs: 'x' is no hexadecimal digit", re.sub(r"(?m)^(rs +=) .", r"\1 x", NAMED)),
-            ("f, line 2: rs: 0 bytes, not 10", re.sub(r"(?m)^(rs +=).*", r"\1", NAMED)),
+            ("f, line 2: rs: 0 hexadecimal digits, not 20", re.sub(r"(?m)^(rs +=).*", r"\1", NAMED)),
             (
-                "f, line 9: response_mask: more than 4 hexadecimal digits",
-                NAMED.replace("response_mask = ", "response_mask = 1"),
+                "f, line 9: response_mask: '36873': wanted 4 hexadecimal digits",
+                NAMED.replace("9009", "36873"),
             ),
-            ("f, line 8: sides: more than 2 hexadecimal digits", re.sub(r"(sides +=).*", r"\1 100", NAMED)),
+            ("f, line 9: response_mask: '1': wanted 4 hexadecimal digits", NAMED.replace("9009", "1")),
+            (
+                "f, line 8: sides: '256': wanted a decimal number up to 255",
+                re.sub(r"(sides +=).*", r"\1 256", NAMED),
+            ),
         ):
             with self.subTest(error):
                 self.file("f", text)
@@ -165,6 +169,38 @@ class Books(Case):
         text = "# a book\n\n" + re.sub(r"(?m)^entry \d+ |^entries.*", "", LINES)
         self.assertEqual(self.accepted("book", stdin=text.encode()), PLAIN_BOOK)
 
+    def test_any_order(self) -> None:
+        """The words in any order and case, spaces in keys, 0x, and no number where there is none."""
+        text = ""
+        for entry in ENTRIES:
+            pairs = entry.line.split()
+            words = [" ".join(pairs[at : at + 2]) for at in range(0, len(pairs), 2)]
+            if entry.number is None:
+                words.pop()
+            words[3] = f"KEY {entry.key.hex(' ').upper()}"
+            words[1] = words[1].replace("identity ", "identity 0x")
+            words[2] = f"version 0x{entry.version:x}" if entry.kind == 2 else words[2]
+            text += " ".join(words[::-1]) + "\n"
+        self.assertEqual(self.accepted("book", stdin=text.encode()), PLAIN_BOOK)
+
+    def test_no_entry(self) -> None:
+        """Lines of text without an entry are no book of none; nor are an old Mac's lines."""
+        form = "an entry is `kind K identity I version V key HEX number N`, in any order"
+        for text in ("# a book\n", "\n\n# a book\n", "# a book, soon"):
+            self.fails(2, f"standard input: no entry in it: {form}", "seal", CLASS / "sitting.txt", stdin=text.encode())
+        mac = "its lines end as an old Mac's, with CR alone: convert them (tr '\\r' '\\n' does so)"
+        for text in (LINES.replace("\n", "\r"), "# mine\r" + LINES.replace("\n", "\r", 1)):
+            for command in ("book", "check"):
+                self.fails(2, f"standard input: {mac}", command, stdin=text.encode())
+        names = NAMED.replace("\n", "\r")
+        self.fails(2, f"standard input: {mac}", "sitting", stdin=names.encode())
+
+    def test_codes(self) -> None:
+        """A text with a byte order mark, in UTF-16, with DOS's line ends."""
+        for text in (("\ufeff" + LINES).encode(), LINES.encode("utf-16"), LINES.replace("\n", "\r\n").encode()):
+            self.assertEqual(self.accepted("book", stdin=text), PLAIN_BOOK)
+        self.assertEqual(self.accepted("sitting", stdin=NAMED.encode("utf-16")), sitting_bytes(SITTING))
+
     def test_the_example(self) -> None:
         """The listing of the specification's example."""
         record = bytes.fromhex("02123456000701020304050607 08090a0003")
@@ -178,21 +214,37 @@ class Books(Case):
 
     def test_bad_lines(self) -> None:
         right = ENTRIES[2].line
+        form = "an entry is `kind K identity I version V key HEX number N`, in any order"
         for error, line in (
-            ("no line of the form [entry I] kind .. identity .. version .. key .. number ..", "kind 2"),
-            ("entry 1, where entry 0 stands", f"entry 1 {right}"),
-            ("entry None, where entry 0 stands", "entry"),
-            ("kind 7 is none of 1 to 6", right.replace("kind 2", "kind 7")),
-            ("kind 'two' is no decimal number", right.replace("kind 2", "kind two")),
-            ("identity has 4 hexadecimal digits, not 6", right.replace("00b001", "b001")),
-            ("identity '00g001' is not hexadecimal", right.replace("00b001", "00g001")),
-            ("version 65536 is above 65535", right.replace("version 513", "version 65536")),
-            ("key has 18 hexadecimal digits, not 20", right.replace("1112", "11")),
-            (f"refused 5 ({NAMES[5]})", right.replace("number 31", "number 32")),
-            (f"refused 4 ({NAMES[4]})", right.replace("number 31", "number 256")),
-            ("number '-' is no decimal number", right.replace("number 31", "number -")),
-            ("kind 1 has no number: write -", ENTRIES[0].line.replace("number -", "number 0")),
+            (f"no identity: wanted 6 hexadecimal digits; {form}", "kind 2"),
+            ("entry '1', where entry 0 stands", f"entry 1 {right}"),
+            ("entry '', where entry 0 stands", "entry"),
+            (f"no kind: wanted 1 to 6; {form}", right.replace("kind 2", "")),
+            ("kind 7: wanted 1 to 6", right.replace("kind 2", "kind 7")),
+            ("kind 'two': wanted a decimal number up to 255", right.replace("kind 2", "kind two")),
+            (f"'knid' is no word of an entry: {form}", right.replace("kind 2", "knid 2")),
+            (f"'identiti' is no word of an entry: {form}", right.replace("identity", "identiti")),
+            ("kind for the second time", f"{right} kind 2"),
+            ("identity 'b001': wanted 6 hexadecimal digits", right.replace("00b001", "b001")),
+            ("identity '45057': wanted 6 hexadecimal digits", right.replace("00b001", "45057")),
+            ("identity '00g001': wanted 6 hexadecimal digits", right.replace("00b001", "00g001")),
+            (
+                "version '65536': wanted a decimal number up to 65535",
+                right.replace("version 513", "version 65536"),
+            ),
+            (
+                "version '2f': wanted a decimal number up to 65535",
+                right.replace("version 513", "version 2f"),
+            ),
+            ("key of kind 2: 18 hexadecimal digits, not 20", right.replace("1112", "11")),
+            ("key of kind 2: 'x' is no hexadecimal digit", right.replace("1112", "11 12 x")),
+            ("number '32': wanted a decimal number up to 31", right.replace("number 31", "number 32")),
+            ("number '256': wanted a decimal number up to 31", right.replace("number 31", "number 256")),
+            ("number '-': wanted a decimal number up to 31", right.replace("number 31", "number -")),
+            (f"no number: wanted a decimal number up to 31; {form}", right.replace("number 31", "")),
+            ("number '0': kind 1 has none: leave it out", ENTRIES[0].line.replace("number -", "number 0")),
             ("entries 2, where there are 0", "entries 2"),
+            ("entries 'two': wanted a decimal number up to 1024", "entries two"),
         ):
             with self.subTest(error):
                 self.file("f", "# a bad line\n" + line)
@@ -250,7 +302,7 @@ class Sheets(Case):
             ("no key 'kk'", "x = ta11 kk rs"),
             ("ta11 takes two parents, not 1", "x = ta11 k"),
             ("k for the second time", "k = ta11 k rs"),
-            ("the key given has 4 hexadecimal digits, not 20", "x = given 0102"),
+            ("the key given: 4 hexadecimal digits, not 20", "x = given 0102"),
         ):
             with self.subTest(error):
                 self.file("f", self.TEXT + line)

@@ -8,12 +8,14 @@ from __future__ import annotations
 
 from typing import NamedTuple, Optional
 
+from .values import IDENTITY
+
 
 class Parameter(NamedTuple):
     """One input of a call, or its output."""
 
     name: str
-    kind: str  # bytes, version, number, mask, value or out
+    kind: str  # bytes, version, number, mask, identity, value or out
     length: Optional[int] = None  # of bytes: the one length that is taken, or any
     # of an output: the bytes that are written for each record
 
@@ -24,6 +26,7 @@ class Field(NamedTuple):
     name: str
     length: int = 0
     bits: int = 0
+    digits: int = 0  # of a number that is written in hexadecimal
 
 
 class Call(NamedTuple):
@@ -48,6 +51,10 @@ def _number(name: str, bits: int = 32) -> Field:
     return Field(name, bits=bits)
 
 
+def _ssi(name: str) -> Field:
+    return Field(name, bits=32, digits=IDENTITY)
+
+
 _SIZE = 64  # bits of C's size_t
 _BOOK = (_number("index", _SIZE), _number("written", _SIZE))
 
@@ -58,7 +65,7 @@ ANSWERS: dict[str, tuple[Field, ...]] = {
     "bytes15": (_text("bytes", 15),),
     "bytes16": (_text("bytes", 16),),
     "authentication": (_text("response", 4), _text("key", 10)),
-    "identity": (_number("identity"),),
+    "identity": (_ssi("identity"),),
     "unsealed": (_text("key", 10), _number("failed_checks", 16)),
     "unsealed_numbered": (_text("key", 10), _number("number", 16), _number("failed_checks", 16)),
     "unsealed_group": (_text("key", 12), _number("failed_checks", 16)),
@@ -66,7 +73,7 @@ ANSWERS: dict[str, tuple[Field, ...]] = {
     "book_answer": _BOOK,
     "counted_answer": (*_BOOK, _number("runs", _SIZE)),
     "cell": (_number("location_area"), _number("carrier"), _number("colour_code")),
-    "carrier_identity": (_number("carrier"), _number("identity")),
+    "carrier_identity": (_number("carrier"), _ssi("identity")),
     "value": (_number("value"),),
     "card": (_text("key", 12), _text("card", 16)),
     "tally": (_number("flips"), _number("total"), _number("least"), _number("greatest")),
@@ -79,6 +86,10 @@ def _bytes(name: str, length: Optional[int] = None) -> Parameter:
 
 def _value(name: str) -> Parameter:
     return Parameter(name, "value")
+
+
+def _identity(name: str) -> Parameter:
+    return Parameter(name, "identity")
 
 
 def _mask(name: str) -> Parameter:
@@ -134,11 +145,11 @@ _ALL = (
     Call("ta32", "unsealed", (_TEXT, _SEALING10, _VERSION), "the cipher key that ta31 sealed"),
     Call("ta51", "bytes15", _NUMBERED, "a cipher key and a number up to 31, sealed: kinds 2 and 5"),
     Call("ta52", "unsealed_numbered", _SEALED, "the cipher key and number that ta51 sealed"),
-    Call("ta61", "identity", (_COMMON_KEY, _value("identity")), "an identity, encrypted"),
+    Call("ta61", "identity", (_COMMON_KEY, _identity("identity")), "an identity, encrypted"),
     Call(
         "ta61_inverse",
         "identity",
-        (_COMMON_KEY, _value("encrypted_identity")),
+        (_COMMON_KEY, _identity("encrypted_identity")),
         "the identity that ta61 encrypted",
     ),
     Call("ta71", "bytes10", (_bytes("key1", 10), _bytes("key2", 10)), "a cipher key from two"),
@@ -149,7 +160,7 @@ _ALL = (
     Call(
         "ta101",
         "bytes16",
-        (_bytes("ks", 16), _bytes("gck0", 10), _value("mni")),
+        (_bytes("ks", 16), _bytes("gck0", 10), _identity("mni")),
         "a session key from another, a group key and a network identity",
     ),
     Call("tb1", "bytes16", (_value("value"), _WIDTH), "a value of 16 to 32 bits, repeated"),
@@ -165,7 +176,7 @@ _ALL = (
     Call(
         "tb6",
         "bytes10",
-        (_CIPHER_KEY, _value("carrier"), _value("identity")),
+        (_CIPHER_KEY, _value("carrier"), _identity("identity")),
         "a cipher key for one identity on a carrier",
     ),
     Call("tb7", "bytes16", (_GROUP_KEY,), "a group key as on a card: the xor behind each three bytes"),

@@ -16,7 +16,7 @@ from pathlib import Path
 from typing import Any, Callable, NoReturn, Optional, Sequence, Union
 from urllib.parse import quote
 
-from . import draw, files, handins, names, pages, paper, texts
+from . import __version__, draw, files, handins, names, pages, paper, texts
 from .calls import CALLS, Call, Parameter
 from .damage import Damage, damaged
 from .desk import Desk, RefusedFile, refusals
@@ -26,15 +26,17 @@ from .files import STANDARD, Problem, place, shown
 from .handins import Reader
 from .library import PACKAGE, LibraryError, repository
 from .mark import Marker, Sheet
-from .model import model_answer, model_text
+from .model import model_answer, model_json, model_text
 from .opened import OpenedMarker
+from .overview import EXAMPLES, overview
 from .page import is_made_by
 from .records import KINDS, PLAIN, RING, Entry, split
-from .sheets import reading, sheet_json, sheet_text, summary, summary_text
+from .sheets import plural, reading, sheet_json, sheet_text, summary, summary_text
 from .slips import EXCHANGES, SLIPS
+from .values import IDENTITY, MASK, hexadecimal
 
 ACCEPTED, REFUSED, WRONG_USE = 0, 1, 2
-INTERRUPTED = 130
+LENGTH = 11  # the refusal of an input of another length
 MOST_ROOM = 1 << 20  # bytes of an output that `call` makes
 
 
@@ -49,6 +51,13 @@ class Parser(argparse.ArgumentParser):
         """Reports a wrong use."""
         name = self.prog.partition(" ")[2]
         raise Problem(f"{name}: {message}" if name else f"{message} (taa1 --help lists the commands)")
+
+    def format_help(self) -> str:
+        """The help of a command, or the overview of all."""
+        if " " in self.prog:
+            return super().format_help()
+        commands = next(action.choices for action in self._actions if action.dest == "command")
+        return overview(self.description or "", dict(commands or {}))
 
     def _print_message(self, message: str, file: Any = None) -> None:
         """Writes help as every other output."""
@@ -67,6 +76,18 @@ def _number(text: str) -> int:
     except ValueError:
         pass
     raise argparse.ArgumentTypeError(f"{text[:40]!r} is no decimal number, nor one in 0x..")
+
+
+def _digits(count: int) -> Callable[[str], int]:
+    """A number of so many hexadecimal digits."""
+
+    def take(text: str) -> int:
+        try:
+            return hexadecimal(text, count)
+        except ValueError as error:
+            raise argparse.ArgumentTypeError(str(error)) from None
+
+    return take
 
 
 def _bytes(text: str) -> bytes:
@@ -132,11 +153,12 @@ def _once(*names: str) -> None:
 def _emit(args: argparse.Namespace, data: bytes) -> None:
     """Bytes, in hexadecimal if that is asked for or a terminal shows them."""
     terminal = args.output == STANDARD and sys.stdout is not None and sys.stdout.isatty()
-    files.write(args.output, f"{data.hex()}\n".encode() if args.hex or terminal else data)
+    digits = f"{data.hex()}\n".encode() if args.hex or terminal else data
+    files.write(args.output, digits, args.private)
 
 
-def _emit_text(args: argparse.Namespace, text: str) -> None:
-    files.write(args.output, text.encode("utf-8", "backslashreplace"))
+def _emit_text(args: argparse.Namespace, text: str, new: bool = False) -> None:
+    files.write(args.output, text.encode("utf-8", "backslashreplace"), args.private, new)
 
 
 def _jsonable(value: Any) -> Any:
@@ -154,18 +176,36 @@ def _json(value: Any) -> str:
     return json.dumps(_jsonable(value), indent=2) + "\n"
 
 
-def _fields(fields: dict[str, Any], as_json: bool) -> str:
-    """An answer's fields, one a line."""
-    if as_json:
-        return _json(fields)
-    lines = []
-    for name, value in fields.items():
-        if isinstance(value, bytes):
-            value = value.hex()
-        elif name == "identity":
-            value = f"0x{value:06x}"
-        lines.append(f"{name} {value}\n")
-    return "".join(lines)
+def _answer(args: argparse.Namespace, where: str, name: str, labels: Sequence[str], *given: Any) -> None:
+    """Writes the fields of a call's answer, one a line. A refused length is named by the
+    label of its value."""
+    call = CALLS[name]
+    room = getattr(args, "out", None)
+    try:
+        fields = Desk().call(name, *given, room=room)
+    except OverflowError as error:
+        raise Problem(str(error)) from None
+    except Refused as refused:
+        raise RefusedFile(where, refused, _lengths(refused, call, labels, given)) from None
+    for field in call.fields:
+        if field.digits:
+            fields[field.name] = f"{fields[field.name]:0{field.digits}x}"
+    if args.json:
+        _emit_text(args, _json(fields))
+    else:
+        _emit_text(args, "".join(f"{name} {value}\n" for name, value in _jsonable(fields).items()))
+
+
+def _lengths(refused: Refused, call: Call, labels: Sequence[str], given: Sequence[Any]) -> str:
+    """Which lengths are wrong, where that was refused."""
+    inputs = [parameter for parameter in call.parameters if parameter.kind != "out"]
+    return "; ".join(
+        f"{label} has {plural(len(value), 'byte')}, not {parameter.length}"
+        for parameter, label, value in zip(inputs, labels, given)
+        if refused.number == LENGTH
+        and parameter.kind == "bytes"
+        and parameter.length not in (None, len(value))
+    )
 
 
 # ---- the commands
@@ -174,29 +214,18 @@ def _fields(fields: dict[str, Any], as_json: bool) -> str:
 def run_call(args: argparse.Namespace) -> int:
     """Any call of the engine."""
     call: Call = CALLS[args.call]
-    values, room = [], None
-    for parameter in call.parameters:
-        value = getattr(args, parameter.name)
-        if parameter.kind == "out":
-            room = value
-            if room is not None and room > MOST_ROOM:
-                raise Problem(f"call {call.name}: --out-length is above {MOST_ROOM:,}")
-        else:
-            values.append(value)
-    try:
-        fields = Desk().call(call.name, *values, room=room)
-    except OverflowError as error:
-        raise Problem(str(error)) from None
-    except Refused as refused:
-        raise RefusedFile(call.name, refused) from None
-    _emit_text(args, _fields(fields, args.json))
+    inputs = [parameter for parameter in call.parameters if parameter.kind != "out"]
+    if (getattr(args, "out", None) or 0) > MOST_ROOM:
+        raise Problem(f"call {call.name}: --out-length is above {MOST_ROOM:,}")
+    labels = [_flag(parameter) for parameter in inputs]
+    _answer(args, call.name, call.name, labels, *(getattr(args, each.name) for each in inputs))
     return ACCEPTED
 
 
 def run_draw(args: argparse.Namespace) -> int:
     """A sitting, or a model book, from the system's randomness."""
     if args.output != STANDARD and os.path.isfile(args.output):
-        raise Problem(f"{shown(args.output)}: it is there already, and draw replaces no file")
+        raise Problem(f"{shown(args.output)}: {files.THERE}")
     given = [name for name in ("sides", "title", "date", "kinds", "entries") if getattr(args, name)]
     wrong = [name for name in given if (name in ("kinds", "entries")) is not args.book]
     if wrong:
@@ -206,11 +235,12 @@ def run_draw(args: argparse.Namespace) -> int:
         kinds = args.kinds or draw.draw_kinds(args.entries or draw.ENTRIES)
         plain = draw.draw_book(kinds)
         Desk().call("check_plain", plain)
-        _emit_text(args, texts.format_lines(plain))
+        _emit_text(args, texts.format_lines(plain), new=True)
     else:
         data = draw.draw_sitting(args.sides)
         Desk().call("ring", *texts.sitting_of(data))
-        _emit_text(args, texts.format_sitting(data, texts.Heading(args.title or "", args.date or "")))
+        heading = texts.Heading(args.title or "", args.date or "")
+        _emit_text(args, texts.format_sitting(data, heading), new=True)
     return ACCEPTED
 
 
@@ -297,6 +327,7 @@ def run_columns(args: argparse.Namespace) -> int:
     data = files.read_bytes(args.file, args.bytes)
     with refusals(place(args.file)):
         answer = Desk().call(f"{args.book}_{'from' if args.back else 'to'}_columns", data)
+    args.private = args.book == "plain"
     _emit(args, answer["out"])
     return ACCEPTED
 
@@ -305,11 +336,11 @@ def run_lineage(args: argparse.Namespace) -> int:
     """The keys of a lineage sheet."""
     where, data = place(args.file), files.read(args.file)
     names: Optional[list[str]] = None
-    if not args.bytes and files.is_text(data):
-        if b"=" in data:
-            names, data = texts.parse_sheet(texts.text_of(data, where), where)
-        else:
-            data = files.from_hex(data.decode(), where)
+    text = None if args.bytes else files.text(data)
+    if text and "=" in text:
+        names, data = texts.parse_sheet(texts.text_of(data, where), where)
+    elif text:
+        data = files.from_hex(text, where)
     with refusals(where):
         out = Desk().call("lineage", data)["out"]
     if args.names or (names is not None and not args.hex):
@@ -331,17 +362,13 @@ def run_card(args: argparse.Namespace) -> int:
     unreadable = sum(1 << len(pairs) - 1 - i for i, pair in enumerate(pairs) if pair == "??")
     if len(card) != 16:
         raise Problem(f"card: {len(card)} bytes, not 16")
-    with refusals("card"):
-        fields = Desk().call("restore_card", card, unreadable)
-    _emit_text(args, _fields(fields, args.json))
+    _answer(args, "card", "restore_card", (), card, unreadable)
     return ACCEPTED
 
 
 def run_cell(args: argparse.Namespace) -> int:
     """The cell, or carrier and identity, that made a key."""
-    with refusals("cell"):
-        fields = Desk().call(f"{args.by}_inverse", args.cipher_key, args.result)
-    _emit_text(args, _fields(fields, args.json))
+    _answer(args, "cell", f"{args.by}_inverse", ("KEY", "RESULT"), args.cipher_key, args.result)
     return ACCEPTED
 
 
@@ -351,17 +378,18 @@ def run_diffusion(args: argparse.Namespace) -> int:
         where, data = "the records drawn", secrets.token_bytes(24 * min(args.draw, 1 << 16))
     else:
         where, data = place(args.file), files.read_bytes(args.file, args.bytes)
-    with refusals(where):
-        fields = Desk().call("diffusion", data)
-    _emit_text(args, _fields(fields, args.json))
+    _answer(args, where, "diffusion", (), data)
     return ACCEPTED
 
 
 def run_schedule(args: argparse.Namespace) -> int:
     """The key schedule's register and round key, round by round."""
     desk = Desk()
-    with refusals("schedule"):
+    try:
         turns = [desk.call("register", args.key, steps)["bytes"] for steps in range(17)]
+    except Refused as refused:
+        lengths = _lengths(refused, CALLS["register"], ("KEY",), (args.key,))
+        raise RefusedFile("schedule", refused, lengths) from None
     if args.json:
         text = _json({"registers": turns})
     else:
@@ -403,7 +431,7 @@ def run_model(args: argparse.Namespace) -> int:
     if args.html:
         _emit_text(args, pages.model_page(model, heading.line))
     else:
-        _emit_text(args, _json(model) if args.json else model_text(model))
+        _emit_text(args, _json(model_json(model)) if args.json else model_text(model))
     return ACCEPTED
 
 
@@ -549,25 +577,29 @@ _KINDS: dict[str, tuple[Callable[[str], Any], str, str]] = {
     "bytes": (_bytes, "HEX", "in hexadecimal, or @FILE"),
     "version": (_number, "N", "a version of 16 bits"),
     "number": (_number, "N", "a key number"),
-    "mask": (_number, "N", "a mask of 16 bits"),
+    "mask": (_digits(MASK), "HEX", f"a mask of {MASK} hexadecimal digits"),
+    "identity": (_digits(IDENTITY), "HEX", f"{IDENTITY} hexadecimal digits"),
     "value": (_number, "N", "a number"),
     "out": (_number, "N", "bytes of room for the output; as many as it can need by default"),
 }
+
+
+def _flag(parameter: Parameter) -> str:
+    name = "out_length" if parameter.kind == "out" else parameter.name
+    return "--" + name.replace("_", "-")
 
 
 def _option(parser: Parser, call: str, parameter: Parameter) -> None:
     """The option for a call's parameter."""
     take, metavar, what = _KINDS[parameter.kind]
     output = parameter.kind == "out"
-    name = "out_length" if output else parameter.name
     if parameter.kind == "bytes":
         length = "any number of bytes" if parameter.length is None else f"{parameter.length} bytes"
         what = f"{length} {what}"
     field = names.parameter_field(call, parameter.name)
     what = f"{what} ({field})" if field else what
-    flag = "--" + name.replace("_", "-")
     parser.add_argument(
-        flag, dest=parameter.name, type=take, metavar=metavar, help=what, required=not output
+        _flag(parameter), dest=parameter.name, type=take, metavar=metavar, help=what, required=not output
     )
 
 
@@ -590,13 +622,15 @@ def _common(parser: Parser, **wanted: str) -> None:
 
 def parser() -> Parser:
     """All commands and their options."""
-    top = Parser(prog="taa1", description=(__doc__ or "").partition("\n\n")[0])
+    top = Parser(prog="taa1", description=__doc__)
+    top.add_argument("--version", action="version", version=f"taa1 {__version__}")
     commands = top.add_subparsers(dest="command", metavar="COMMAND", required=True)
 
-    def command(name: str, run: Callable[[argparse.Namespace], int]) -> Parser:
-        what = (run.__doc__ or "").rstrip(".")
-        made = commands.add_parser(name, help=what[0].lower() + what[1:], description=f"{what}.")
-        made.set_defaults(run=run)
+    def command(name: str, run: Callable[[argparse.Namespace], int], private: bool = True) -> Parser:
+        what = (run.__doc__ or "").partition("\n\n")[0]
+        epilog = f"example: {EXAMPLES[name]}" if name in EXAMPLES else None
+        made: Parser = commands.add_parser(name, description=what, epilog=epilog)
+        made.set_defaults(run=run, private=private)
         return made
 
     call = command("call", run_call)
@@ -637,7 +671,7 @@ def parser() -> Parser:
     _common(ring, file="a sitting in names, bytes or hexadecimal", hex="")
 
     ring_help = f"a ring of {RING} bytes, what makering wrote, or a sitting"
-    seal = command("seal", run_seal)
+    seal = command("seal", run_seal, private=False)
     seal.add_argument("ring", metavar="RING", help=ring_help)
     seal.add_argument("--runs", action="store_true", help="say how many cipher runs it took")
     seal.add_argument(
@@ -657,7 +691,7 @@ def parser() -> Parser:
     open_.add_argument("--lines", action="store_true", help="write lines, not bytes")
     _common(open_, file="a sealed book in bytes or hexadecimal", hex="", bytes="")
 
-    check = command("check", run_check)
+    check = command("check", run_check, private=False)
     _common(check, file="a plain book in lines, bytes or hexadecimal", bytes="")
 
     listing = command("list", run_list)
@@ -678,13 +712,13 @@ def parser() -> Parser:
     )
     _common(card, json="")
 
-    cell = command("cell", run_cell)
+    cell = command("cell", run_cell, private=False)
     cell.add_argument("cipher_key", type=_bytes, metavar="KEY", help="10 bytes, or @FILE")
     cell.add_argument("result", type=_bytes, metavar="RESULT", help="10 bytes, or @FILE")
     cell.add_argument("--by", choices=("tb5", "tb6"), default="tb5", help="default: tb5")
     _common(cell, json="")
 
-    diffusion = command("diffusion", run_diffusion)
+    diffusion = command("diffusion", run_diffusion, private=False)
     diffusion.add_argument("--draw", type=_number, metavar="N", help="draw N records, read none")
     _common(diffusion, file="records of 24 bytes, key then block", bytes="", json="")
 
@@ -692,11 +726,11 @@ def parser() -> Parser:
     schedule.add_argument("key", type=_bytes, metavar="KEY", help="16 bytes, or @FILE")
     _common(schedule, json="")
 
-    _common(command("tables", run_tables))
+    _common(command("tables", run_tables, private=False))
 
     model = command("model", run_model)
     papers = command("paper", run_paper)
-    mark = command("mark", run_mark)
+    mark = command("mark", run_mark, private=False)
     for each_ in (model, papers, mark):
         each_.add_argument("sitting", metavar="SITTING", help="names, bytes or hexadecimal")
         each_.add_argument("book", metavar="BOOK", help="a plain book: lines, bytes or hexadecimal")
@@ -728,9 +762,9 @@ def parser() -> Parser:
     )
     _common(mark, bytes="", json="")
 
-    _common(command("slips", run_slips))
+    _common(command("slips", run_slips, private=False))
 
-    help_ = command("help", run_help)
+    help_ = command("help", run_help, private=False)
     help_.add_argument(
         "topic", nargs="*", metavar="TOPIC", help="a command, as in call ta51; or kinds"
     )
@@ -739,6 +773,16 @@ def parser() -> Parser:
 
 def main(argv: Optional[Sequence[str]] = None) -> int:
     """Runs the command line; the exit status."""
+    try:
+        with files.interruptible():
+            return _main(argv)
+    except files.Interrupted as interrupted:
+        files.progress(0, 0)
+        files.say("interrupted")
+        return 128 + interrupted.number
+
+
+def _main(argv: Optional[Sequence[str]]) -> int:
     try:
         args = parser().parse_args(argv)
         return int(args.run(args))
@@ -751,8 +795,5 @@ def main(argv: Optional[Sequence[str]] = None) -> int:
     except LibraryError as error:
         files.say(str(error))
         return WRONG_USE
-    except KeyboardInterrupt:
-        files.say("interrupted")
-        return INTERRUPTED
     except SystemExit as ended:  # after --help
         return int(ended.code or 0)

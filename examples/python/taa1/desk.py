@@ -16,9 +16,9 @@ _TYPES: dict[str, Any] = {"version": Version, "number": KeyNumber}
 class RefusedFile(Exception):
     """A refusal, and the file that it is about."""
 
-    def __init__(self, where: str, refused: Refused) -> None:
-        """Takes the file's name as messages have it."""
-        super().__init__(f"{where}: {refused}")
+    def __init__(self, where: str, refused: Refused, more: str = "") -> None:
+        """Takes the file's name as messages have it, and what else is to be said."""
+        super().__init__(f"{where}: {refused}: {more}" if more else f"{where}: {refused}")
         self.refused = refused
 
 

@@ -12,10 +12,11 @@ import tempfile
 import threading
 from contextlib import contextmanager
 from pathlib import Path
-from typing import Any, Callable, Container, Iterable, Iterator
+from typing import Any, Callable, Container, Iterable, Iterator, Optional
 
 MOST_BYTES = 1 << 20  # of one input; the longest book in lines has a tenth of it
 
+THERE = "it is there already, and draw replaces no file"
 STANDARD = "-"  # the name that stands for standard input and output
 
 
@@ -66,27 +67,33 @@ def read(name: str) -> bytes:
     return data
 
 
-def is_text(data: bytes) -> bool:
-    """Whether these bytes are lines of text. No ring, book or sheet of bytes is, but
-    for the empty one: each has a byte below 7 in front, or is not UTF-8."""
+def text(data: bytes) -> Optional[str]:
+    """The lines of text that these bytes are, in UTF-8 or behind UTF-16's mark, or None.
+    No ring, book or sheet of bytes is text, but for the empty one: each has a byte below 7
+    in front, or is not UTF-8."""
     try:
-        text = data.decode()
+        found = data.decode("utf-16" if data[:2] in (b"\xff\xfe", b"\xfe\xff") else "utf-8-sig")
     except UnicodeDecodeError:
-        return False
-    return bool(text) and all(letter.isprintable() or letter in "\t\r\n" for letter in text)
+        return None
+    return found if found and all(map(is_printed, found)) else None
 
 
-def from_hex(text: str, where: str) -> bytes:
+def is_printed(letter: str) -> bool:
+    """Whether a letter is one of a text."""
+    return letter.isprintable() or letter in "\t\r\n\f"
+
+
+def from_hex(said: str, where: str) -> bytes:
     """The bytes of hexadecimal text, in which white space counts for nothing, nor does 0x."""
-    text = re.sub(r"(?<![0-9a-fA-F])0[xX](?=[0-9a-fA-F])", "  ", text)
-    for number, line in enumerate(text.splitlines(), 1):
+    said = re.sub(r"(?<![0-9a-fA-F])0[xX](?=[0-9a-fA-F])", "  ", said)
+    for number, line in enumerate(said.splitlines(), 1):
         for column, letter in enumerate(line, 1):
             if letter not in "0123456789abcdefABCDEF" and not letter.isspace():
                 at = f"line {number}, column {column}"
                 raise Problem(f"{where}, {at}: {letter!r} is no hexadecimal digit")
-    digits = "".join(text.split())
+    digits = "".join(said.split())
     if len(digits) % 2:
-        counts = {number: len("".join(line.split())) for number, line in enumerate(text.splitlines(), 1)}
+        counts = {at: len("".join(line.split())) for at, line in enumerate(said.splitlines(), 1)}
         odd = [number for number, count in counts.items() if count % 2]
         at = f", {counts[odd[0]]} of them in line {odd[0]}" if len(odd) == 1 < len(counts) else ""
         raise Problem(f"{where}: an odd number of hexadecimal digits, {len(digits)}{at}")
@@ -96,9 +103,8 @@ def from_hex(text: str, where: str) -> bytes:
 def read_bytes(name: str, raw: bool = False) -> bytes:
     """What a file holds, in bytes or hexadecimal; `raw` takes bytes that look like text."""
     data = read(name)
-    if raw or not is_text(data):
-        return data
-    return from_hex(data.decode(), place(name))
+    found = None if raw else text(data)
+    return data if found is None else from_hex(found, place(name))
 
 
 def write_out(data: bytes) -> None:
@@ -141,14 +147,17 @@ def write_file(name: str, data: bytes, private: bool = False, new: bool = False)
 
 
 def _link(made: str, path: Path) -> None:
-    """Gives a file a name that no other has. Raises FileExistsError."""
+    """Gives a file a name that no other has."""
     try:
-        os.link(made, path)
+        try:
+            os.link(made, path)
+        except FileExistsError:
+            raise
+        except OSError:  # no file may have two names there: an empty one keeps the place
+            os.close(os.open(path, os.O_WRONLY | os.O_CREAT | os.O_EXCL, 0o600))
+            os.replace(made, path)
     except FileExistsError:
-        raise
-    except OSError:  # no file there has two names: one that is made here takes it
-        os.close(os.open(path, os.O_WRONLY | os.O_CREAT | os.O_EXCL, 0o600))
-        os.replace(made, path)
+        raise Problem(f"{shown(str(path))}: {THERE}") from None
 
 
 def write_folder(

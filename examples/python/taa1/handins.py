@@ -18,7 +18,7 @@ from itertools import count
 from typing import Callable, NamedTuple, Optional, Sequence
 
 from .engine import Refused
-from .files import MOST_BYTES, STANDARD, Problem, from_hex, place, reason
+from .files import MOST_BYTES, STANDARD, Problem, from_hex, is_printed, place, reason
 from .mark import Marked, Marker, Sheet
 from .records import KINDS, PLAIN, SEALED, split
 from .sheets import plural
@@ -219,7 +219,7 @@ def text_of(data: bytes) -> Optional[tuple[str, str]]:
             text = data.decode(code)
         except UnicodeDecodeError:
             continue
-        if all(letter.isprintable() or letter.isspace() or letter == END for letter in text):
+        if all(is_printed(letter) or letter.isspace() or letter == END for letter in text):
             return text.replace(END, ""), said
     return None
 

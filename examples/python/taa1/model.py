@@ -120,6 +120,12 @@ def _entry(desk: Desk, index: int, entry: Entry, record: bytes, ring: Ring) -> d
     }
 
 
+def model_json(model: dict[str, Any]) -> dict[str, Any]:
+    """The model answer for programs, which read masks as hexadecimal digits."""
+    masks = {name: value.hex() for name, value in sitting_values(model["sitting"]) if "mask" in name}
+    return {**model, "sitting": {**model["sitting"], **masks}}
+
+
 def model_text(model: dict[str, Any]) -> str:
     """The model answer as lines of text, with the field's names beside the desk's."""
     lines = ["sitting"]

@@ -6,16 +6,17 @@ reported with its number.
 
 from __future__ import annotations
 
-from typing import Any, Iterator, NamedTuple, Optional
+import re
+from typing import Any, Callable, Iterator, NamedTuple, Optional
 
 from .calls import CALLS
 from .desk import Desk, refusals
-from .engine import Refused, Sitting
-from .files import Problem, from_hex, is_text, place, read
+from .engine import MOST_RECORDS, Refused, Sitting
+from .files import Problem, from_hex, place, read
+from .files import text as as_text
+from .names import KIND_NAMES
 from .records import KINDS, PLAIN, RING, Entry, Ring, split, whole
-
-DIGITS = frozenset("0123456789abcdefABCDEF")
-
+from .values import IDENTITY, MASK, decimal, hexadecimal, string, without_0x
 
 class Name(NamedTuple):
     """A name of a text: a string of so many bytes, or a number that fills them; or words,
@@ -51,6 +52,9 @@ RESPONSES = (Name("response1", 4), Name("response2", 4))
 RING_MADE_BYTES = RING + 8
 
 
+OLD_MAC = "its lines end as an old Mac's, with CR alone: convert them (tr '\\r' '\\n' does so)"
+
+
 def lines_of(text: str) -> Iterator[tuple[int, str]]:
     """The lines that say something, with their numbers."""
     for number, line in enumerate(text.split("\n"), 1):
@@ -60,12 +64,17 @@ def lines_of(text: str) -> Iterator[tuple[int, str]]:
 
 
 def text_of(data: bytes, where: str) -> str:
-    """The bytes as text; a mark of byte order in front is left out."""
-    try:
-        return data.decode("utf-8-sig")
-    except UnicodeDecodeError as error:
-        line = data[: error.start].count(b"\n") + 1
-        raise Problem(f"{where}, line {line}: not UTF-8") from None
+    """The bytes as lines of text."""
+    found = as_text(data)
+    if found is None:
+        try:
+            found = data.decode("utf-8-sig")
+        except UnicodeDecodeError as error:
+            line = data[: error.start].count(b"\n") + 1
+            raise Problem(f"{where}, line {line}: not UTF-8") from None
+    if re.search(r"\r(?!\r*(\n|\Z))", found):
+        raise Problem(f"{where}: {OLD_MAC}")
+    return found
 
 
 def _value(name: Name, text: str) -> bytes:
@@ -74,20 +83,11 @@ def _value(name: Name, text: str) -> bytes:
         if not text.strip():
             raise ValueError("no words")
         return text.strip().encode()
+    if not name.number:
+        return string(text.split(), name.length)
     digits = "".join(text.split())
-    bad = sorted(set(digits) - DIGITS)
-    if bad:
-        raise ValueError(f"{bad[0]!r} is no hexadecimal digit")
-    if name.number and digits:
-        number = int(digits, 16)
-        if number >> 8 * name.length:
-            raise ValueError(f"more than {2 * name.length} hexadecimal digits")
-        return number.to_bytes(name.length, "big")
-    if len(digits) % 2:
-        raise ValueError(f"an odd number of hexadecimal digits, {len(digits)}")
-    if len(digits) != 2 * name.length:
-        raise ValueError(f"{len(digits) // 2} bytes, not {name.length}")
-    return bytes.fromhex(digits)
+    number = hexadecimal(digits, MASK) if name.length == 2 else decimal(digits, 255)
+    return number.to_bytes(name.length, "big")
 
 
 def parse_names(text: str, wanted: tuple[Name, ...], where: str) -> dict[str, bytes]:
@@ -125,7 +125,7 @@ def format_names(wanted: tuple[Name, ...], data: bytes) -> str:
     lines = []
     for name in wanted:
         value, data = data[: name.length], data[name.length :]
-        digits = f"{whole(value):x}" if name.number and name.length == 1 else value.hex()
+        digits = str(value[0]) if name.number and name.length == 1 else value.hex()
         lines.append(f"{name.name:{wide}} = {digits}\n")
     return "".join(lines)
 
@@ -160,9 +160,10 @@ def format_sitting(data: bytes, heading: Heading = Heading()) -> str:
 def parse_sitting(data: bytes, where: str) -> tuple[Sitting, Heading]:
     """The sitting in a file's content, and its heading: names, or the bytes that makering
     reads, also in hexadecimal, which have no heading."""
-    if is_text(data) and b"=" not in data:
-        data = from_hex(data.decode(), where)
-    if len(data) == SITTING_BYTES and not is_text(data):
+    text = as_text(data)
+    if text and "=" not in text:
+        data, text = from_hex(text, where), None
+    if len(data) == SITTING_BYTES and not text:
         return sitting_of(data), Heading()
     if b"=" not in data:
         raise Problem(f"{where}: {len(data)} bytes, where a sitting has {SITTING_BYTES} or names")
@@ -188,16 +189,17 @@ def read_ring(desk: Desk, name: str) -> Ring:
     its names, d, o, c and g.
     """
     where, data = place(name), read(name)
-    if is_text(data) and b"=" not in data:
-        data = from_hex(data.decode(), where)
-    if len(data) in (RING, RING_MADE_BYTES) and not is_text(data):
+    text = as_text(data)
+    if text and "=" not in text:
+        data, text = from_hex(text, where), None
+    if len(data) in (RING, RING_MADE_BYTES) and not text:
         return Ring.of(data)
-    if is_text(data):
+    if text:
         lines = [line for _, line in lines_of(text_of(data, where))]
         names = {line.partition("=")[0].strip().lower() for line in lines}
         if "d" in names:
             wanted = RING_NAMES + RESPONSES if "response1" in names else RING_NAMES
-            values = parse_names(data.decode(), wanted, where)
+            values = parse_names(text, wanted, where)
             return Ring(*(values[key.name] for key in RING_NAMES))
     elif len(data) != SITTING_BYTES and b"=" not in data:
         lengths = f"a ring has {RING} or {RING_MADE_BYTES}, a sitting {SITTING_BYTES} or names"
@@ -214,52 +216,71 @@ def make_ring(desk: Desk, sitting: Sitting, where: str) -> dict[str, bytes]:
 # ---- books
 
 _WORDS = ("kind", "identity", "version", "key", "number")
+_FORM = "an entry is `kind K identity I version V key HEX number N`, in any order"
 
 
 def is_lines(text: str) -> bool:
     """Whether a text is a book in lines."""
-    first = next((line for _, line in lines_of(text)), "-")
-    return first.split()[0] in ("entry", "entries", *_WORDS)
+    first = next((line for _, line in lines_of(text)), "")
+    return not {"entry", "entries", *_WORDS}.isdisjoint(first.lower().split())
 
 
-def _decimal(word: str, most: int, what: str) -> int:
-    if not (word.isascii() and word.isdigit()):
-        raise ValueError(f"{what} {word!r} is no decimal number")
-    if len(word) > 20 or int(word) > most:
-        raise ValueError(f"{what} {word[:20]} is above {most}")
-    return int(word)
+def _fields(words: list[str]) -> dict[str, list[str]]:
+    """What stands behind each word of a line; a key may have spaces. Raises ValueError."""
+    fields: dict[str, list[str]] = {}
+    last = ""
+    for word in words:
+        name = word.lower()
+        if name in ("entry", *_WORDS):
+            if name in fields:
+                raise ValueError(f"{name} for the second time")
+            fields[name] = []
+            last = name
+        elif not last or (fields[last] and last != "key"):
+            raise ValueError(f"{word!r} is no word of an entry: {_FORM}")
+        else:
+            fields[last].append(word)
+    return fields
 
 
-def _digits(word: str, length: int, what: str) -> bytes:
-    if set(word) - DIGITS:
-        raise ValueError(f"{what} {word!r} is not hexadecimal")
-    if len(word) != 2 * length:
-        raise ValueError(f"{what} has {len(word)} hexadecimal digits, not {2 * length}")
-    return bytes.fromhex(word)
+def _entry(fields: dict[str, list[str]]) -> Entry:
+    """The entry of a line's fields. Raises ValueError."""
+
+    def word(name: str, wanted: str) -> str:
+        if not fields.get(name):
+            raise ValueError(f"no {name}: wanted {wanted}; {_FORM}")
+        return fields[name][0]
+
+    number = _named("kind", decimal, word("kind", f"1 to {max(KINDS)}"), 255)
+    if number not in KINDS:
+        raise ValueError(f"kind {number}: wanted 1 to {max(KINDS)}")
+    kind, names = KINDS[number], KIND_NAMES[number]
+    identity = _named(
+        "identity", hexadecimal, word("identity", f"{IDENTITY} hexadecimal digits"), IDENTITY
+    )
+    version = _named("version", decimal, word("version", "a decimal number"), 0xFFFF)
+    word("key", f"{2 * kind.key} hexadecimal digits")
+    key = _named(f"key of kind {number}:", string, fields["key"], kind.key)
+    key_number: Optional[int] = None
+    if kind.number:
+        wanted = f"a decimal number up to {names.highest}"
+        key_number = _named("number", decimal, word("number", wanted), names.highest)
+    elif fields.get("number", ["-"]) != ["-"]:
+        raise ValueError(f"number {fields['number'][0]!r}: kind {number} has none: leave it out")
+    return Entry(number, identity, version, key, key_number)
 
 
 def entry_of(words: list[str]) -> Entry:
-    """The entry of a line's words behind the index. Raises ValueError."""
-    if words[0::2] != list(_WORDS) or len(words) != 2 * len(_WORDS):
-        raise ValueError("no line of the form [entry I] " + " .. ".join(_WORDS) + " ..")
-    values = dict(zip(_WORDS, words[1::2]))
-    number = _decimal(values["kind"], 255, "kind")
-    if number not in KINDS:
-        raise ValueError(f"kind {number} is none of 1 to {max(KINDS)}")
-    kind = KINDS[number]
-    if kind.number:
-        key_number: Optional[int] = _decimal(values["number"], 0xFFFF, "number")
-    elif values["number"] != "-":
-        raise ValueError(f"kind {number} has no number: write -")
-    else:
-        key_number = None
-    return Entry(
-        number,
-        whole(_digits(values["identity"], 3, "identity")),
-        _decimal(values["version"], 0xFFFF, "version"),
-        _digits(values["key"], kind.key, "key"),
-        key_number,
-    )
+    """The entry of a line's words behind the index, in any order. Raises ValueError."""
+    return _entry(_fields(words))
+
+
+def _named(name: str, read: Callable[..., Any], *given: Any) -> Any:
+    """A value of a name; a ValueError has it in front."""
+    try:
+        return read(*given)
+    except ValueError as error:
+        raise ValueError(f"{name} {error}") from None
 
 
 def parse_lines(desk: Desk, text: str, where: str) -> bytes:
@@ -276,26 +297,25 @@ def parse_lines(desk: Desk, text: str, where: str) -> bytes:
         try:
             if count is not None:
                 raise ValueError("a line after the count of entries")
-            if words[0] == "entries":
-                if len(words) != 2:
-                    raise ValueError("no line of the form entries N")
-                count = _decimal(words[1], 1 << 32, "the count")
+            if words[0].lower() == "entries":
+                count = _named("entries", decimal, " ".join(words[1:]), MOST_RECORDS)
                 if count != len(records):
                     raise ValueError(f"entries {count}, where there are {len(records)}")
                 continue
             records.append(b"")
-            if words[0] == "entry":
-                index = _decimal(words[1], 1 << 32, "entry") if words[1:] else None
-                if index != len(records) - 1:
-                    raise ValueError(f"entry {index}, where entry {len(records) - 1} stands")
-                words = words[2:] or [""]
-            record = entry_of(words).data
+            fields = _fields(words)
+            index = " ".join(fields.pop("entry", [str(len(records) - 1)]))
+            if index != str(len(records) - 1):
+                raise ValueError(f"entry {index!r}, where entry {len(records) - 1} stands")
+            record = _entry(fields).data
             desk.call("check_plain", record)
             records[-1] = record
         except Refused as refused:
             wrong.append(f"{where}, line {number}: refused {refused.number} ({refused.name})")
         except ValueError as error:
             wrong.append(f"{where}, line {number}: {error}")
+    if not records and count is None and not wrong:
+        wrong.append(f"{where}: no entry in it: {_FORM}")
     if wrong:
         raise Problem(*wrong)
     return b"".join(records)
@@ -311,10 +331,11 @@ def format_lines(plain: bytes) -> str:
 def read_plain(desk: Desk, name: str, raw: bool = False) -> bytes:
     """A well-formed plain book, in lines, hexadecimal or bytes."""
     where, data = place(name), read(name)
-    if not raw and is_text(data) and is_lines(data.decode()):
+    text = None if raw else as_text(data)
+    if text and (is_lines(text) or not any(lines_of(text))):
         data = parse_lines(desk, text_of(data, where), where)
-    elif not raw and is_text(data):
-        data = from_hex(data.decode(), where)
+    elif text:
+        data = from_hex(text, where)
     with refusals(where):
         desk.call("check_plain", data)
     return data
@@ -363,8 +384,8 @@ def _sheet_record(operation: str, words: list[str], index: dict[str, int]) -> by
         raise ValueError(f"no operation {operation!r}: they are {', '.join(OPERATIONS)}")
     code = OPERATIONS.index(operation)
     if code == 0:
-        digits = "".join(words)
-        value = _digits(digits, 10 if len(digits) < 32 else 16, "the key given")
+        digits = "".join(map(without_0x, words))
+        value: bytes = _named("the key given:", string, [digits], 10 if len(digits) < 32 else 16)
         return bytes(5) + bytes([len(value)]) + value.ljust(VALUE, b"\0")
     if len(words) != 2:
         raise ValueError(f"{operation} takes two parents, not {len(words)}")

@@ -1,0 +1,46 @@
+"""What `taa1 --help` prints: the commands in the order of the work, an example each."""
+
+from __future__ import annotations
+
+import argparse
+from typing import Mapping
+
+EXAMPLES: dict[str, str] = {
+    "draw": "taa1 draw -o sitting.txt",
+    "book": "taa1 book model.txt -o model.bin",
+    "model": "taa1 model sitting.txt model.txt",
+    "paper": "taa1 paper sitting.txt model.txt --html paper",
+    "seal": "taa1 seal sitting.txt model.txt -o sealed.book",
+    "mark": "taa1 mark sitting.txt model.txt class --html pages",
+    "scheme": "taa1 scheme -o scheme.txt",
+    "slips": "taa1 slips",
+    "check": "taa1 check model.txt",
+    "list": "taa1 list model.bin",
+    "sitting": "taa1 sitting sitting.txt -o sitting.bin",
+    "ring": "taa1 ring sitting.txt -o ring",
+    "open": "taa1 open ring sealed.book --lines",
+    "columns": "taa1 columns sealed sealed.book -o archive",
+    "lineage": "taa1 lineage sheet.txt",
+    "card": "taa1 card '010203?? 04050607 07??0906 0a0b0c0d'",
+    "cell": "taa1 cell 0102030405060708090a 0036024d0554471c990f",
+    "schedule": "taa1 schedule 00112233445566778899aabbccddeeff",
+    "diffusion": "taa1 diffusion --draw 100",
+    "tables": "taa1 tables",
+    "help": "taa1 help mark",
+    "call": "taa1 call tb7 --group-key 0102030405060708090a0b0c",
+}
+_OPTIONS = """
+taa1 help COMMAND says what a command's options are, taa1 help kinds what the kinds of
+entries are called, and taa1 --version which version this is.
+"""
+
+
+def overview(says: str, commands: Mapping[str, argparse.ArgumentParser]) -> str:
+    """The commands in the order of the work."""
+    wide = max(map(len, commands)) + 4
+    lines = ["usage: taa1 COMMAND ..", "", says.strip(), "", "The commands, in the order of the work:"]
+    for name in [*(name for name in EXAMPLES if name in commands), *(set(commands) - set(EXAMPLES))]:
+        what = (commands[name].description or "").rstrip(".")
+        lines.append(f"  {name:{wide - 2}}{what[:1].lower()}{what[1:]}")
+        lines.append(f"{'':{wide}}{EXAMPLES.get(name, '')}".rstrip())
+    return "\n".join(lines) + "\n" + _OPTIONS
