@@ -31,7 +31,19 @@ License: MIT
 Requires-Python: >=3.9
 """
 WHEEL = f"Wheel-Version: 1.0\nGenerator: {NAME}\nRoot-Is-Purelib: false\nTag: {TAG}\n"
-COMMANDS = f"[console_scripts]\n{NAME} = taa1.cli:main\n"
+# The command; as the repository's, it ends without a word if it is interrupted early.
+COMMAND = """#!python
+import _signal as signal
+
+if signal.getsignal(signal.SIGINT) is signal.default_int_handler:
+    signal.signal(signal.SIGINT, signal.SIG_DFL)
+
+import sys
+
+from taa1.cli import main
+
+sys.exit(main())
+"""
 
 
 def contents() -> dict[str, bytes]:
@@ -45,7 +57,7 @@ def contents() -> dict[str, bytes]:
         found["taa1/printtables"] = printtables.read_bytes()
     found[f"{INFO}/METADATA"] = METADATA.encode()
     found[f"{INFO}/WHEEL"] = WHEEL.encode()
-    found[f"{INFO}/entry_points.txt"] = COMMANDS.encode()
+    found[f"{NAME}-{VERSION}.data/scripts/{NAME}"] = COMMAND.encode()
     return found
 
 
@@ -67,7 +79,7 @@ def build_wheel(
         for name, data in found.items():
             entry = zipfile.ZipInfo(name)
             entry.compress_type = zipfile.ZIP_DEFLATED
-            program = name == "taa1/printtables"
+            program = name == "taa1/printtables" or "/scripts/" in name
             entry.external_attr = (0o100755 if program else 0o100644) << 16
             archive.writestr(entry, data)
     return made

@@ -1,8 +1,13 @@
 """python3 -m taa1: the desk."""
 
-import sys
-
-from .cli import main
+import signal
 
 if __name__ == "__main__":
+    if signal.getsignal(signal.SIGINT) is signal.default_int_handler:
+        signal.signal(signal.SIGINT, signal.SIG_DFL)  # it ends without a word, until main speaks
+
+    import sys
+
+    from .cli import main
+
     sys.exit(main())

@@ -6,7 +6,6 @@ import os
 import shutil
 import subprocess
 import sys
-import tempfile
 from pathlib import Path
 
 VARIABLE = "TAA1_LIBRARY"
@@ -70,13 +69,11 @@ def make() -> None:
         _run("rt", "staticlib", "engine", folder=root)
     if library.exists() and library.stat().st_mtime >= archive.stat().st_mtime:
         return
-    handle, made = tempfile.mkstemp(dir=library.parent, prefix=f".{NAME}.")
-    os.close(handle)
+    made = library.with_name(f".{NAME}.{os.getpid()}")
     try:
         whole = ("-Wl,--whole-archive", str(archive), "-Wl,--no-whole-archive")
-        _run("cc", "-shared", "-o", made, *whole, folder=root)
+        _run("cc", "-shared", "-o", str(made), *whole, folder=root)
         os.chmod(made, 0o755)
         os.replace(made, library)
-    except BaseException:
-        os.unlink(made)
-        raise
+    finally:
+        made.unlink(missing_ok=True)

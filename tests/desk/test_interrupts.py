@@ -1,0 +1,152 @@
+"""Interrupts: no traceback and no temporary file, and of pages all or the old ones."""
+
+from __future__ import annotations
+
+import os
+import signal
+import subprocess
+import sys
+import time
+from types import FrameType
+from typing import Any, Callable, Optional
+
+from common import CLASS, COMMAND, ROOT, Case
+from taa1 import files
+
+OLD = {"a.html": b"old a", "b.html": b"old b", "unwanted.html": b"old"}
+NEW = {"a.html": b"new a", "b.html": b"new b", "c.html": b"new c"}
+
+# Runs a script, and interrupts it when it imports a module.
+IMPORTING = """
+import os, runpy, signal, sys
+when, sys.argv = sys.argv[1], sys.argv[2:]
+class Interrupt:
+    def find_spec(self, name, path=None, target=None):
+        if name == when:
+            os.kill(os.getpid(), signal.SIGINT)
+sys.meta_path.insert(0, Interrupt())
+runpy.run_path(sys.argv[0], run_name="__main__")
+"""
+
+
+class Lines(Case):
+    """A signal at every line of the module that writes files."""
+
+    def interrupted(self, at: int, work: Callable[[], None], number: int) -> Optional[bool]:
+        """Whether work was interrupted by a signal at a line; None if it has fewer."""
+        lines = 0
+
+        def trace(frame: FrameType, event: str, arg: Any) -> Any:
+            nonlocal lines
+            code = frame.f_code
+            if code.co_filename != files.__file__ or code.co_name in ("interruptible", "interrupt"):
+                return None
+            if event == "line":
+                lines += 1
+                if lines == at:
+                    os.kill(os.getpid(), number)
+            return trace
+
+        try:
+            with files.interruptible():
+                sys.settrace(trace)
+                try:
+                    work()
+                finally:
+                    sys.settrace(None)
+        except files.Interrupted as interrupted:
+            self.assertEqual(interrupted.number, number)
+            return True
+        return None if lines < at else False
+
+    def content(self) -> dict[str, bytes]:
+        """What is in the folder."""
+        return {path.name: path.read_bytes() for path in self.folder.iterdir()}
+
+    def every_line(self, work: Callable[[], None], before: dict[str, bytes], after: dict[str, bytes]) -> None:
+        """The folder is as before or as after, wherever the signal comes."""
+        handlers = [signal.getsignal(each) for each in files.SIGNALS]
+        seen = set()
+        for number in (signal.SIGINT, signal.SIGTERM):
+            at, came = 0, None
+            while came is not None or at == 0:
+                at += 1
+                for path in self.folder.iterdir():
+                    path.unlink()
+                for name, data in before.items():
+                    self.file(name, data)
+                came = self.interrupted(at, work, number)
+                self.assertIn(self.content(), (before, after), at)
+                seen.add((came, self.content() == after))
+            self.assertGreater(at, 10)
+        self.assertEqual(handlers, [signal.getsignal(each) for each in files.SIGNALS])
+        self.assertEqual(signal.pthread_sigmask(signal.SIG_BLOCK, ()) & files.SIGNALS, set())
+        self.assertLessEqual({(True, False), (True, True), (None, True)}, seen)
+
+    def test_folder(self) -> None:
+        def work() -> None:
+            files.write_folder(str(self.folder), NEW, unwanted=["unwanted.html"])
+
+        self.every_line(work, OLD, NEW)
+
+    def test_file(self) -> None:
+        name = str(self.folder / "a.html")
+        self.every_line(lambda: files.write_file(name, b"new"), {"a.html": b"old"}, {"a.html": b"new"})
+
+    def test_new_file(self) -> None:
+        name = str(self.folder / "a.html")
+        self.every_line(lambda: files.write_file(name, b"new", True, True), {}, {"a.html": b"new"})
+
+
+class Command(Case):
+    """The command, interrupted."""
+
+    def test_importing(self) -> None:
+        """From our first line on."""
+        for module in ("taa1", "taa1.engine", "ctypes", "argparse", "taa1.cli", "taa1.slips"):
+            with self.subTest(module):
+                command = [sys.executable, "-c", IMPORTING, module, str(ROOT / "taa1"), "slips"]
+                done = subprocess.run(command, capture_output=True, check=False, timeout=60)
+                self.assertEqual((done.stdout, done.stderr), (b"", b""))
+                self.assertEqual(done.returncode, -signal.SIGINT)
+
+    def test_marking(self) -> None:
+        """At some time of the marking: the status says so, and nothing is half done."""
+        books = (CLASS / "ann.book").read_bytes()
+        (self.folder / "class").mkdir()
+        for number in range(200):
+            self.file(f"class/{number}.book", books[:21] + bytes(21) + books[42:])
+        pages = self.folder / "pages"
+        command = [*COMMAND, "mark", str(CLASS / "sitting.txt"), str(CLASS / "model.txt"), "class"]
+        command += ["--html", "pages"]
+        start = time.monotonic()
+        subprocess.run(command, cwd=self.folder, stdout=subprocess.DEVNULL, check=True)
+        whole = time.monotonic() - start
+        before = {path.name: path.stat().st_ino for path in pages.iterdir()}
+        for part in range(1, 8):
+            for number in (signal.SIGINT, signal.SIGTERM, signal.SIGHUP):
+                run = subprocess.Popen(command, cwd=self.folder, stdout=subprocess.DEVNULL, stderr=subprocess.PIPE)
+                time.sleep(whole * part / 8)
+                run.send_signal(number)
+                error = (run.communicate()[1] or b"").decode()
+                self.assertIn((run.returncode, error), (
+                    (0, ""), (128 + number, "taa1: interrupted\n"), (-number, ""),
+                ))  # fmt: skip
+                now = {path.name: path.stat().st_ino for path in pages.iterdir()}
+                self.assertEqual(set(now), set(before))
+                same = sum(now[name] == before[name] for name in now)
+                self.assertIn(same, (0, len(now)))
+                before = now
+
+    def test_ignored(self) -> None:
+        """A signal that was ignored before is ignored still, as for a job in the background."""
+        code = "import signal, sys; signal.signal(signal.SIGINT, signal.SIG_IGN); "
+        code += "import os; os.execv(sys.argv[1], sys.argv[1:])"
+        command = [sys.executable, "-c", code, *COMMAND, "list"]
+        run = subprocess.Popen(command, stdin=subprocess.PIPE, stdout=subprocess.PIPE, stderr=subprocess.PIPE)
+        time.sleep(0.5)
+        run.send_signal(signal.SIGINT)
+        out, error = run.communicate(b"", timeout=60)
+        self.assertEqual((run.returncode, out, error), (0, b"entries 0\n", b""))
+
+
