@@ -17,6 +17,7 @@ use Rattle.standard.specs.Lists.{recordAt, each, firstFault, refused, an
 use Rattle.standard.specs.Refusals.{wrongLength, long, first}
 use Rattle.standard.specs.Runs.{firstPass, secondPass, acceptedRuns}
 use Rattle.standard.specs.Sizes.{ringSize, mostRecords}
+use Rattle.standard.specs.declared.BookAnswer.{BookAnswer}
 use Rattle.standard.proofs.BookLaws.{Book}
 use Rattle.standard.proofs.FirstLaws.{testAt, all-pass}
 
@@ -139,6 +140,20 @@ module _ (head n : ℕ) (g : ℕ → ℕ) (written : ℕ) where
       go true false r = refl
       go false t r = refl
 
+-- the refusal and the index do not hang on the bytes written
+pub answer-alike : (head n : ℕ) (g : ℕ → ℕ) (v w : ℕ)
+    → (answer head n g v .refusal ≡ answer head n g w .refusal) × (answer head n g v .index ≡ answer head n g w .index)
+unfolding answer
+answer-alike head n g v w = go (eqb head 0) (eqb (firstFault n g) n)
+  where
+    made : Bool → Bool → ℕ → BookAnswer
+    made s t k = choose s (choose t (record { refusal = 0; index = n; written = k }) (refused (g (firstFault n g)) (firstFault n g))) (refused head 0)
+
+    go : (s t : Bool) → (made s t v .refusal ≡ made s t w .refusal) × (made s t v .index ≡ made s t w .index)
+    go true true = (refl, refl)
+    go true false = (refl, refl)
+    go false t = (refl, refl)
+
 -- ---- the lengths
 
 -- bytes are a book of records without a fault exactly if refusals 1, 2 and the records' do not apply
@@ -186,6 +201,13 @@ module _ (W : Way) (r xs out : List ℕ) where
 
   pub call-lengths : bookCall W r xs out .0 .refusal ≡ 0 → (length r ≡ ringSize) × (W .to * n ≤ length out)
   call-lengths e = let t = call-tests e .0 in (eqb-true _ _ (t 0), leb-true _ _ (t 3))
+
+  -- what is written fits the output
+  pub written-fits : bookCall W r xs out .0 .refusal ≡ 0 → bookCall W r xs out .0 .written ≤ length out
+  unfolding bookCall written
+  written-fits e =
+      let a = is-accepted (first tests) n g (W .to * n) e in
+      rw (accepted (first tests) n g (W .to * n) (a .0) (a .1)) (call-lengths e .1)
 
   pub call-refuses : (bookCall W r xs out .0 .refusal ≡ 0 → ⊥) → (bookCall W r xs out .0 .written ≡ 0) × (bookCall W r xs out .1 ≡ out)
   unfolding bookCall written

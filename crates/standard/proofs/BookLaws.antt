@@ -55,6 +55,11 @@ module _ (v : ℕ) (g : ℕ → List ℕ) where
       go (inr l) ih =
           part-left (v * i) v (joined n g) (g n) (omega (arith, joined-length n h′, mul-le-mul-left v l, mul-suc v i)) ∙ ih l
 
+  -- and with something behind them
+  pub joined-front : (n : ℕ) → ((i : ℕ) → i < n → length (g i) ≡ v) → (rest : List ℕ) (i : ℕ) → i < n → part (v * i) v (joined n g ++ rest) ≡ g i
+  joined-front n h rest i k =
+      part-left (v * i) v (joined n g) rest (omega (arith, joined-length n h, mul-le-mul-left v k, mul-suc v i)) ∙ joined-at n h i k
+
 -- ---- a book, record by record
 
 pub each-same : (n w v : ℕ) (f g : List ℕ → List ℕ) (xs ys : List ℕ)

@@ -15,8 +15,8 @@ use Rattle.standard.specs.Cards.{unreadable, readable, gapsOn, gaps, few
 use Rattle.standard.specs.Mixing.{tb7}
 use Rattle.standard.specs.Refusals.{wrongLength, groupUnreadable, groupDisagrees, long, first}
 use Rattle.standard.proofs.BytesLaws.{table-at, table-same, spell, bytes-append, bytes-cons, bytes-nil, bytes-part, and-split, and-join}
-use Rattle.standard.proofs.FirstLaws.{all-pass}
-use Rattle.standard.proofs.GapLaws.{Group, end, place, count, rest, filled, Fits, fits-long, Decides, group-decided, Joined, join, both-decided, same-decided}
+use Rattle.standard.proofs.FirstLaws.{all-pass, not-first}
+use Rattle.standard.proofs.GapLaws.{Group, end, place, count, rest, filled, Fits, fits-long, Decides, group-decided, fits-right, Joined, join, both-decided, same-decided}
 use Rattle.standard.proofs.XorLaws.{xor-cancel-r, xor-byte}
 
 -- ---- the readable bytes, by the mask's bits and as a string
@@ -232,6 +232,25 @@ module _ (x : List ℕ) (m : ℕ) (h : Bytes 16 x) where
       let a : everyGroup (agrees (readable x m) m) ≡ true = and-join (and-join (and-join (g₀ .1) (g₄ .1)) (g₈ .1)) (g₁₂ .1) in
       rw (eq-eqb _ _ (h .len), f, a)
 
+  -- a form of the card agrees in every group that is readable
+  group-right : (a : ℕ) (ys : List ℕ) → G a ys → not (eqb (gaps m a) 0) || eqb (rest 0 (group a)) 0 ≡ true
+  group-right a ys f =
+      subst (λ (n : ℕ). not (eqb n 0) || eqb (rest 0 (group a)) 0 ≡ true) (counted 4 a) (fits-right (group a) ys f)
+
+  forms-agree : (z : List ℕ) → Forms z → everyGroup (agrees (readable x m) m) ≡ true
+  unfolding readable
+  forms-agree z f =
+      let g = f .right-has in
+      let i = g .right-has in
+      and-join (and-join (and-join (group-right 0 (f .left) (f .left-has)) (group-right 4 (g .left) (g .left-has))) (group-right 8 (i .left) (i .left-has)))
+      (group-right 12 (i .right) (i .right-has))
+
+  -- so where a readable group disagrees there is none
+  no-form : first tests ≡ groupDisagrees → None (FormOf x m)
+  no-form e z f =
+      not-first groupDisagrees ((long 16 x, wrongLength) ∷ (everyGroup (few m), groupUnreadable) ∷ []) refl
+      (rw (forms-agree z (to-forms z f)) at e)
+
   -- exactly one form where nothing is refused, none or several where something is
   one-form : first tests ≡ 0 → OnlyOne (FormOf x m) (restored (readable x m) m)
   one-form z = subst (λ (b : Bool). Decides b (FormOf x m) (restored (readable x m) m)) (all-right z) decided
@@ -258,5 +277,6 @@ card-law = record {
       let e = key-of (f .0) (restored (readable x m) m) (f .1) (f .2) in
       rw z (o, record { has = (subst (Bytes 12) e (f .1), ap tb7 (sym e) ∙ f .2); only = λ k q. key-of k (restored (readable x m) m) (q .0) (q .1) });
   refuses = λ x m h. (λ n. not-one x m h n, λ s z. one-alone (one-form x m h z) s);
+  disagrees = λ x m h e. no-form x m h e;
   unseen = λ x y m hx hy s. rw (eq-eqb _ _ hx, eq-eqb _ _ hy, same-string m x y s);
 }

@@ -26,7 +26,7 @@ or-test a b = go (eqb a 0) refl (eqb b 0) refl
     go false es t et = ne-eqb (a ∣ b) 0 (λ (e : a ∣ b ≡ 0). eqb-false a 0 es (omega (arith, or-add-and a b, and-le-r a b)))
 
 -- a difference is 0 exactly if both are the same
-xor-test : (a b : ℕ) → eqb (b ⊕ a) 0 ≡ eqb a b
+pub xor-test : (a b : ℕ) → eqb (b ⊕ a) 0 ≡ eqb a b
 xor-test a b = go (eqb a b) refl
   where
     go : (t : Bool) → eqb a b ≡ t → eqb (b ⊕ a) 0 ≡ t
@@ -68,7 +68,7 @@ pub none-failed : (xs ys : List ℕ) → length xs ≡ length ys → eqb (failed
 none-failed xs ys l = failed-same true xs ys l
 
 -- an algorithm finds as much as it wants
-as-many : (a : Algorithm) (u : List ℕ) → length (formOf a .found u) ≡ length (formOf a .wanted u)
+pub as-many : (a : Algorithm) (u : List ℕ) → length (formOf a .found u) ≡ length (formOf a .wanted u)
 as-many Ta31 u = refl
 as-many Ta51 u = refl
 as-many Ta81 u = refl
@@ -111,3 +111,21 @@ failed-below [] = omega arith
 failed-below (d ∷ ds) =
     let below : choose (eqb d 0) 0 1 + 2 * failedOf ds < 2 * 2 ^ length ds = omega (arith, failed-below ds, fails-bit d) in
     subst (λ (x : ℕ). failedOf (d ∷ ds) < x) (sym (pow-succ' 2 (length ds))) below
+
+-- check i is the difference of what is found and wanted there
+pub difference-at : (xs ys : List ℕ) → length xs ≡ length ys → (i : ℕ) → i < length xs → differences xs ys ! i ≡ ys ! i ⊕ xs ! i
+difference-at [] ys l i h = omega arith
+difference-at (x ∷ xs) [] l i h = absurd (suc-ne-zero (length xs) l)
+difference-at (x ∷ xs) (y ∷ ys) l zero h = refl
+difference-at (x ∷ xs) (y ∷ ys) l (suc i) h = difference-at xs ys (suc-inj l) i (omega (arith, h))
+
+pub differences-long : (xs ys : List ℕ) → length xs ≡ length ys → length (differences xs ys) ≡ length xs
+differences-long [] ys l = refl
+differences-long (x ∷ xs) [] l = absurd (suc-ne-zero (length xs) l)
+differences-long (x ∷ xs) (y ∷ ys) l = ap suc (differences-long xs ys (suc-inj l))
+
+-- so bit i is 0 where both are the same, and 1 where not
+pub failed-at : (xs ys : List ℕ) → length xs ≡ length ys → (i : ℕ) → i < length xs → bit i (failedOf (differences xs ys)) ≡ choose (eqb (xs ! i) (ys ! i)) 0 1
+failed-at xs ys l i h =
+    failed-bit (differences xs ys) i (omega (arith, h, differences-long xs ys l))
+    ∙ ap (λ (t : Bool). choose t 0 1) (ap (λ (d : ℕ). eqb d 0) (difference-at xs ys l i h) ∙ xor-test (xs ! i) (ys ! i))

@@ -1,30 +1,38 @@
--- The facts that the requests ask for (02), proved.
+-- The facts that the requests ask for (02), and one of 01's, proved.
 -- Assumes nothing.
 use mathlib.Core.Bool.{Bool, true, false, _&&_}
 use mathlib.Core.List.{List, [], _∷_, _++_}
 use mathlib.Core.Logic.{_↔_}
-use mathlib.Core.Path.{_≡_, refl, sym, ap, ap₂, fun-ext, _∙_}
-use Prim.Native.Nat.{ℕ, zero, suc, _^_, _<_}
+use mathlib.Core.Path.{_≡_, refl, sym, ap, ap₂, subst, fun-ext, _∙_}
+use Prim.Native.Nat.{ℕ, zero, suc, _*_, _/_, _^_, _<_}
 use native.Mathlib.Nat.{suc-ne-zero}
-use lib.Bits.{xor-zero-r}
+use native.Mathlib.Omega.{arith}
 use lib.Dec.{eqb}
-use lib.ListN.{length}
-use borrow.Author.Tests.{eqb-true, eqb-false, eq-eqb, ne-eqb}
-use Rattle.standard.specs.Books.{recordKind, sealingKey, openRecord, openFault, openLook, bookCall, openBook}
-use Rattle.standard.specs.Bytes.{_!_, bit, part, xors, zeros, choose}
+use lib.ListN.{length, drop, List·getD-append}
+use lib.Pow.{pow-pos}
+use borrow.Author.Tests.{eqb-true, eqb-false, eq-eqb, ne-eqb, le-leb}
+use Rattle.standard.specs.Books.{recordKind, sealingKey, plainFault, openRecord, openFault, openLook, bookCall, sealBook, openBook, checkPlain}
+use Rattle.standard.specs.Bytes.{_!_, bit, part, zeros, bytesOf, choose}
+use Rattle.standard.specs.Classes.{classRecord, ta12ClassCall}
 use Rattle.standard.specs.Cores.{bl1With, bl1}
-use Rattle.standard.specs.Derivation.{core, ta11, ta21, chosen, ta12Call, sidesTest, ring, long7, ringCall}
-use Rattle.standard.specs.Facts.{BothSides, IdleChallenge, OneSide, OrIsFlag, ChecksBits, flagClear, FlagIsNonzero, OrIsZero, flagFault, SameBooks}
+use Rattle.standard.specs.Derivation.{core, ta11, ta21, ta41, chosen, ta12Call, sidesTest, ring, long7, ringCall}
+use Rattle.standard.specs.Expansions.{inserted, expected, exp3Groups}
+use Rattle.standard.specs.Facts.{BothSides, OneSide, IdleChallenge, SingleCalls, OrIsFlag, ChecksBits, groupsOf, checkCount, sealingLength, failedChecks, openedBy, FailedChecks, flagClear, FlagIsNonzero, OrIsZero, flagFault, SameBooks, SameChecks}
+use Rattle.standard.specs.Lists.{recordAt, each, lengthTests, listTests, written}
 use Rattle.standard.specs.Mixing.{tb4, tb7}
 use Rattle.standard.specs.Refusals.{wrongLength, long, maskTests, first, ringMade}
-use Rattle.standard.specs.Seals.{checks, failed, clear, formOf, form, opened, fails, clears}
-use Rattle.standard.specs.Sizes.{plainSize, sealedSize}
+use Rattle.standard.specs.Seals.{checks, failed, clear, formOf, form, opened, fails, ta32Call, ta52Call, ta82Call, ta92Call}
+use Rattle.standard.specs.Sizes.{plainSize, sealedSize, challengeSize, authenticationSize}
 use Rattle.standard.specs.declared.Algorithm.{Algorithm}
 use Rattle.standard.specs.declared.Algorithm.the-variants.{Ta31, Ta51, Ta81, Ta91}
+use Rattle.standard.specs.declared.Authentication.{Authentication}
+use Rattle.standard.specs.declared.Version.{Version}
+use Rattle.standard.proofs.AnswerLaws.{is-accepted, accepted, answer-alike}
+use Rattle.standard.proofs.BookLaws.{joined-front}
 use Rattle.standard.proofs.BytesLaws.{spelled, long-spelled}
-use Rattle.standard.proofs.CheckLaws.{clear-same, or-clear, failed-bit, failed-below}
+use Rattle.standard.proofs.CheckLaws.{as-many, clear-same, or-clear, failed-bit, failed-below, failed-at}
 use Rattle.standard.proofs.DerivationLaws.{masks-ones, length-chosen, long7-split}
-use Rattle.standard.proofs.FirstLaws.{all-pass, none-fails}
+use Rattle.standard.proofs.FirstLaws.{testAt, all-pass, none-fails}
 
 -- ---- one-sided authentication (02, 1)
 
@@ -47,57 +55,109 @@ core-long k seed = refl
 core-spelled : (k seed : List ℕ) → part 0 16 (core k seed) ≡ core k seed
 core-spelled k seed = long-spelled 16 (core k seed) (core-long k seed)
 
-module _ (root rs rso rand1 rand2 c gk : List ℕ) (sides rm km : ℕ) where
-  abbrev tests : List (Bool × ℕ)
-  tests = (long7 root rs rso rand1 rand2 c gk, wrongLength) ∷ sidesTest sides ∷ maskTests rm km
+abbrev recipeTests : (root rs rso rand1 rand2 c gk : List ℕ) (sides rm km : ℕ) → List (Bool × ℕ)
+recipeTests root rs rso rand1 rand2 c gk sides rm km = (long7 root rs rso rand1 rand2 c gk, wrongLength) ∷ sidesTest sides ∷ maskTests rm km
 
-  -- what an accepted recipe's tests say
-  lengths : first tests ≡ 0 → long7 root rs rso rand1 rand2 c gk ≡ true
-  lengths z = all-pass tests refl z 0
+-- an accepted recipe
+module _ (root rs rso rand1 rand2 c gk : List ℕ) (sides rm km : ℕ) (z : first (recipeTests root rs rso rand1 rand2 c gk sides rm km) ≡ 0) where
+  passed : (i : ℕ) → testAt (recipeTests root rs rso rand1 rand2 c gk sides rm km) i ≡ true
+  passed = all-pass (recipeTests root rs rso rand1 rand2 c gk sides rm km) refl z
 
-  masks : first tests ≡ 0 → first (maskTests rm km) ≡ 0
-  masks z = let p = all-pass tests refl z in none-fails (maskTests rm km) (λ i. p (suc (suc i)))
+  masks : first (maskTests rm km) ≡ 0
+  masks = none-fails (maskTests rm km) (λ i. passed (suc (suc i)))
+
+  -- each side's call passes too, and gives what its half gives
+  side1 : let o = core (ta11 root rs) rand1 in ta12Call (ta11 root rs) rand1 rm km ≡ record { refusal = 0; response = chosen rm o; key = chosen km o }
+  side1 = ta12-passes (ta11 root rs) rand1 rm km (core-long root rs) (long7-split root rs rso rand1 rand2 c gk (passed 0) .3) masks
+
+  side2 : let o = core (ta21 root rs) rand2 in ta12Call (ta21 root rs) rand2 rm km ≡ record { refusal = 0; response = chosen rm o; key = chosen km o }
+  side2 = ta12-passes (ta21 root rs) rand2 rm km (core-long root _) (long7-split root rs rso rand1 rand2 c gk (passed 0) .4) masks
+
+  -- the other keys behind D
+  behind : (d : List ℕ) → d ++ part 0 16 (ta41 root rso) ++ part 0 10 c ++ tb7 gk ≡ d ++ ta41 root rso ++ c ++ tb7 gk
+  behind d =
+      ap₂ (λ (o k : List ℕ). d ++ o ++ k ++ tb7 gk) (core-spelled root rso)
+      (long-spelled 10 c (long7-split root rs rso rand1 rand2 c gk (passed 0) .5))
 
 pub both-sides : BothSides
 unfolding ringCall ring
 both-sides root rs rso rand1 rand2 c gk rm km =
-    ring-same (first (tests root rs rso rand1 rand2 c gk 3 rm km)) _ _ _ _ _ _
+    ring-same (first ((long7 root rs rso rand1 rand2 c gk, wrongLength) ∷ maskTests rm km)) _ _ _ _ _ _
     (λ z.
-    let s = long7-split root rs rso rand1 rand2 c gk (lengths root rs rso rand1 rand2 c gk 3 rm km z) in
-    let m = masks root rs rso rand1 rand2 c gk 3 rm km z in
-    let a = ta12-passes (ta11 root rs) rand1 rm km (core-long root rs) (s .3) m in
-    let b = ta12-passes (ta21 root rs) rand2 rm km (core-long root _) (s .4) m in
     let d = tb4 (chosen km (core (ta11 root rs) rand1)) (chosen km (core (ta21 root rs) rand2)) in
-    rw (a, b) (ap₂ (λ (o k : List ℕ). d ++ o ++ k ++ tb7 gk) (core-spelled root rso) (long-spelled 10 c (s .5)), refl, refl))
-
-pub idle-challenge : IdleChallenge
-unfolding ringCall ring
-idle-challenge = record {
-  ta12-alone = λ root rs rso rand1 c gk rm km x y hx hy. rw (eq-eqb _ _ hx, eq-eqb _ _ hy);
-  ta22-alone = λ root rs rso rand2 c gk rm km x y hx hy. rw (eq-eqb _ _ hx, eq-eqb _ _ hy);
-}
-
-xors-zeros : (k : List ℕ) → length k ≡ 10 → xors 10 k (zeros 10) ≡ k
-xors-zeros k e = simp xor-zero-r (spelled 10 k e)
-
-chosen10 : (km : ℕ) (o : List ℕ) → km < 2 ^ 16 → (rm : ℕ) → first (maskTests rm km) ≡ 0 → length (chosen km o) ≡ 10
-chosen10 km o h rm m = length-chosen km o h ∙ masks-ones rm km m .1
+    rw (side1 root rs rso rand1 rand2 c gk 3 rm km z, side2 root rs rso rand1 rand2 c gk 3 rm km z)
+    (behind root rs rso rand1 rand2 c gk 3 rm km z d, refl, refl))
 
 pub one-side : OneSide
 unfolding ringCall ring
 one-side = record {
-  ta12-alone = λ root rs rso rand1 rand2 c gk rm km h z.
-      let s = long7-split root rs rso rand1 rand2 c gk (lengths root rs rso rand1 rand2 c gk 1 rm km z) in
-      let m = masks root rs rso rand1 rand2 c gk 1 rm km z in
-      let a = ta12-passes (ta11 root rs) rand1 rm km (core-long root rs) (s .3) m in
-      let o = core (ta11 root rs) rand1 in
-      rw (z, a) (xors-zeros (chosen km o) (chosen10 km o h rm m), refl);
-  ta22-alone = λ root rs rso rand1 rand2 c gk rm km h z.
-      let s = long7-split root rs rso rand1 rand2 c gk (lengths root rs rso rand1 rand2 c gk 2 rm km z) in
-      let m = masks root rs rso rand1 rand2 c gk 2 rm km z in
-      let b = ta12-passes (ta21 root rs) rand2 rm km (core-long root _) (s .4) m in
-      let o = core (ta21 root rs) rand2 in
-      rw (z, b) (spelled 10 (chosen km o) (chosen10 km o h rm m), refl);
+  ta12-alone = λ root rs rso rand1 rand2 c gk rm km.
+      ring-same (first ((long7 root rs rso rand1 rand2 c gk, wrongLength) ∷ maskTests rm km)) _ _ _ _ _ _
+      (λ z.
+      let d = tb4 (chosen km (core (ta11 root rs) rand1)) (zeros 10) in
+      rw (side1 root rs rso rand1 rand2 c gk 1 rm km z) (behind root rs rso rand1 rand2 c gk 1 rm km z d, refl, refl));
+  ta22-alone = λ root rs rso rand1 rand2 c gk rm km.
+      ring-same (first ((long7 root rs rso rand1 rand2 c gk, wrongLength) ∷ maskTests rm km)) _ _ _ _ _ _
+      (λ z.
+      let d = tb4 (zeros 10) (chosen km (core (ta21 root rs) rand2)) in
+      rw (side2 root rs rso rand1 rand2 c gk 2 rm km z) (behind root rs rso rand1 rand2 c gk 2 rm km z d, refl, refl));
+}
+
+pub idle-challenge : IdleChallenge
+unfolding ringCall ring
+idle-challenge = record {
+  ta12-alone = λ root rs rso rand1 c gk rm km x y h. rw h;
+  ta22-alone = λ root rs rso rand2 c gk rm km x y h. rw h;
+}
+
+-- ---- a whole class of challenges (02, 2)
+
+record-long : (ks : List ℕ) (rm km : ℕ) (x : List ℕ) → length (classRecord ks rm km x) ≡ authenticationSize
+unfolding classRecord
+record-long ks rm km x = refl
+
+-- an accepted class
+module _ (ks xs : List ℕ) (rm km : ℕ) (out : List ℕ) (z : ta12ClassCall ks xs rm km out .0 .refusal ≡ 0) where
+  abbrev n : ℕ
+  n = length xs / challengeSize
+
+  abbrev tests : List (Bool × ℕ)
+  tests = (long 16 ks, wrongLength) ∷ listTests challengeSize authenticationSize (length xs) (length out) ++ maskTests rm km
+
+  none-refuses : first tests ≡ 0
+  unfolding ta12ClassCall written
+  none-refuses = is-accepted (first tests) n (λ i. 0) (authenticationSize * n) z .0
+
+  class-masks : first (maskTests rm km) ≡ 0
+  class-masks = none-fails (maskTests rm km) (λ i. all-pass tests refl none-refuses (suc (suc (suc (suc i)))))
+
+  all-written : ta12ClassCall ks xs rm km out .1 ≡ each n challengeSize (classRecord ks rm km) xs ++ drop (authenticationSize * n) out
+  unfolding ta12ClassCall written
+  all-written = rw (accepted (first tests) n (λ i. 0) (authenticationSize * n) none-refuses (λ i h. refl))
+
+  class-record : (i : ℕ) → i < n → recordAt authenticationSize (ta12ClassCall ks xs rm km out .1) i ≡ classRecord ks rm km (recordAt challengeSize xs i)
+  class-record i h =
+      rw all-written
+      (joined-front authenticationSize (λ j. classRecord ks rm km (recordAt challengeSize xs j)) n (λ j k. record-long ks rm km _) (drop (authenticationSize * n) out) i h)
+
+  single : (i : ℕ) → let x = recordAt challengeSize xs i in
+      ta12Call ks x rm km ≡ record { refusal = 0; response = chosen rm (core ks x); key = chosen km (core ks x) }
+  single i = ta12-passes ks (recordAt challengeSize xs i) rm km (all-pass tests refl none-refuses 0) refl class-masks
+
+  -- masks of sixteen bits choose four bytes and ten
+  spelled4 : (o : List ℕ) → rm < 2 ^ 16 → part 0 4 (chosen rm o) ≡ chosen rm o
+  spelled4 o h = spelled 4 (chosen rm o) (length-chosen rm o h ∙ masks-ones rm km class-masks .0)
+
+  spelled10 : (o : List ℕ) → km < 2 ^ 16 → part 0 10 (chosen km o) ≡ chosen km o
+  spelled10 o h = spelled 10 (chosen km o) (length-chosen km o h ∙ masks-ones rm km class-masks .1)
+
+pub single-calls : SingleCalls
+unfolding classRecord
+single-calls = record {
+  answers = λ ks xs rm km out z i h. (ap (λ (a : Authentication). a .refusal) (single ks xs rm km out z i), class-record ks xs rm km out z i h);
+  whole = λ ks xs rm km out hr hk z i h.
+      class-record ks xs rm km out z i h
+      ∙ rw (single ks xs rm km out z i) (ap₂ _++_ (spelled4 ks xs rm km out z _ hr) (spelled10 ks xs rm km out z _ hk));
 }
 
 -- ---- the flag without branches (02, 3)
@@ -117,18 +177,89 @@ or-is-flag k s v t =
 
 -- ---- part marks for redundancy (02, 6)
 
--- a bit that is 1 exactly where a check is not 0
-one-where : (b d : ℕ) → b ≡ choose (eqb d 0) 0 1 → (b ≡ 1) ↔ (d ≡ 0 → ⊥)
-one-where b d e = go (eqb d 0) refl e
+-- a bit that is 1 exactly where two numbers differ
+one-where : (b x y : ℕ) → b ≡ choose (eqb x y) 0 1 → (b ≡ 1) ↔ (x ≡ y → ⊥)
+one-where b x y e = go (eqb x y) refl e
   where
-    go : (t : Bool) → eqb d 0 ≡ t → b ≡ choose t 0 1 → (b ≡ 1) ↔ (d ≡ 0 → ⊥)
-    go true z h = (λ o. absurd (suc-ne-zero 0 (sym o ∙ h)), λ n. absurd (n (eqb-true d 0 z)))
-    go false z h = (λ o. eqb-false d 0 z, λ n. h)
+    go : (t : Bool) → eqb x y ≡ t → b ≡ choose t 0 1 → (b ≡ 1) ↔ (x ≡ y → ⊥)
+    go true z h = (λ o. absurd (suc-ne-zero 0 (sym o ∙ h)), λ n. absurd (n (eqb-true x y z)))
+    go false z h = (λ o. eqb-false x y z, λ n. h)
 
 pub checks-bits : ChecksBits
 checks-bits = record {
-  bits = λ k u i h. one-where _ (checks (form k) u ! i) (failed-bit (checks (form k) u) i h);
+  bits = λ k u i h. one-where _ (checks (form k) u ! i) 0 (failed-bit (checks (form k) u) i h);
   below = λ k u. failed-below (checks (form k) u);
+}
+
+-- how many checks there are
+check-count : (a : Algorithm) (u : List ℕ) → length (checks (formOf a) u) ≡ checkCount a
+check-count Ta31 u = refl
+check-count Ta51 u = refl
+check-count Ta81 u = refl
+check-count Ta91 u = refl
+
+-- the test of an unsealing call
+abbrev passes : Algorithm → (t s : List ℕ) → Bool
+passes a t s = eqb (first ((long 15 t && long (sealingLength a) s, wrongLength) ∷ [])) 0
+
+-- an answer's number, and 0 in a refusal
+below-both : (t : Bool) (n k : ℕ) → n < 2 ^ k → choose t n 0 < 2 ^ k
+below-both true n k h = h
+below-both false n k h = pow-pos k
+
+fails-below : (a : Algorithm) (s v t : List ℕ) → fails (formOf a) s v t < 2 ^ checkCount a
+unfolding fails
+fails-below a s v t =
+    let u = opened (formOf a .key s v) t in
+    subst (λ (k : ℕ). failed (formOf a) u < 2 ^ k) (check-count a u) (failed-below (checks (formOf a) u))
+
+no-other : (a : Algorithm) (t s : List ℕ) (v : Version) → failedChecks a t s v < 2 ^ checkCount a
+unfolding ta32Call ta52Call ta82Call ta92Call
+no-other Ta31 t s v = below-both (passes Ta31 t s) _ 5 (fails-below Ta31 s (bytesOf 2 (v .0)) t)
+no-other Ta51 t s v = below-both (passes Ta51 t s) _ 5 (fails-below Ta51 s (bytesOf 2 (v .0)) t)
+no-other Ta81 t s v = below-both (passes Ta81 t s) _ 3 (fails-below Ta81 s (bytesOf 2 (v .0)) t)
+no-other Ta91 t s v = below-both (passes Ta91 t s) _ 3 (fails-below Ta91 s (bytesOf 2 (v .0)) t)
+
+-- where the lengths pass, a call answers the number of its form
+failed-by : (a : Algorithm) (t s : List ℕ) (v : Version) → length t ≡ 15 → length s ≡ sealingLength a → failedChecks a t s v ≡ failed (formOf a) (openedBy a t s v)
+unfolding ta32Call ta52Call ta82Call ta92Call fails
+failed-by Ta31 t s v ht hs = rw (eq-eqb _ _ ht, eq-eqb _ _ hs)
+failed-by Ta51 t s v ht hs = rw (eq-eqb _ _ ht, eq-eqb _ _ hs)
+failed-by Ta81 t s v ht hs = rw (eq-eqb _ _ ht, eq-eqb _ _ hs)
+failed-by Ta91 t s v ht hs = rw (eq-eqb _ _ ht, eq-eqb _ _ hs)
+
+-- the inserted bytes are the first that a form looks at, each against the ⊕ of its group
+pub record Looks (a : Algorithm) (u : List ℕ) (i : ℕ) : Type 0 where
+  pub within : i < length (formOf a .found u)
+  pub found : formOf a .found u ! i ≡ inserted (groupsOf a) 0 u ! i
+  pub wanted : formOf a .wanted u ! i ≡ expected (groupsOf a) 0 u ! i
+
+looks-inserted : (a : Algorithm) (u : List ℕ) (i : ℕ) → i < length (groupsOf a) → Looks a u i
+looks-inserted Ta31 u i h = record { within = h; found = refl; wanted = refl }
+looks-inserted Ta51 u i h = record {
+  within = omega arith;
+  found = List·getD-append (inserted exp3Groups 0 u) (u ! 13 / 32 ∷ []) 0 i h;
+  wanted = List·getD-append (expected exp3Groups 0 u) (0 ∷ []) 0 i h;
+}
+looks-inserted Ta81 u i h = record { within = h; found = refl; wanted = refl }
+looks-inserted Ta91 u i h = record { within = h; found = refl; wanted = refl }
+
+-- bit i of a call's number, by what its form finds and wants
+bit-of : (a : Algorithm) (t s : List ℕ) (v : Version) → length t ≡ 15 → length s ≡ sealingLength a → (i : ℕ)
+    → let u = openedBy a t s v in
+    i < length (formOf a .found u) → (bit i (failedChecks a t s v) ≡ 1) ↔ (formOf a .found u ! i ≡ formOf a .wanted u ! i → ⊥)
+bit-of a t s v ht hs i h =
+    let u = openedBy a t s v in
+    one-where _ _ _ (ap (bit i) (failed-by a t s v ht hs) ∙ failed-at (formOf a .found u) (formOf a .wanted u) (as-many a u) i h)
+
+pub failed-checks : FailedChecks
+failed-checks = record {
+  many = check-count;
+  no-other = no-other;
+  inserted-bit = λ a t s v ht hs i h.
+      let l = looks-inserted a (openedBy a t s v) i h in
+      rw (l .found, l .wanted) at (bit-of a t s v ht hs i (l .within));
+  number-bit = λ t s v ht hs. bit-of Ta51 t s v ht hs 4 (omega arith);
 }
 
 pub flag-is-nonzero : FlagIsNonzero
@@ -153,3 +284,11 @@ unfolding openBook
 same-books r s out =
     ap (λ (g : List ℕ → ℕ). bookCall (record { size = sealedSize; to = plainSize; fault = g; look = openLook; convert = openRecord r }) r s out)
     (fun-ext (same-fault r))
+
+-- ---- plainlist's checks (01)
+
+pub same-checks : SameChecks
+unfolding sealBook bookCall checkPlain written
+same-checks r p out hr room =
+    rw (eq-eqb _ _ hr, le-leb _ _ room)
+    (answer-alike (first (lengthTests plainSize (length p))) (length p / plainSize) (λ i. plainFault (recordAt plainSize p i)) _ 0)

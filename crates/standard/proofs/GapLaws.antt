@@ -12,7 +12,7 @@ use lib.Bits.{xor-comm, xor-self, xor-zero-r}
 use lib.Dec.{eqb, leb}
 use lib.ListN.{length, take, drop}
 use lib.Seq.{take-at, drop-at}
-use borrow.Author.Tests.{eqb-true, eqb-false, leb-true, leb-false}
+use borrow.Author.Tests.{eqb-true, eqb-false, eq-eqb, leb-true, leb-false}
 use Rattle.standard.specs.Bytes.{_!_, _⊕_, choose}
 use Rattle.standard.specs.Cards.{OnlyOne, None, Several}
 use Rattle.standard.proofs.XorLaws.{xor-assoc, xor-cancel-r, xor-byte}
@@ -184,6 +184,14 @@ group-decided g = go (leb (count g) 1) refl (eqb (count g) 0) refl (eqb (rest 0 
         let one : count g ≡ 1 = one-of (count g) (leb-true _ 1 ea) (eqb-false _ 0 eb) in
         record { has = one-gap g 0 one (omega arith); only = λ z f. one-gap-only g 0 z one f }
     go false ea b eb c ec = inr (two-gaps g 0 (leb-false _ 1 ea) (omega arith))
+
+-- where something fits a group without gaps, the ⊕ is right
+pub fits-right : (g : Group) (ys : List ℕ) → Fits g 0 ys → not (eqb (count g) 0) || eqb (rest 0 g) 0 ≡ true
+fits-right g ys f = go (eqb (count g) 0) refl
+  where
+    go : (b : Bool) → eqb (count g) 0 ≡ b → not b || eqb (rest 0 g) 0 ≡ true
+    go true e = eq-eqb (rest 0 g) 0 (no-gap-only g 0 ys (eqb-true (count g) 0 e) f .1)
+    go false e = refl
 
 -- the strings in two parts
 pub record Joined (P Q : List ℕ → Type 0) (z : List ℕ) : Type 0 where

@@ -9,13 +9,13 @@ use lib.Dec.{eqb}
 use lib.ListN.{length, drop}
 use borrow.Author.Tests.{ltb-true, eqb-false, ne-eqb}
 use Rattle.standard.specs.Bytes.{part, choose}
-use Rattle.standard.specs.Lineage.{operation, parent1, parent2, derivedFilled, parentTests, lineageFault, derived, valueFrom, valueWithin, valueOf, lineageCall, WithParents, LineageLaw, LineageSound}
+use Rattle.standard.specs.Lineage.{operation, parent1, parent2, derivedFilled, parentTests, lineageFault, derived, valueFrom, valueWithin, valueOf, lineageCall, WithParents, LineageLaw, Ancestor, itself, by-first, by-second, AncestorLaw, LineageSound}
 use Rattle.standard.specs.Lists.{recordAt, joined, listTests, written}
 use Rattle.standard.specs.Refusals.{wrongFilling, first}
 use Rattle.standard.specs.Sizes.{sheetSize, valueSize}
 use Rattle.standard.proofs.AnswerLaws.{is-accepted, accepted}
-use Rattle.standard.proofs.BookLaws.{joined-length, joined-at}
-use Rattle.standard.proofs.BytesLaws.{and-split, part-left}
+use Rattle.standard.proofs.BookLaws.{joined-front}
+use Rattle.standard.proofs.BytesLaws.{and-split}
 use Rattle.standard.proofs.FirstLaws.{all-pass}
 
 -- a given key has no parents to look at
@@ -104,10 +104,7 @@ module _ (s out : List ℕ) (z : lineageCall s out .0 .refusal ≡ 0) where
   -- what is written for a record is its value
   written-value : (i : ℕ) → i < n → recordAt valueSize (lineageCall s out .1) i ≡ valueOf s i
   written-value i h =
-      let long : (j : ℕ) → j < n → length (valueOf s j) ≡ valueSize = λ j k. value-long s j in
-      rw all-written
-      (part-left (valueSize * i) valueSize (joined n (valueOf s)) (drop (valueSize * n) out) (omega (arith, joined-length valueSize (valueOf s) n long))
-      ∙ joined-at valueSize (valueOf s) n long i h)
+      rw all-written (joined-front valueSize (valueOf s) n (λ j k. value-long s j) (drop (valueSize * n) out) i h)
 
   sound : (i : ℕ) → i < n
       → let p = recordAt sheetSize s i in
@@ -124,6 +121,10 @@ pub lineage-law : LineageLaw
 lineage-law s t out₁ out₂ y z A closed agree i a h k =
     let e = same-value s t A closed agree i a in
     (e, written-value s out₁ y i h ∙ e ∙ sym (written-value t out₂ z i k))
+
+pub ancestor-law : AncestorLaw
+ancestor-law s t out₁ out₂ y z i h k agree =
+    lineage-law s t out₁ out₂ y z (Ancestor s i) (λ j a n. (by-first j a n, by-second j a n)) agree i itself h k
 
 pub lineage-sound : LineageSound
 lineage-sound s out z i h = sound s out z i h

@@ -11,7 +11,7 @@ use lib.ListN.{length}
 use borrow.Author.Tests.{leb-true}
 use Rattle.standard.specs.Bytes.{_!_, _⊕_, table, part, xors, zeros}
 use Rattle.standard.specs.Hurdle.{Halves, round, rounds, crypt, D, a, rotl, next, Q, schedule, roundKey, encrypt, decrypt}
-use Rattle.standard.specs.Register.{step, stepBack, turned, State, start, onward, backward, joined, encryptRegister, decryptRegister, StepBack, Returns, BeginsAnew, SameCipher}
+use Rattle.standard.specs.Register.{step, stepBack, turned, State, start, onward, backward, joined, encryptRegister, decryptRegister, StepBack, Returns, KeyAgain, BeginsAnew, SameCipher}
 use Rattle.standard.specs.Tables.{runningSum, turn}
 use Rattle.standard.proofs.BytesLaws.{table-at, table-same, spelled, every, every-at}
 use Rattle.standard.proofs.ScheduleLaws.{Q-linear, round-key}
@@ -154,6 +154,13 @@ backward-is (suc n) key s l e h =
     ap (stepBack (15 - n)) (p .0 ∙ ap (Q key) e) ∙ Q-undone key (15 - n) l (omega arith) in
     let e′ : 15 - n ≡ 16 - suc n = omega arith in
     (q ∙ ap (Q key) e′, ap₂ (λ (x : List ℕ) (y : Halves). round (part 4 12 x) y) q (p .1))
+
+pub key-again : KeyAgain
+unfolding Q
+key-again = record {
+  encrypting = λ key b h. onward-is 16 key (start key b) refl .0 ∙ Q-back key h;
+  decrypting = λ key b h. backward-is 16 key (start key b) h refl (omega arith) .0;
+}
 
 pub same-cipher : SameCipher
 unfolding encryptRegister decryptRegister encrypt decrypt crypt

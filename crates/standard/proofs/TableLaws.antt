@@ -78,13 +78,12 @@ placed-more out i h p = record { long = length-set out (S ! i) i ∙ p .long; at
         ∙ getD-set-same out (S ! i) i 0 (omega (arith, permuted i h .s-byte, p .long))
         ∙ sym same
 
--- all of them: the table is the inverse
-pub placed-all : (out : List ℕ) → Placed out 256 → out ≡ inverse S
+-- all of them: the table is the stored inverse
+pub placed-all : (out : List ℕ) → Placed out 256 → out ≡ S⁻¹
 placed-all out p =
     sym (spelled 256 out (p .long))
     ∙ table-same 256 (λ y. out ! y) (λ y. S⁻¹ ! y) (λ y h. ap (_!_ out) (sym (permuted y h .s-inverse)) ∙ p .at (S⁻¹ ! y) (permuted y h .inverse-byte))
     ∙ spelled 256 S⁻¹ inverse-long
-    ∙ sym inverse-made
   where
     inverse-long : length S⁻¹ ≡ 256
     inverse-long = ap length (sym inverse-made) ∙ long-inverse

@@ -100,5 +100,7 @@ pub record CardLaw : Type 0 where
       × OnlyOne (λ k. Bytes 12 k × (tb7 k ≡ restoreCall x m .card)) (restoreCall x m .key)
   -- it is refused exactly if there is none or there are several
   pub refuses : (x : List ℕ) (m : ℕ) → Bytes 16 x → (restoreCall x m .refusal ≡ 0 → ⊥) ↔ (None (FormOf x m) ⊎ Several (FormOf x m))
+  -- 19 means that there is none
+  pub disagrees : (x : List ℕ) (m : ℕ) → Bytes 16 x → restoreCall x m .refusal ≡ groupDisagrees → None (FormOf x m)
   -- what stands at the unreadable places changes nothing
   pub unseen : (x y : List ℕ) (m : ℕ) → length x ≡ 16 → length y ≡ 16 → SameReadable m x y → restoreCall x m ≡ restoreCall y m

@@ -77,7 +77,12 @@ pub record StepBack : Type 0 where
 abbrev pub Returns : Type 0
 Returns = (key : List ℕ) → length key ≡ 16 → turned key 16 ≡ key
 
--- so n steps are those of n modulo 16
+-- and so does the cipher's own register, after the sixteen rounds of encryption and after those of decryption
+pub record KeyAgain : Type 0 where
+  pub encrypting : (key b : List ℕ) → length key ≡ 16 → onward 16 (start key b) .register ≡ key
+  pub decrypting : (key b : List ℕ) → length key ≡ 16 → backward 16 (start key b) .register ≡ key
+
+-- n steps are those of n modulo 16
 abbrev pub BeginsAnew : Type 0
 BeginsAnew = (key : List ℕ) (n : ℕ) → length key ≡ 16 → turned key n ≡ turned key (n % 16)
 

@@ -6,9 +6,9 @@ use Prim.Native.Nat.{ℕ, zero, suc, _+_, _*_, _<_, _≤_}
 use native.Mathlib.Numerals.{add-one}
 use native.Mathlib.Omega.{arith}
 use lib.ListN.{length}
-use Rattle.standard.proofs.TableLaws.{line-length, text-length}
+use Rattle.standard.proofs.TableLaws.{inverse-made, line-length, text-length}
 use Rattle.standard.specs.Bytes.{_!_, part}
-use Rattle.standard.specs.Hurdle.{S}
+use Rattle.standard.specs.Hurdle.{S, S⁻¹}
 use Rattle.standard.specs.Tables.{inverse, rotations, spaced, tableLine, tableLines, tablesText, tablesCall}
 use Rattle.standard.specs.Text.{ascii, hexByte, textCall}
 use Rattle.text.proofs.LineLaws.{append, put-over, put-none, put-next, uncut, write-short, write-whole}
@@ -45,9 +45,12 @@ module _ (out : List ℕ) where
   pub short : length out < 816 → (record { refusal = 12; written = 0 }, out) ≡ tablesCall out
   short h = write-short tablesText out (sym text-length) h
 
-  pub whole : {at n : ℕ} {line out₁ exit : List ℕ} → 816 ≤ length out → (at, out₁) ≡ putCall 0 (tableLines 16 (inverse S)) out → line ≡ tableLine rotations
+  pub whole : {at n : ℕ} {line out₁ exit : List ℕ} → 816 ≤ length out → (at, out₁) ≡ putCall 0 (tableLines 16 S⁻¹) out → line ≡ tableLine rotations
       → (n, exit) ≡ putCall at line out₁ → (record { refusal = 0; written = 816 }, exit) ≡ tablesCall out
   unfolding tablesText
   whole h a e b =
       write-whole tablesText out (sym text-length) h
-      (put-over 0 tablesText out (put-next (tableLines 16 (inverse S)) (tableLine rotations) out a (rw e at b)))
+      (put-over 0 tablesText out (put-next (tableLines 16 (inverse S)) (tableLine rotations) out (a ∙ made) (rw e at b)))
+    where
+      made : putCall 0 (tableLines 16 S⁻¹) out ≡ putCall 0 (tableLines 16 (inverse S)) out
+      made = ap (λ (t : List ℕ). putCall 0 (tableLines 16 t) out) (sym inverse-made)

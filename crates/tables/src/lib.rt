@@ -6,16 +6,16 @@ use standard::TextAnswer;
 use text::Line;
 ghost use mathlib.Core.Path.{_≡_};
 ghost use lib.ListN.{length};
-ghost use Rattle.standard.specs.Hurdle.{S as sOf};
-ghost use Rattle.standard.specs.Tables.{inverse as inverseOf, rotations as rotationsOf, spaced as spacedOf, tableLine, tableLines, tablesCall};
+ghost use Rattle.standard.specs.Hurdle.{S⁻¹};
+ghost use Rattle.standard.specs.Tables.{rotations as rotationsOf, spaced as spacedOf, tableLine, tableLines, tablesCall};
 ghost use Rattle.text.specs.Lines.{shown, emptyLine, _▸_, putCall};
 
 // The bytes of the text: seventeen lines, each of sixteen entries of two digits with a space or the line's end behind it.
 pub const TABLES_TEXT: usize = 816;
 
-// Each index goes where S has it.
+// Each index goes where S has it. What that makes is the stored inverse.
 fn inverse() -> [u8; 256]
-    ensures { λ r. ⌜ r ≡ inverseOf sOf ⌝ }
+    ensures { λ r. ⌜ r ≡ S⁻¹ ⌝ }
 {
     let s = S;
     let mut out = [0u8; 256];
