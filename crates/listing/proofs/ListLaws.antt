@@ -2,26 +2,29 @@
 -- Assumes nothing.
 use mathlib.Core.Bool.{Bool, true, false, _&&_}
 use mathlib.Core.List.{List, [], _∷_, _++_}
-use mathlib.Core.Path.{_≡_, refl, sym, ap, ap₂, _∙_}
-use Prim.Native.Nat.{ℕ, zero, suc, _+_, _*_, _/_, _<_, _≤_}
+use mathlib.Core.Path.{_≡_, refl, sym, ap, _∙_}
+use Prim.Native.Nat.{ℕ, zero, suc, _+_, _*_, _/_, _≤_}
 use native.Mathlib.Numerals.{add-one}
 use native.Mathlib.Omega.{arith}
 use lib.Dec.{eqb, leb}
 use lib.ListN.{length, length-append}
-use borrow.Author.Tests.{leb-true, eq-eqb, ne-eqb}
+use lib.Seq.{take-all}
+use borrow.Author.Tests.{leb-true, eqb-true, eq-eqb, ne-eqb}
+use Rattle.standard.proofs.AnswerLaws.{is-accepted, lengths-fine}
 use Rattle.standard.proofs.BytesLaws.{and-split, length-table}
-use Rattle.standard.specs.Books.{recordKind, checkPlain}
+use Rattle.standard.specs.Books.{recordKind, plainFault, checkPlain}
 use Rattle.standard.specs.Lists.{recordAt}
 use Rattle.standard.specs.Bytes.{_!_, part, choose}
-use Rattle.standard.specs.Listing.{numberText, entryLine, entryLines, entriesLine, refusedLine, listing}
+use Rattle.standard.specs.Listing.{numberText, entryLine, entryLines, entriesLine, refusedLine, listing, listingRoom, listCall, ListingFits}
 use Rattle.standard.specs.Programs.{beside, meanings, meaning, meaningText, wroteText, answerText, answerLine, countedLine}
 use Rattle.standard.specs.Seals.{keyLength}
-use Rattle.standard.specs.Text.{hex, textCall}
+use Rattle.standard.specs.Sizes.{plainSize}
+use Rattle.standard.specs.Text.{hex}
 use Rattle.standard.specs.declared.BookAnswer.{BookAnswer}
 use Rattle.standard.specs.declared.CountedAnswer.{CountedAnswer}
 use Rattle.standard.specs.declared.Algorithm.the-variants.{Ta31, Ta51, Ta81, Ta91}
 use Rattle.standard.specs.declared.Algorithm.{Algorithm}
-use Rattle.text.proofs.LineLaws.{put-length, put-over, put-none, put-next, write-short, write-whole}
+use Rattle.text.proofs.LineLaws.{put-none, put-next}
 use Rattle.text.proofs.TextLaws.{digits-few, hex-twice}
 use Rattle.text.specs.Lines.{room, _▸_, putCall}
 use Rattle.text.specs.declared.Line.{Line}
@@ -98,6 +101,10 @@ unfolding entryLines
 lines-short zero p = omega arith
 lines-short (suc n) p = simp length-append (omega (arith, lines-short n p, entry-short n (recordAt 18 p n)))
 
+-- those of 1,024 records and the last line have room in the output
+pub entries-most : (n : ℕ) (p : List ℕ) → n ≤ 1024 → length (entryLines n p ++ entriesLine n) ≤ listingRoom
+entries-most n p h = simp length-append (omega (arith, h, lines-short n p, entries-short n))
+
 pub lines-none : (p out : List ℕ) → (0, out) ≡ putCall 0 (entryLines 0 p) out
 unfolding entryLines
 lines-none p out = put-none out
@@ -108,21 +115,10 @@ pub lines-next : (i : ℕ) (p out₀ : List ℕ) {at n : ℕ} {line out exit : L
 unfolding entryLines
 lines-next i p out₀ e f g = rw (add-one, ← e) (put-next (entryLines i p) _ out₀ f g)
 
-abbrev entriesText : ℕ → List ℕ → List ℕ
-entriesText n p = entryLines n p ++ entriesLine n
-
--- the lines' length, from an output of no bytes, and then the lines in the output
-module _ (n : ℕ) (p : List ℕ) {none last : List ℕ} {k s : ℕ} (e : (k, none) ≡ putCall 0 (entryLines n p) []) (f : last ≡ entriesLine n) (g : s ≡ length last) where
-  total : k + s ≡ length (entriesText n p)
-  total = ap₂ _+_ (put-length 0 (entryLines n p) [] e) (g ∙ ap length f) ∙ sym (length-append (entryLines n p) (entriesLine n))
-
-  module _ (out : List ℕ) where
-    pub entries-refused : length out < k + s → (record { refusal = 12; written = 0 }, out) ≡ textCall (entriesText n p) out
-    entries-refused h = write-short (entriesText n p) out total h
-
-    pub entries-written : k + s ≤ length out → {at m : ℕ} {out₁ exit : List ℕ} → (at, out₁) ≡ putCall 0 (entryLines n p) out → (m, exit) ≡ putCall at last out₁
-        → (record { refusal = 0; written = k + s }, exit) ≡ textCall (entriesText n p) out
-    entries-written h a b = write-whole (entriesText n p) out total h (put-over 0 (entriesText n p) out (put-next (entryLines n p) (entriesLine n) out a (rw f at b)))
+-- the last line behind those of the records
+pub entries-put : (n : ℕ) (p out₀ : List ℕ) {at k : ℕ} {line out exit : List ℕ} → line ≡ entriesLine n
+    → (at, out) ≡ putCall 0 (entryLines n p) out₀ → (k, exit) ≡ putCall at line out → (at + k, exit) ≡ putCall 0 (entryLines n p ++ entriesLine n) out₀
+entries-put n p out₀ e f g = put-next (entryLines n p) (entriesLine n) out₀ f (rw e at g)
 
 -- ---- the calls
 
@@ -154,6 +150,26 @@ module _ (p : List ℕ) {a : BookAnswer} (e : a ≡ checkPlain p) where
   pub listing-entries : a .refusal ≡ 0 → listing p ≡ entryLines (length p / 18) p ++ entriesLine (length p / 18)
   unfolding listing
   listing-entries z = rw (← e, eq-eqb _ _ z)
+
+-- an accepted book has at most 1,024 records, so that no listing is longer than its output
+pub accepted-few : (p : List ℕ) → checkPlain p .refusal ≡ 0 → length p / 18 ≤ 1024
+unfolding checkPlain
+accepted-few p z = omega (arith, lengths-fine plainSize plainFault p (is-accepted _ _ _ _ z .0) .0)
+
+pub listing-fits : ListingFits
+unfolding listing
+listing-fits p = go (eqb (checkPlain p .refusal) 0) refl
+  where
+    n : ℕ
+    n = length p / 18
+
+    go : (t : Bool) → eqb (checkPlain p .refusal) 0 ≡ t
+        → length (choose t (entryLines n p ++ entriesLine n) (refusedLine (checkPlain p .refusal) (checkPlain p .index))) ≤ listingRoom
+    go true e = entries-most n p (accepted-few p (eqb-true _ 0 e))
+    go false e = omega (arith, refused-short (checkPlain p .refusal) (checkPlain p .index))
+
+pub listed : (p out : List ℕ) {n : ℕ} {exit : List ℕ} → length out ≡ listingRoom → (n, exit) ≡ putCall 0 (listing p) out → (n, exit) ≡ listCall p out
+listed p out h e = e ∙ rw (take-all (length out) (listing p) (omega (arith, h, listing-fits p)))
 
 module _ (refusal index written : ℕ) where
   pub answer-refused : (refusal ≡ 0 → ⊥) → answerText refusal index written ≡ meaningText refusal index

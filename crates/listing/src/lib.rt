@@ -7,10 +7,10 @@ use books::check_plain;
 use records::kind_of;
 use standard::Algorithm;
 use standard::Kind;
-use standard::OUTPUT_SHORT;
+use standard::MOST_RECORDS;
 use standard::PLAIN_RECORD;
-use standard::TextAnswer;
 use text::Line;
+use text::ROOM;
 ghost use mathlib.Core.List.{_++_};
 ghost use mathlib.Core.Path.{_≡_};
 ghost use Prim.Native.Nat.{_+_, _-_, _*_, _≤_};
@@ -18,8 +18,11 @@ ghost use lib.ListN.{length, take, drop};
 ghost use Rattle.standard.specs.Bytes.{_!_};
 ghost use Rattle.standard.specs.Seals.{keyLength};
 ghost use Rattle.standard.specs.Listing.{numberText, entryLine, entryLines, entriesLine, refusedLine, listCall};
-ghost use Rattle.standard.specs.Text.{ascii, decimal, hex, textCall};
+ghost use Rattle.standard.specs.Text.{ascii, decimal, hex};
 ghost use Rattle.text.specs.Lines.{shown, emptyLine, _▸_, putCall};
+
+// Room for every listing: a line for each of 1,024 records, and the last one.
+pub const LISTING: usize = (MOST_RECORDS + 1) * ROOM;
 
 fn wide(x: u8) -> u64
     ensures { λ r. ⌜ r ≡ x ⌝ }
@@ -125,35 +128,23 @@ fn entry_lines(plain: &[u8], n: usize, out: &mut [u8]) -> usize
     at
 }
 
-// The lines of an accepted book's n records and the last line. Into an output of no bytes they only have their length.
-fn list_entries(plain: &[u8], n: usize, out: &mut [u8]) -> TextAnswer
+// The lines of an accepted book's n records, and the last line behind them; their length.
+fn list_entries(plain: &[u8], n: usize, out: &mut [u8]) -> usize
     requires { ⌜ (18 * n ≤ length (now plain)) × (n ≤ 1024) ⌝ }
-    ensures { λ r. ⌜ (r, now (out .exit)) ≡ textCall (entryLines n (now (plain .entry)) ++ entriesLine n) (now (out .entry)) ⌝ }
+    ensures { λ r. ⌜ (r, now (out .exit)) ≡ putCall 0 (entryLines n (now (plain .entry)) ++ entriesLine n) (now (out .entry)) ⌝ }
 {
-    let last = entries_line(n);
-    let mut none = [0u8; 0];
-    let written = entry_lines(plain, n, &mut none) + last.size();
-    if out.len() < written {
-        return TextAnswer {
-            refusal: OUTPUT_SHORT,
-            written: 0,
-        };
-    }
     let at = entry_lines(plain, n, out);
-    last.put(out, at);
-    TextAnswer {
-        refusal: 0,
-        written,
-    }
+    let last = entries_line(n).put(out, at);
+    at + last
 }
 
-// The listing of a plain book into the output; 12 if the output is shorter.
-pub fn list_plain(plain: &[u8], out: &mut [u8]) -> TextAnswer
+// The listing of a plain book over the front of an output that has room for every listing; its length.
+pub fn list_plain(plain: &[u8], out: &mut [u8; LISTING]) -> usize
     ensures { λ r. ⌜ (r, now (out .exit)) ≡ listCall (now (plain .entry)) (now (out .entry)) ⌝ }
 {
     let answer = check_plain(plain);
     if answer.refusal != 0 {
-        return refused_line(answer.refusal, answer.index).write(out);
+        return refused_line(answer.refusal, answer.index).put(out, 0);
     }
     list_entries(plain, plain.len() / 18, out)
 }

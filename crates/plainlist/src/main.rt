@@ -1,14 +1,15 @@
 // Reads a plain book from standard input to its end, and prints its listing, or the line of its refusal.
 use libc::STDERR_FILENO;
+use listing::LISTING;
 use listing::list_plain;
 use programs::read_input;
 use programs::write_output;
 use standard::MOST_RECORDS;
 use standard::PLAIN_RECORD;
-use text::ROOM;
 
-// Room for the lines of 1,024 records and for the last one.
-const LISTING: usize = (MOST_RECORDS + 1) * ROOM;
+fn print(listing: &[u8; LISTING], n: usize) {
+    write_output(b"plainlist", listing, n);
+}
 
 // The input has one byte more than the longest book, so that a longer one is seen to be longer.
 fn main() {
@@ -23,13 +24,6 @@ fn main() {
     }
     let n = input.len;
     let mut out = [0u8; LISTING];
-    let answer = list_plain(&plain[..n], &mut out);
-    if answer.refusal != 0 {
-        io::write_all(
-            STDERR_FILENO,
-            b"plainlist: the listing is longer than its buffer\n",
-        );
-        return;
-    }
-    write_output(b"plainlist", &out, answer.written);
+    let written = list_plain(&plain[..n], &mut out);
+    print(&out, written);
 }

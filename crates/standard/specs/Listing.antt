@@ -1,17 +1,16 @@
 -- The listing of a plain book (01, Program plainlist): the bytes that plainlist prints.
 -- Assumes nothing.
 use mathlib.Core.List.{List, [], _++_}
-use Prim.Native.Nat.{ℕ, zero, suc, _+_, _*_, _/_}
+use Prim.Native.Nat.{ℕ, zero, suc, _+_, _*_, _/_, _≤_}
 use lib.Dec.{eqb}
-use lib.ListN.{length}
+use lib.ListN.{length, drop}
 use Rattle.standard.specs.Books.{recordKind, checkPlain}
 use Rattle.standard.specs.Bytes.{_!_, part, choose}
 use Rattle.standard.specs.Lists.{recordAt}
 use Rattle.standard.specs.Seals.{keyLength}
-use Rattle.standard.specs.Text.{ascii, decimal, hex, textCall}
+use Rattle.standard.specs.Text.{ascii, decimal, hex}
 use Rattle.standard.specs.declared.Algorithm.{Algorithm}
 use Rattle.standard.specs.declared.Algorithm.the-variants.{Ta31, Ta51, Ta81, Ta91}
-use Rattle.standard.specs.declared.TextAnswer.{TextAnswer}
 
 -- ---- the lines
 
@@ -51,6 +50,14 @@ listing p =
     (entryLines (length p / 18) p ++ entriesLine (length p / 18))
     (refusedLine (checkPlain p .refusal) (checkPlain p .index))
 
--- the call: the listing into an output
-abbrev pub listCall : List ℕ → List ℕ → TextAnswer × List ℕ
-listCall p out = textCall (listing p) out
+-- the bytes that are enough for every listing: 160 for each of 1,024 records' lines and for the last one
+abbrev pub listingRoom : ℕ
+listingRoom = 164000
+
+-- the call, into an output of so many bytes: the listing's length, and the listing over the front of the output
+abbrev pub listCall : List ℕ → List ℕ → ℕ × List ℕ
+listCall p out = (length (listing p), listing p ++ drop (length (listing p)) out)
+
+-- no listing is longer, whatever bytes are read as a book; the proof is in crates/listing/proofs/ListLaws
+abbrev pub ListingFits : Type 0
+ListingFits = (p : List ℕ) → length (listing p) ≤ listingRoom

@@ -1,38 +1,41 @@
 -- `listing::list_plain` meets its contract.
 -- Assumes nothing.
 use mathlib.Core.List.{List}
-use mathlib.Core.Path.{sym, ap, _∙_}
+use mathlib.Core.Path.{_≡_, sym, ap, _∙_}
 use Prim.Native.Nat.{ℕ}
 use native.Mathlib.Omega.{arith}
+use lib.ListN.{length}
 use denote.Ref.{now}
 use borrow.Author.Needs.{needs}
-use Rattle.listing.proofs.ListLaws.{listing-refused, listing-entries}
-use Rattle.standard.proofs.Demand3Laws.{checks-exactly}
+use Rattle.listing.proofs.ListLaws.{accepted-few, listed, listing-refused, listing-entries}
+use Rattle.standard.specs.Listing.{listingRoom}
 use Rattle.standard.specs.declared.BookAnswer.{BookAnswer}
 use Rattle.listing.proofs.list_plain.Statement.{statement}
 use Rattle.listing.proofs.list_plain.Tie as tie
 
 returns : tie.Need-returns
 returns c =
-    let write = c .before .before in
-    let check = write .before .before .before .before .before in
-    let x = check .before .before .before .args in
-    rw (listing-refused (now (x .plain)) (check .check-plain .ensures) (write .before .before .before .if1 .taken), ← write .before .before .refused-line .ensures) (write .write .ensures)
+    let line = c .before .before in
+    let check = line .before .before .before in
+    let x = check .before .before .args in
+    let room : length (now (x .out)) ≡ listingRoom = search needs in
+    let refused = listing-refused (now (x .plain)) (check .check-plain .ensures) (line .before .if1 .taken) in
+    listed (now (x .plain)) (now (x .out)) room (rw (refused, ← line .refused-line .ensures) (c .put .ensures))
 
 list-entries-requires : tie.Need-list-entries-requires
 list-entries-requires c κs =
     let check = c .before .before .before in
-    let known = check .before .before in
-    let p : List ℕ = now (known .before .args .plain) in
-    let book = checks-exactly p (λ i. omega (arith, known .shared-slice-known .given i)) .0 (ap (λ (a : BookAnswer). a .refusal) (sym (check .check-plain .ensures)) ∙ c .before .if1 .left) in
-    (omega arith, omega (arith, book .short))
+    let p : List ℕ = now (check .before .before .args .plain) in
+    let few = accepted-few p (ap (λ (a : BookAnswer). a .refusal) (sym (check .check-plain .ensures)) ∙ c .before .if1 .left) in
+    (omega arith, omega (arith, few))
 
 returns-2 : tie.Need-returns-2
 returns-2 c =
-    let entries = c .before .before in
-    let check = entries .before .before .before .before in
-    let x = check .before .before .before .args in
-    rw (listing-entries (now (x .plain)) (check .check-plain .ensures) (entries .before .before .if1 .left)) (entries .list-entries .ensures)
+    let check = c .before .before .before .before in
+    let x = check .before .before .args in
+    let room : length (now (x .out)) ≡ listingRoom = search needs in
+    let entries = listing-entries (now (x .plain)) (check .check-plain .ensures) (c .before .before .if1 .left) in
+    listed (now (x .plain)) (now (x .out)) room (rw entries (c .list-entries .ensures))
 
 pub list-plain-spec : {M : Type 1} → statement M
 list-plain-spec =
@@ -41,8 +44,6 @@ list-plain-spec =
     (λ c κs. search needs)
     (λ c κs. search needs)
     (λ c κs. search needs)
-    (λ c. search needs)
     returns
     list-entries-requires
-    (λ c. search needs)
     returns-2)
