@@ -7,8 +7,10 @@ use listing::report;
 use listing::report_counted;
 use standard::BookAnswer;
 use standard::CountedAnswer;
+use standard::MOST_RECORDS;
 use standard::RING;
 use standard::RingBytes;
+use standard::SEALED_RECORD;
 use text::Line;
 use text::ROOM;
 ghost use mathlib.Core.Bool.{true, false};
@@ -17,7 +19,7 @@ ghost use Prim.Native.Nat.{_≤_};
 ghost use lib.Dec.{eqb};
 ghost use lib.ListN.{length};
 ghost use Rattle.io.specs.Counts.{Counts};
-ghost use Rattle.programs.specs.Reading.{Read, RingRead};
+ghost use Rattle.programs.specs.Reading.{Gathered, Read, RingRead};
 
 // What was read: how many bytes, and whether reading failed. Standard error then has a line about it.
 pub struct Input {
@@ -30,18 +32,15 @@ const FAILED: Input = Input {
     failed: true,
 };
 
-// A ring that was read: all of its bytes, or none where reading failed.
+// The bytes of a ring, as far as they were read.
 pub struct RingInput {
     pub ring: RingBytes,
     pub len: usize,
     pub failed: bool,
 }
 
-const NO_RING: RingInput = RingInput {
-    ring: [0; RING],
-    len: 0,
-    failed: true,
-};
+// The longest input that a program has room for: a byte more than the longest sealed book.
+const LONGEST: usize = SEALED_RECORD * MOST_RECORDS + 1;
 
 fn least(a: usize, b: usize) -> usize
     ensures { λ r. ⌜ (r ≤ a) × (r ≤ b) ⌝ }
@@ -77,7 +76,7 @@ fn read_piece(fd: i32, buf: &mut [u8]) -> Input
 
 // Input that comes in pieces is read until it ends or the buffer is full.
 fn read_all(fd: i32, buf: &mut [u8]) -> Input
-    ensures { λ r. ⌜ Read r (now (buf .entry)) (now (buf .exit)) ⌝ }
+    ensures { λ r. ⌜ Gathered r (now (buf .entry)) (now (buf .exit)) ⌝ }
 {
     let mut n = 0;
     while n < buf.len() {
@@ -99,6 +98,18 @@ fn read_all(fd: i32, buf: &mut [u8]) -> Input
     }
 }
 
+// The same by way of an array of the longest input, copied once at the end: where a read fails, the pieces before it do not reach the buffer.
+fn read_whole(fd: i32, buf: &mut [u8]) -> Input
+    ensures { λ r. ⌜ Read r (now (buf .entry)) (now (buf .exit)) ⌝ }
+{
+    let mut bytes = [0u8; LONGEST];
+    let most = least(buf.len(), bytes.len());
+    let input = read_all(fd, &mut bytes[..most]);
+    let len = input.len;
+    copy(&bytes[..len], buf);
+    input
+}
+
 // Program, what it could not do, and the system's reason.
 fn fail(program: &[u8], what: &[u8]) {
     io::write_all(STDERR_FILENO, program);
@@ -109,7 +120,7 @@ fn fail(program: &[u8], what: &[u8]) {
 pub fn read_input(program: &[u8], buf: &mut [u8]) -> Input
     ensures { λ r. ⌜ Read r (now (buf .entry)) (now (buf .exit)) ⌝ }
 {
-    let input = read_all(STDIN_FILENO, buf);
+    let input = read_whole(STDIN_FILENO, buf);
     if input.failed {
         fail(program, b"standard input");
     }
@@ -124,7 +135,7 @@ fn read_file(program: &[u8], path: &[u8], buf: &mut [u8]) -> Input
         fail(program, path);
         return FAILED;
     }
-    let input = read_all(fd, buf);
+    let input = read_whole(fd, buf);
     if input.failed {
         fail(program, path);
     }
@@ -159,37 +170,27 @@ fn usage(program: &[u8]) -> Line {
         .word(b" RING\n")
 }
 
-fn short_ring(program: &[u8], n: usize) -> Line {
-    Line::empty()
-        .word(program)
-        .word(b": the ring file has fewer than ")
-        .decimal(n as u64)
-        .word(b" bytes\n")
+fn ring_input(ring: RingBytes, input: Input) -> RingInput
+    ensures { λ r. ⌜ r ≡ record { ring = ring; len = input .len; failed = input .failed } ⌝ }
+{
+    RingInput {
+        ring,
+        len: input.len,
+        failed: input.failed,
+    }
 }
 
-// The ring, from the first bytes of the file that the only argument names. It fails where the file has fewer.
+// The ring, from the first bytes of the file that the only argument names. A shorter file is left to the calls, which refuse it.
 pub fn read_ring(program: &[u8]) -> RingInput
     ensures { λ r. ⌜ RingRead r ⌝ }
 {
+    let mut ring = [0u8; RING];
     if os::arg_count() != 2 {
         say(usage(program));
-        return NO_RING;
+        return ring_input(ring, FAILED);
     }
-    let mut ring = [0u8; RING];
     let input = read_argument(program, &mut ring);
-    if input.failed {
-        return NO_RING;
-    }
-    let len = input.len;
-    if len < ring.len() {
-        say(short_ring(program, ring.len()));
-        return NO_RING;
-    }
-    RingInput {
-        ring,
-        len,
-        failed: false,
-    }
+    ring_input(ring, input)
 }
 
 // The first n bytes. True only where there are so many.

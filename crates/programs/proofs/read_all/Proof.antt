@@ -26,14 +26,14 @@ returns-2 : tie.Need-returns-2 Inv-loop μ-loop
 returns-2 c =
     let piece = c .before .before .before .before .before in
     let at = piece .before .before .before .loop in
-    let more = further (at .n) (piece .read-piece .result .len) _ (at .buf) _ (at .inv .0) (at .inv .2) (piece .read-piece .ensures .rest (c .before .before .if1 .left)) in
+    let more = further (at .n) (piece .read-piece .result .len) _ (at .buf) _ (at .inv .0) (at .inv .2) (piece .read-piece .ensures .rest) in
     whole (at .n) _ _ (omega arith) (rw (c .if2 .taken, add-zero) at more)
 
 loop-again : tie.Need-loop-again Inv-loop μ-loop
 loop-again c =
     let piece = c .before .before .before .before .before .before in
     let at = piece .before .before .before .loop in
-    (omega arith, omega arith, further (at .n) (piece .read-piece .result .len) _ (at .buf) _ (at .inv .0) (at .inv .2) (piece .read-piece .ensures .rest (c .before .before .before .if1 .left)))
+    (omega arith, omega arith, further (at .n) (piece .read-piece .result .len) _ (at .buf) _ (at .inv .0) (at .inv .2) (piece .read-piece .ensures .rest))
 
 returns-3 : tie.Need-returns-3 Inv-loop μ-loop
 returns-3 c = whole _ _ _ (omega arith) (c .before .loop .inv .2)
