@@ -333,7 +333,8 @@ class Command(Case):
         sheet = json.loads(self.mark("ben.hex", "--json").out)["sheets"][0]
         self.assertEqual(sheet["read_as"], "hexadecimal")
         self.mark("ben.hex", "--html", "pages")
-        self.assertIn(words, (self.folder / "pages" / "ben.hex.html").read_text())
+        page = (self.folder / "pages" / "ben.hex.html").read_text()
+        self.assertIn("ben.hex, read as hexadecimal: 12 records", page)
 
     def test_as(self) -> None:
         """A form for one hand-in, or for all."""

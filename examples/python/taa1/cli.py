@@ -16,12 +16,14 @@ from pathlib import Path
 from typing import Any, Callable, NoReturn, Optional, Sequence, Union
 from urllib.parse import quote
 
-from . import __version__, draw, files, handins, names, pages, paper, texts
+from . import __version__, candidates, draw, files, handins, names, pages, paper, texts
 from .calls import CALLS, Call, Parameter
+from .classpage import class_page
 from .damage import Damage, damaged
 from .desk import Desk, RefusedFile, refusals
 from .document import Document, as_page, as_text
 from .engine import MOST_RECORDS, Refused
+from .exports import class_json, csv_text
 from .files import STANDARD, Problem, place, shown
 from .handins import Reader
 from .library import PACKAGE, LibraryError, repository
@@ -31,12 +33,13 @@ from .opened import OpenedMarker
 from .overview import EXAMPLES, overview
 from .page import is_made_by
 from .records import KINDS, PLAIN, RING, Entry, split
-from .sheets import plural, reading, sheet_json, sheet_text, summary, summary_text
+from .sheets import plural, reading, sheet_text, summary, summary_text
 from .slips import EXCHANGES, SLIPS
 from .values import IDENTITY, MASK, hexadecimal
 
 ACCEPTED, REFUSED, WRONG_USE = 0, 1, 2
 LENGTH = 11  # the refusal of an input of another length
+INDEX = "index.html"  # the class's page
 MOST_ROOM = 1 << 20  # bytes of an output that `call` makes
 
 
@@ -466,10 +469,13 @@ def run_mark(args: argparse.Namespace) -> int:
     """The mark sheets of candidates' books."""
     if args.clean and args.html is None:
         raise Problem("mark: --clean is about pages, so it wants --html")
+    if args.csv and args.json:
+        raise Problem("mark: --csv or --json, not both")
     handed = handins.hand_ins(args.candidate, (args.sitting, args.book))
     _once(args.sitting, args.book, *handed.names)
     forms = _forms(args, handed.names)
-    reader = _reader(args)
+    listed = candidates.read_list(args.candidates) if args.candidates else {}
+    reader, heading = _reader(args)
     sheets = []
     for done, (name, form) in enumerate(zip(handed.names, forms)):
         files.progress(done, len(handed.names))
@@ -483,15 +489,29 @@ def run_mark(args: argparse.Namespace) -> int:
             files.say(f"{sheet.name}: {sheet.problem}")
         sheets.append(sheet)
     files.progress(0, 0)
+    named = handins.page_names(handed.names, INDEX)
+    who = candidates.named(handed.names, named, listed)
+    sheets = [sheet._replace(candidate=name) for sheet, name in zip(sheets, who.names)]
     of = summary(sheets)
+    if who.absent:
+        files.say(f"nothing was handed in by {', '.join(who.absent)}")
     if args.dry:
         left_out = [f"{place(name)}: left out\n" for name in handed.left_out]
         _emit_text(args, "".join([f"{reading(sheet)}\n" for sheet in sheets] + left_out))
         return REFUSED if of.unreadable else ACCEPTED
     if args.html is not None:
-        _write_pages(args.html, handed.names, sheets, args.clean)
+        content = {
+            name: pages.sheet_page(sheet, reader.wanted, heading.line, INDEX).encode()
+            for name, sheet in zip(named, sheets)
+        }
+        links = [quote(os.fsencode(name)) for name in named]
+        index = class_page(sheets, of, links, reader.wanted, heading.line, who.absent)
+        content[INDEX] = index.encode()
+        _write_pages(args.html, content, args.clean)
     if args.json:
-        _emit_text(args, _json({"class": of._asdict(), "sheets": list(map(sheet_json, sheets))}))
+        _emit_text(args, _json(class_json(sheets, of, heading, who.absent)))
+    elif args.csv:
+        _emit_text(args, csv_text(sheets))
     elif args.html is not None:
         _emit_text(args, summary_text(of))
     else:
@@ -500,19 +520,19 @@ def run_mark(args: argparse.Namespace) -> int:
     return REFUSED if of.unreadable else ACCEPTED
 
 
-def _reader(args: argparse.Namespace) -> Union[Reader, OpenedMarker]:
+def _reader(args: argparse.Namespace) -> tuple[Union[Reader, OpenedMarker], texts.Heading]:
     """What reads hand-ins and marks them: sealed books beside the model, or what was opened
-    beside the sealed book that was handed out."""
+    beside the sealed book that was handed out; and the sitting's heading."""
     desk = Desk()
-    sitting = texts.read_sitting(args.sitting)
+    sitting, heading = texts.read_headed(args.sitting)
     texts.make_ring(desk, sitting, place(args.sitting))
     if args.opened:
         sealed = files.read_bytes(args.book, args.bytes)
-        return OpenedMarker(desk, sitting, sealed, place(args.book))
+        return OpenedMarker(desk, sitting, sealed, place(args.book)), heading
     plain = texts.read_plain(desk, args.book, args.bytes)
     if not plain:
         raise Problem(f"{place(args.book)}: no entry in it, so there is nothing to mark")
-    return Reader(Marker(desk, sitting, plain))
+    return Reader(Marker(desk, sitting, plain)), heading
 
 
 def _forms(args: argparse.Namespace, names: list[str]) -> list[str]:
@@ -543,13 +563,8 @@ def _earlier_pages(folder: str) -> list[str]:
     return found
 
 
-def _write_pages(folder: str, names: list[str], sheets: list[Sheet], clean: bool) -> None:
-    """A page for each candidate, and index.html for the class."""
-    index = "index.html"
-    named = handins.page_names(names, index)
-    links = [quote(os.fsencode(name)) for name in named]
-    content = {name: pages.sheet_page(sheet, index).encode() for name, sheet in zip(named, sheets)}
-    content[index] = pages.class_page(sheets, summary(sheets), links).encode()
+def _write_pages(folder: str, content: dict[str, bytes], clean: bool) -> None:
+    """A page for each candidate, and one for the class."""
     earlier = [name for name in _earlier_pages(folder) if name not in content]
     files.write_folder(folder, content, unwanted=earlier if clean else ())
     if earlier and not clean:
@@ -751,6 +766,10 @@ def parser() -> Parser:
         "it: lines, where `entry I flag` says that a flag is set, or a plain book's bytes",
     )
     mark.add_argument("--html", metavar="FOLDER", help="write a page for each, and index.html")
+    mark.add_argument(
+        "--candidates", metavar="FILE", help="their names, a line FILE = Name for each hand-in"
+    )
+    mark.add_argument("--csv", action="store_true", help="write a table, a row for each candidate")
     mark.add_argument("--clean", action="store_true", help="remove pages of earlier runs there")
     mark.add_argument("--dry", action="store_true", help="say how each would be read, no more")
     mark.add_argument(

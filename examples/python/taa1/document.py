@@ -139,10 +139,6 @@ STYLE = """
 .boxes i:nth-child(2n) { margin-right: 1mm; }
 .boxes i.tick { width: 4mm; height: 4mm; margin: .2mm 1mm; }
 .form td, .form th { border: 0; padding-bottom: .1em; vertical-align: middle; }
-.fields { display: flex; flex-wrap: wrap; gap: 1em 1.5em; margin: 1em 0; }
-.fields p { flex: 1 1 14em; display: flex; margin: 0; white-space: nowrap; }
-.fields p:first-child { flex-basis: 100%; }
-.fields span { flex: 1; border-bottom: 1px solid #000; margin-left: .5em; min-height: 1.8em; }
 .line { border-bottom: 1px solid #777; height: 9mm; }
 .result td { font-weight: bold; }
 @media print, (min-width: 40em) {
@@ -187,8 +183,7 @@ def _html(block: Block) -> str:
     if isinstance(block, Table):
         return page.table(block.heads, map(_row, block.rows), block.class_, block.title)
     if isinstance(block, Fields):
-        places = "".join(tag("p", text("b", name) + "<span></span>") for name in block.names)
-        return tag("div", places, class_="fields")
+        return page.fields(block.names)
     if isinstance(block, Lines):
         return '<div class="line"></div>\n' * block.number
     return tag("section", "\n".join(map(_html, block.blocks)))

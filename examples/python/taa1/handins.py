@@ -19,7 +19,7 @@ from typing import Callable, NamedTuple, Optional, Sequence
 
 from .engine import Refused
 from .files import MOST_BYTES, STANDARD, Problem, from_hex, is_printed, place, reason
-from .mark import Marked, Marker, Sheet
+from .mark import Marked, Marker, Sheet, Wanted
 from .records import KINDS, PLAIN, SEALED, split
 from .sheets import plural
 from .texts import is_lines
@@ -269,6 +269,11 @@ class Reader:
     def unreadable(self, name: str, problem: str) -> Sheet:
         """The sheet of a hand-in that can't be read."""
         return self.marker.unreadable(name, problem)
+
+    @property
+    def wanted(self) -> Wanted:
+        """What is wanted of each entry."""
+        return self.marker.wanted
 
     def common(self, book: bytes, size: int = SEALED) -> int:
         """How much is the model's: records, and kinds with versions or identities."""

@@ -10,7 +10,7 @@ from __future__ import annotations
 
 from collections import Counter, defaultdict
 from dataclasses import dataclass
-from typing import NamedTuple, Optional, Union
+from typing import NamedTuple, Optional, Sequence, Union
 
 from .desk import Desk
 from .engine import Refused, Sitting
@@ -55,6 +55,7 @@ class Marked:
     slip: Optional[str] = None
     borrowed: tuple[tuple[str, int], ...] = ()  # fields that are another entry's, and whose
     note: str = ""  # what else is wrong
+    record: bytes = b""  # as it was handed in
 
 
 class Flags(NamedTuple):
@@ -66,6 +67,14 @@ class Flags(NamedTuple):
     invented: tuple[int, ...]
     left_out: tuple[int, ...]
     unsaid: tuple[int, ...]
+
+
+class Wanted(NamedTuple):
+    """What is wanted of each entry: the sealed record, unless entries were to be opened,
+    and the plain one."""
+
+    sealed: Sequence[bytes]
+    plain: Sequence[Entry]
 
 
 class Explained(NamedTuple):
@@ -93,6 +102,7 @@ class Sheet(NamedTuple):
     again: int = 0  # further answers, about entries that have one or that there are none of
     problems: tuple[str, ...] = ()  # of lines that can't be read
     flags: Optional[Flags] = None  # of a book that was opened
+    candidate: str = ""  # the name, from a list or from the file's
 
     @property
     def right(self) -> int:
@@ -160,6 +170,11 @@ class Marker:
                 self.signs[value].add(place)
         self.known: dict[bytes, Opened] = {}
 
+    @property
+    def wanted(self) -> Wanted:
+        """What is wanted of each entry."""
+        return Wanted(self.model, self.entries)
+
     def mark(self, name: str, book: bytes) -> Sheet:
         """The mark sheet of a book."""
         records = split(book, SEALED)
@@ -179,7 +194,7 @@ class Marker:
         for index, record in enumerate(records):
             model = pairs.entries.get(index)
             if model is not None and record == self.model[model]:
-                entries.append(Marked(index, "right", model, index in moved))
+                entries.append(Marked(index, "right", model, index in moved, record=record))
                 continue
             opened = self._open(record)
             differ = () if model is None else differences(opened, self.entries[model])
@@ -192,6 +207,7 @@ class Marker:
                     differ,
                     "; ".join(named[index]) or None,
                     tuple(borrowed.get(index, {}).items()),
+                    record=record,
                 )
             )
         missing = sorted(set(range(len(self.model))) - set(pairs.entries.values()))

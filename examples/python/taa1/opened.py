@@ -16,7 +16,7 @@ from .engine import MOST_RECORDS, Refusal, Refused, Sitting
 from .explain import IDENTITY, TEXT, Found, Part, Table, exchanges
 from .files import Problem, place
 from .handins import BYTES, FORMS, text_of
-from .mark import Difference, Flags, Marked, Sheet, differences, explained
+from .mark import Difference, Flags, Marked, Sheet, Wanted, differences, explained
 from .pairing import pair
 from .records import KINDS, PLAIN, SEALED, Entry, split
 from .sheets import failed_checks
@@ -242,6 +242,11 @@ class OpenedMarker:
                 owners[field, getattr(truth, field)].append(index)
         return exchanges(alone, owners)
 
+    @property
+    def wanted(self) -> Wanted:
+        """What is wanted of each entry."""
+        return Wanted((), list(map(_entry, self.truth)))
+
     def unreadable(self, name: str, problem: str) -> Sheet:
         """The sheet of a hand-in that can't be read."""
         missing = tuple(range(len(self.truth)))
@@ -290,6 +295,7 @@ class OpenedMarker:
             slip="; ".join(slips) or None,
             borrowed=tuple(borrowed.items()),
             note=note,
+            record=answer.entry.data if answer.entry else b"",
         )
 
 

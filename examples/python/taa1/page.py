@@ -37,6 +37,10 @@ th.number:not(:last-child), td.number:not(:last-child) { padding-right: 1.2em; }
   font-size: .9em; line-height: 1.55; }
 td.hex, .keys td:first-child { white-space: nowrap; }
 .pairs th { border-bottom: 1px solid #999; font-weight: normal; white-space: nowrap; width: 1%; }
+.fields { display: flex; flex-wrap: wrap; gap: 1em 1.5em; margin: 1em 0; }
+.fields p { flex: 1 1 14em; display: flex; margin: 0; white-space: nowrap; }
+.fields p:first-child { flex-basis: 100%; }
+.fields span { flex: 1; border-bottom: 1px solid #000; margin-left: .5em; min-height: 1.8em; }
 section { break-inside: avoid; }
 a { color: inherit; }
 @media screen and (max-width: 40em) {
@@ -45,6 +49,7 @@ a { color: inherit; }
   .wide tr, .wide td, .wide td.number { display: block; text-align: left; width: auto; }
   .wide tr { border-bottom: 1px solid #999; padding: .4em 0; }
   .wide td { border: 0; padding: 0; }
+  .wide td:empty { display: none; }
   .wide td:first-child { font-weight: bold; }
   .wide td::before { content: attr(data-head) " "; font: 11pt/1.4 Arial, "Liberation Sans",
     sans-serif; color: #444; }
@@ -151,6 +156,12 @@ def pairs(rows: Iterable[tuple[str, Any]], class_: str = "") -> Html:
         tag("tr", text("th", name) + _cell(value, "", False)) for name, value in rows
     )
     return tag("table", tag("tbody", body), class_=f"pairs {class_}".strip())
+
+
+def fields(names: Iterable[str]) -> Html:
+    """Places to write on behind names."""
+    places = "".join(tag("p", text("b", name) + "<span></span>") for name in names)
+    return tag("div", places, class_="fields")
 
 
 def _in_css(said: str) -> str:

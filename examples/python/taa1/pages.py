@@ -1,25 +1,49 @@
-"""The model, the mark sheets and the class as pages."""
+"""The model, and what was handed in beside it, as pages."""
 
 from __future__ import annotations
 
-from html import escape
-from typing import Any, Iterable
+import os
+from typing import Any, NamedTuple, Sequence
 
-from .mark import Marked, Sheet
+from .mark import Explained, Marked, Sheet, Wanted
 from .model import entry_title, entry_values, sitting_values
-from .names import IN_SITTING, both
-from .page import Row, page, pairs, table, tag, text
-from .sheets import Summary, class_numbers, explanation, fault, others, verdict
+from .names import IN_SITTING, KIND_NAMES, both, sealing
+from .page import Html, Row, fields, page, pairs, table, tag, text
+from .records import KINDS, Entry, whole
+from .results import result
+from .sheets import fault, opening, others, spans, too_many, was_read
 
-STYLE = """
-tr.right td { color: #333; }
-tr.wrong td, tr.doubled td, tr.extra td { font-weight: bold; }
-svg { max-width: 100%; height: auto; }
-svg text { font: 10px Arial, "Liberation Sans", sans-serif; fill: #000; }
+RESULT = """
+.result { font-size: 1.15em; margin: 0 0 .8em; }
+"""
+# Bytes that differ are bold, with a box where they were handed in and a line where they
+# are wanted. On a phone only fields that differ are shown, each as handed in over as wanted.
+STYLE = RESULT + """
+.entries tr:not(.right) td:last-child { font-weight: bold; }
+.beside { margin-bottom: .2em; table-layout: auto; width: auto; }
+.beside th { font-weight: normal; padding-right: 1.6em; }
+.beside td { padding-right: 1.6em; white-space: nowrap; }
+.beside td:first-child { width: 6em; }
+.beside b { outline: 1px solid #000; outline-offset: 1px; }
+.beside u { font-weight: bold; text-decoration-thickness: 2px; text-underline-offset: 2px; }
+.sign { break-inside: avoid; margin-top: 2em; }
+@media screen and (max-width: 40em) {
+  .entries td, .entries td.number { display: inline; padding-right: .5em; }
+  .entries td:not(:first-child)::before { content: none; }
+  .beside { display: flex; flex-direction: column; width: 100%; }
+  .beside thead, .beside td:first-child, .beside .same { display: none; }
+  .beside tbody, .beside tr { display: contents; }
+  .beside td { border: 0; padding: 0; white-space: normal; }
+  .beside td::before { content: attr(data-head) " "; font: 11pt/1.4 Arial, "Liberation Sans",
+    sans-serif; color: #444; display: block; }
+  .beside td:nth-child(2) { order: 2; } .beside td:nth-child(3) { order: 3; }
+  .beside td:nth-child(4) { order: 4; } .beside td:nth-child(5) { order: 5; }
+  .beside td:nth-child(6) { order: 6; }
+}
 """
 
 MADE_BY = "taa1 mark"  # a candidate's page
-RIGHT, WRONG, FAILS = "#2f6690", "#e0a458", "#b23a48"
+HANDED_IN, WANTED = "handed in", "wanted"
 
 
 def model_page(model: dict[str, Any], heading: str = "") -> str:
@@ -47,100 +71,165 @@ def model_page(model: dict[str, Any], heading: str = "") -> str:
     )
 
 
-def _entry_row(entry: Marked) -> Row:
-    said = "right" if entry.state == "right" else fault(entry)
-    if entry.moved:
-        said += "; in another order"
-    return Row((entry.index, entry.model, said, entry.slip or ""), entry.state)
+# ---- what was handed in beside what was wanted
 
 
-def sheet_page(sheet: Sheet, class_page: str) -> str:
-    """A candidate's mark sheet."""
-    said = [tag("li", escape(line)) for line in others(sheet)]
-    said += [tag("li", "Slip: " + escape(explanation(slip, sheet))) for slip in sheet.slips]
-    return page(
-        sheet.name,
-        tag("p", escape(verdict(sheet))),
-        tag("ul", "\n".join(said)) if said else "",
-        table(("entry", "model", "result", "slip"), map(_entry_row, sheet.entries)),
-        tag("p", tag("a", "The class", href=class_page)),
-        style=STYLE,
-        made_by=MADE_BY,
-    )
+def differing(data: bytes, other: bytes, name: str) -> Html:
+    """Bytes in groups of four digits, as everywhere; those that another string has not in
+    their place within an element."""
+    said, inside = "", False
+    for at in range(len(data)):
+        differs = data[at : at + 1] != other[at : at + 1]
+        gap = " " if at and at % 2 == 0 and len(data) > 3 else ""
+        if inside and not differs:
+            said += f"</{name}>"
+        said += gap + (f"<{name}>" if differs and not inside else "") + f"{data[at]:02x}"
+        inside = differs
+    return Html(said + (f"</{name}>" if inside else ""))
 
 
-def _bar(x: float, y: float, width: float, colour: str) -> str:
-    if width <= 0:
-        return ""
-    return f'<rect x="{x:.1f}" y="{y:.1f}" width="{width:.1f}" height="11" fill="{colour}"/>'
+class Field(NamedTuple):
+    """A field of a record: its names, what was handed in and what is wanted."""
+
+    name: str
+    has: Any  # bytes, a number, or none
+    wants: Any
+
+    def cell(self, wanted: bool) -> Html:
+        """Its cell in the row of what was handed in, or was wanted."""
+        value, other = (self.wants, self.has) if wanted else (self.has, self.wants)
+        name = "u" if wanted else "b"
+        same = value == other
+        if isinstance(value, bytes):
+            said = differing(value, other if isinstance(other, bytes) else b"", name)
+        else:
+            number = "-" if value is None else str(value)
+            said = text("span", number) if same else text(name, number)
+        return tag(
+            "td",
+            said,
+            class_=f"{'hex' * isinstance(value, bytes)}{' same' * same}".strip(),
+            data_head=f"{self.name}, {WANTED if wanted else HANDED_IN}",
+        )
 
 
-def _label(x: float, y: float, said: str, anchor: str = "start") -> str:
-    return f'<text x="{x:.1f}" y="{y:.1f}" text-anchor="{anchor}">{escape(said)}</text>'
+def sealed_fields(record: bytes, wanted: bytes) -> list[Field]:
+    """A sealed record beside the one that is wanted."""
+    names = KIND_NAMES[wanted[0]]
+    return [
+        Field("kind", record[0], wanted[0]),
+        Field(both("encrypted identity"), record[1:4], wanted[1:4]),
+        Field(f"version ({names.version})", whole(record[4:6]), whole(wanted[4:6])),
+        Field(f"text ({names.sealed})", record[6:], wanted[6:]),
+    ]
 
 
-def _short(name: str) -> str:
-    """A path that fits beside a bar; its end says most."""
-    return name if len(name) <= 28 else "…" + name[-27:]
+def plain_fields(has: Any, wants: Entry) -> list[Field]:
+    """An opened entry beside the one that is wanted."""
+    names = KIND_NAMES[wants.kind]
+    made = [
+        Field("kind", has.kind, wants.kind),
+        Field(both("identity"), has.identity.to_bytes(3, "big"), wants.identity.to_bytes(3, "big")),
+        Field(f"version ({names.version})", has.version, wants.version),
+        Field(f"key ({names.key})", has.key, wants.key),
+    ]
+    if has.number is not None or wants.number is not None:
+        made.append(Field(f"number ({names.number or '-'})", has.number, wants.number))
+    return made
 
 
-def _picture(what: str, height: int, parts: Iterable[str]) -> str:
-    body = tag("title", escape(what)) + "".join(parts)
-    return tag("svg", body, viewBox=f"0 0 640 {height}", width=640, height=height, role="img")
+def beside(what: str, compared: Sequence[Field]) -> Html:
+    """What was handed in over what was wanted."""
+    head = "".join(text("th", each) for each in (what, *(field.name for field in compared)))
+    rows = [
+        text("td", name) + "".join(field.cell(wanted) for field in compared)
+        for name, wanted in ((HANDED_IN, False), (WANTED, True))
+    ]
+    body = "".join(tag("tr", row) for row in rows)
+    return tag("table", tag("thead", tag("tr", head)) + tag("tbody", body), class_="beside")
 
 
-def right_picture(sheets: list[Sheet]) -> str:
-    """The entries of each candidate as a bar: right, wrong, failing a check."""
-    most = max([sheet.size for sheet in sheets] + [len(s.entries) for s in sheets] + [1])
-    scale = 390 / most
-    parts = []
-    for line, (colour, what) in enumerate(
-        ((RIGHT, "right"), (WRONG, "wrong, but seals a key"), (FAILS, "fails a check"))
-    ):
-        parts += [_bar(180 + 150 * line, 2, 11, colour), _label(196 + 150 * line, 11, what)]
-    for line, sheet in enumerate(sheets):
-        y = 22 + 16 * line
-        other = len(sheet.entries) - sheet.right - sheet.failing
-        parts.append(_label(174, y + 9, _short(sheet.name), "end"))
-        x = 180.0
-        for count, colour in ((sheet.right, RIGHT), (other, WRONG), (sheet.failing, FAILS)):
-            parts.append(_bar(x, y, count * scale, colour))
-            x += count * scale
-        parts.append(_label(x + 4, y + 9, f"{sheet.right} of {sheet.size}"))
-    return _picture("Entries right, by candidate", 26 + 16 * len(sheets), parts)
+# ---- a candidate's page
 
 
-def checks_picture(of: Summary) -> str:
-    """How often each check of the redundancy fails, by kind."""
-    most = max([count for _, _, count in of.checks] + [1])
-    parts = []
-    for line, (kind, check, count) in enumerate(of.checks):
-        y = 4 + 16 * line
-        parts.append(_label(174, y + 9, f"kind {kind}, check {check}", "end"))
-        parts.append(_bar(180, y, 390 * count / most, FAILS))
-        parts.append(_label(184 + 390 * count / most, y + 9, str(count)))
-    return _picture("Failed checks, by kind", 8 + 16 * len(of.checks), parts)
+def _compared(entry: Marked, wanted: Wanted) -> list[Html]:
+    """A wrong entry beside what is wanted: sealed, and opened where that says more."""
+    if entry.model is None or not entry.record:
+        return []
+    plain = wanted.plain[entry.model]
+    if not wanted.sealed:
+        return [beside("opened", plain_fields(Entry.of(entry.record), plain))]
+    made = [beside("sealed", sealed_fields(entry.record, wanted.sealed[entry.model]))]
+    if entry.opened:
+        _, identity, _, *sealed = plain_fields(entry.opened, plain)
+        said = [identity, *(sealed if entry.opened.key else ())]
+        if any(field.has != field.wants for field in said):
+            made.append(beside("opened", said))
+    return made
 
 
-def class_page(sheets: list[Sheet], of: Summary, links: list[str]) -> str:
-    """The class: its numbers, pictures, and a line for each candidate."""
+def _slips(sheet: Sheet) -> Html:
+    """The slips, the steps at which they happened, and what they explain."""
     rows = []
-    for sheet, link in zip(sheets, links):
-        named = "; ".join(slip.name for slip in sheet.slips)
-        name = text("a", sheet.name, href=link)
-        right, said = f"{sheet.right} of {sheet.size}", verdict(sheet).partition("; ")[2]
-        rows.append((name, "-", verdict(sheet), named) if sheet.problem else (name, right, said, named))
-    numbers = f"{of.candidates} candidates: {class_numbers(of)}."
-    return page(
-        "The class",
-        tag("p", numbers),
-        tag("h2", "Entries right, by candidate"),
-        right_picture(sheets),
-        tag("h2", "Failed checks, by kind"),
-        checks_picture(of) if of.checks else tag("p", "None."),
-        tag("h2", "Slips"),
-        table(("slip", "candidates"), of.slips) if of.slips else tag("p", "None."),
-        tag("h2", "Candidates"),
-        table(("candidate", "right", "book", "slips"), rows),
-        style=STYLE,
-    )
+    for slip in sheet.slips:
+        name = f"{slip.name} (or: {'; '.join(slip.others)})" if slip.others else slip.name
+        part = f", their {slip.part}" if slip.part else ""
+        rows.append((name, at_step(slip), spans(slip.entries) + part))
+    return table(("slip", "step", "explains entries"), rows)
+
+
+def at_step(slip: Explained) -> str:
+    """The step at which a slip happens, and where that stands."""
+    step, clause = slip.step
+    return f"{step} ({clause})" if clause else step
+
+
+def _entry_section(entry: Marked, wanted: Wanted, slips: Sequence[Explained]) -> Html:
+    """What is wrong with an entry."""
+    kind = None if entry.model is None else wanted.plain[entry.model].kind
+    title = f"Entry {entry.index}"
+    if kind is not None:
+        title += f": kind {kind}, {sealing(kind)} by {KINDS[kind].seal.upper()}"
+    said = fault(entry, values=False)
+    said = said[:1].upper() + said[1:] + "."
+    for slip in slips:
+        if entry.index in slip.entries:
+            said += f" Slip: {slip.name}, at the step {at_step(slip)}."
+    return tag("section", text("h3", title) + text("p", said) + "".join(_compared(entry, wanted)))
+
+
+def _entries(sheet: Sheet, wanted: Wanted) -> Html:
+    """A row for each entry; the model's, where it stands elsewhere in some."""
+    elsewhere = any(entry.model != entry.index for entry in sheet.entries)
+    rows = []
+    for entry in sheet.entries:
+        said = "right" if entry.state == "right" else fault(entry, values=False)
+        said += "; in another order" if entry.moved else ""
+        kind, made = "-", "-"
+        if entry.model is not None:
+            number = wanted.plain[entry.model].kind
+            kind, made = f"{number}, {sealing(number)}", KINDS[number].seal.upper()
+        model = (entry.model,) if elsewhere else ()
+        rows.append(Row((entry.index, *model, kind, made, said), entry.state))
+    model_head = ("of the model",) if elsewhere else ()
+    return table(("entry", *model_head, "kind", "by", "result"), rows, "entries")
+
+
+def sheet_page(sheet: Sheet, wanted: Wanted, heading: str, class_page: str) -> str:
+    """A candidate's page: the result, what explains it, each entry, and where to sign."""
+    file = os.path.basename(sheet.name)
+    facts = [("hand-in", file if sheet.problem else f"{file}, {was_read(sheet)}")]
+    facts += [] if sheet.problem else [("book", opening(sheet))]
+    facts += [("", line) for line in too_many(sheet) + others(sheet)]
+    wrong = [entry for entry in sheet.entries if entry.state != "right"]
+    parts = [text("p", result(sheet), class_="result"), pairs(facts)]
+    if sheet.slips:
+        parts += [tag("h2", "What went wrong, and at which step"), _slips(sheet)]
+    if sheet.entries:
+        parts += [tag("h2", "Entry by entry"), _entries(sheet, wanted)]
+    if wrong:
+        parts.append(tag("h2", "What was handed in beside what was wanted"))
+        parts += [_entry_section(entry, wanted, sheet.slips) for entry in wrong]
+    signature = fields(("Remarks", "Marked by", "Date", "Signature"))
+    parts += [tag("div", signature, class_="sign"), tag("p", tag("a", "The class", href=class_page))]
+    return page(sheet.candidate, *parts, above=heading, style=STYLE, made_by=MADE_BY)

@@ -21,14 +21,23 @@ def verdict(sheet: Sheet) -> str:
     """A candidate's result in a few words."""
     if sheet.problem:
         return f"not marked: {sheet.problem}"
-    opens = "opens"
+    read_as = f"; read as {sheet.read_as}" if sheet.read_as else ""
+    return f"{sheet.right} of {sheet.size} entries right; {opening(sheet)}{read_as}"
+
+
+def opening(sheet: Sheet) -> str:
+    """Whether a book opens, and why not."""
     if sheet.refused:
         refused = sheet.refused
-        opens = f"does not open: refused {refused.number} at {refused.index} ({refused.name})"
-    if sheet.flags:
-        opens = flags_said(sheet.flags)
-    read_as = f"; read as {sheet.read_as}" if sheet.read_as else ""
-    return f"{sheet.right} of {sheet.size} entries right; {opens}{read_as}"
+        return f"does not open: refused {refused.number} at {refused.index} ({refused.name})"
+    return flags_said(sheet.flags) if sheet.flags else "opens"
+
+
+def was_read(sheet: Sheet) -> str:
+    """How a hand-in was read."""
+    records = plural(len(sheet.entries), "record")
+    left = f" and {plural(sheet.left, 'byte')}" if sheet.left else ""
+    return f"read as {sheet.read_as or 'bytes'}: {records}{left}"
 
 
 def flags_said(flags: Flags) -> str:
@@ -48,11 +57,7 @@ def flags_said(flags: Flags) -> str:
 
 def reading(sheet: Sheet) -> str:
     """How a hand-in was read, in a line."""
-    if sheet.problem:
-        return f"{sheet.name}: {verdict(sheet)}"
-    records = plural(len(sheet.entries), "record")
-    left = f" and {plural(sheet.left, 'byte')}" if sheet.left else ""
-    return f"{sheet.name}: read as {sheet.read_as or 'bytes'}: {records}{left}"
+    return f"{sheet.name}: {verdict(sheet) if sheet.problem else was_read(sheet)}"
 
 
 def spans(indexes: Iterable[int]) -> str:

@@ -1,0 +1,71 @@
+"""Candidates' names: from a list, or from the names of their files.
+
+A list has a line `FILE = Name` for each candidate. FILE is the name of the hand-in's
+file, with or without what stands behind a point.
+"""
+
+from __future__ import annotations
+
+import os
+from collections import Counter
+from typing import NamedTuple, Optional, Sequence
+
+from .files import STANDARD, Problem, place, read, shown
+from .texts import lines_of, text_of
+
+
+class Named(NamedTuple):
+    """The candidates' names, in the order of their hand-ins, and who handed nothing in."""
+
+    names: list[str]
+    absent: list[str]
+
+
+def read_list(file: str) -> dict[str, str]:
+    """The names in a list, by their files."""
+    found: dict[str, str] = {}
+    at: dict[str, int] = {}
+    wrong: list[str] = []
+    where = place(file)
+    for number, line in lines_of(text_of(read(file), where)):
+        left, equals, name = (part.strip() for part in line.partition("="))
+        if not (left and equals and name):
+            wrong.append(f"{where}, line {number}: no line of the form FILE = Name")
+        elif left in at:
+            again = f"{shown(left)} for the second time, after line {at[left]}"
+            wrong.append(f"{where}, line {number}: {again}")
+        else:
+            found[left], at[left] = shown(name), number
+    if wrong:
+        raise Problem(*wrong)
+    return found
+
+
+def named(files: Sequence[str], pages: Sequence[str], listed: dict[str, str]) -> Named:
+    """Each hand-in's candidate. Where two have the same name, their pages' names, which
+    differ, stand behind it."""
+    names, used = [], set()
+    for file in files:
+        key = _listed(os.path.basename(file), listed)
+        used.add(key)
+        names.append(listed[key] if key is not None else _of_file(file))
+    often = Counter(names)
+    return Named(
+        [
+            f"{name} ({shown(page.removesuffix('.html'))})" if often[name] > 1 else name
+            for name, page in zip(names, pages)
+        ],
+        [name for key, name in listed.items() if key not in used],
+    )
+
+
+def _listed(base: str, listed: dict[str, str]) -> Optional[str]:
+    """The key of a file in the list, by its whole name first."""
+    while base and base not in listed:
+        base = base.rpartition(".")[0]
+    return base or None
+
+
+def _of_file(file: str) -> str:
+    """A name from a file's: what stands in front of the last point."""
+    return place(file) if file == STANDARD else shown(os.path.splitext(os.path.basename(file))[0])

@@ -1,0 +1,114 @@
+"""The class as a page: its numbers, pictures, and a row for each candidate."""
+
+from __future__ import annotations
+
+from collections import Counter
+from typing import Iterable, Sequence
+
+from .mark import Sheet, Wanted
+from .names import sealing
+from .page import Html, page, table, tag, text
+from .pages import RESULT, at_step
+from .pictures import STYLE, Part, bar, fillings, legend
+from .records import KINDS
+from .results import COUNTED, FAILS, MISSING, WRONG, counts, wrong_by_entry
+from .sheets import Summary, class_numbers, opening, spans
+
+MOST_ENTRIES = 40  # in the picture of the entries
+
+PLACES = """
+.pictured th:nth-child(2), .pictured td:nth-child(2) { width: 34%; }
+@media screen and (max-width: 40em) {
+  .pictured td:nth-child(2) { width: auto; }
+  .pictured td:nth-child(2)::before { content: none; }
+}
+"""
+
+
+def _candidates(sheets: Sequence[Sheet], links: Sequence[str]) -> Html:
+    """A row for each candidate, with a bar of what the entries are."""
+    counted = [counts(sheet) for sheet in sheets]
+    most = max(sum(of) for of in counted)
+    rows = []
+    for sheet, of, link in zip(sheets, counted, links):
+        picture = bar([Part(name, count) for name, count in zip(COUNTED, of)], most)
+        said = f"not marked: {sheet.problem}" if sheet.problem else opening(sheet)
+        slips = "; ".join(slip.name for slip in sheet.slips)
+        name = text("a", sheet.candidate, href=link)
+        rows.append((name, picture, None if sheet.problem else of.right, said, slips))
+    heads = ("candidate", "entries", "right", "book", "slips")
+    return table(heads, rows, "pictured")
+
+
+def _entries(sheets: Sequence[Sheet], wanted: Wanted) -> Iterable[str]:
+    """The entries that some candidate got wrong, the worst first."""
+    wrong = wrong_by_entry(sheets)
+    often: Counter[int] = sum(wrong.values(), Counter())
+    ranked = sorted(often, key=lambda at: (-often[at], at))
+    marked = sum(not sheet.problem for sheet in sheets)
+    rows = []
+    for at in ranked[:MOST_ENTRIES]:
+        kind = wanted.plain[at].kind
+        parts = [Part(name, counted[at]) for name, counted in wrong.items()]
+        what = f"{kind}, {sealing(kind)} by {KINDS[kind].seal.upper()}"
+        rows.append((f"entry {at}", bar(parts, marked), often[at], what))
+    yield table(("entry", "candidates", "number", "kind"), rows, "pictured") if rows else ""
+    if ranked[MOST_ENTRIES:]:
+        fewest = often[ranked[MOST_ENTRIES]]
+        yield text("p", f"{len(ranked) - MOST_ENTRIES} more entries were got wrong by {fewest} or fewer.")
+    never = [at for at in range(len(wanted.plain)) if at not in often]
+    if marked and never:
+        yield text("p", f"Right in every book that was marked: entries {spans(never)}.")
+
+
+def _counted(
+    heads: Sequence[str], rows: Sequence[tuple[str, int, str]], filling: str, most: int
+) -> Html:
+    """Rows of a name, a bar with its number, and something more."""
+    pictured = [
+        (name, bar([Part(filling, count)], most), count, more)[: len(heads)]
+        for name, count, more in rows
+    ]
+    return table(heads, pictured, "pictured") if rows else text("p", "None.")
+
+
+def _check(kind: int, check: int) -> str:
+    """A check of a kind's redundancy in words."""
+    zero_bits = KINDS[kind].number == 1 and check == KINDS[kind].checks - 1
+    what = "the three zero bits" if zero_bits else f"redundancy byte {check}"
+    return f"kind {kind}, {sealing(kind)}: {what}"
+
+
+def class_page(
+    sheets: Sequence[Sheet],
+    of: Summary,
+    links: Sequence[str],
+    wanted: Wanted,
+    heading: str,
+    absent: Sequence[str] = (),
+) -> str:
+    """The class."""
+    numbers = f"{of.candidates} candidates: {class_numbers(of)}."
+    if absent:
+        numbers += f" Nothing was handed in by {', '.join(absent)}."
+    checks = [(_check(kind, check), count, "") for kind, check, count in of.checks]
+    most = max((count for _, _, count in of.checks), default=1)
+    steps = {slip.name: at_step(slip) for sheet in sheets for slip in sheet.slips}
+    slips = [(name, count, steps[name]) for name, count in of.slips]
+    return page(
+        "The class",
+        fillings(),
+        text("p", numbers, class_="result"),
+        tag("h2", "Candidates"),
+        legend(COUNTED),
+        _candidates(sheets, links),
+        tag("h2", "Entries, by how many candidates got them wrong"),
+        legend((WRONG, FAILS, MISSING)),
+        *_entries(sheets, wanted),
+        tag("h2", "Slips, by how many candidates made them"),
+        _counted(("slip", "candidates", "number", "step"), slips, WRONG, of.candidates),
+        tag("h2", "Checks of the redundancy, by how many entries fail them"),
+        _counted(("check", "entries", "number"), checks, FAILS, most),
+        above=heading,
+        style=RESULT + STYLE + PLACES,
+    )

@@ -1,0 +1,82 @@
+"""A class for other programs: JSON, and comma-separated values for a spreadsheet.
+
+docs/desk.md describes both forms. A change that a reader of the JSON would notice gives
+it the next number.
+"""
+
+from __future__ import annotations
+
+import csv
+import io
+from typing import Any, Iterable, Sequence
+
+from .mark import Sheet
+from .results import COUNTED, counts, wrong_by_entry
+from .sheets import Summary, sheet_json
+from .texts import Heading
+
+FORM, VERSION = "taa1 mark", 1
+
+HEADS = (
+    "candidate", "file", "entries", *COUNTED, "opens", "slips", "read as", "problem",
+)  # fmt: skip
+FORMULA = ("=", "+", "-", "@", "\t", "\r")  # what begins a formula in a spreadsheet
+
+
+def _cell(value: Any) -> Any:
+    """A cell; a text that a spreadsheet would work out has an apostrophe in front."""
+    return f"'{value}" if isinstance(value, str) and value.startswith(FORMULA) else value
+
+
+def _row(sheet: Sheet) -> Iterable[Any]:
+    opens = "" if sheet.problem else "no" if sheet.refused else "yes"
+    slips = "; ".join(slip.name for slip in sheet.slips)
+    read_as = "" if sheet.problem else sheet.read_as or "bytes"
+    start = (sheet.candidate, sheet.name, sheet.size, *counts(sheet))
+    return map(_cell, (*start, opens, slips, read_as, sheet.problem or ""))
+
+
+def class_json(
+    sheets: Sequence[Sheet], of: Summary, heading: Heading, absent: Sequence[str]
+) -> dict[str, Any]:
+    """The class for programs."""
+    wrong = wrong_by_entry(sheets)
+    entries = sorted({entry for counted in wrong.values() for entry in counted})
+    return {
+        "form": FORM,
+        "version": VERSION,
+        **heading._asdict(),
+        "class": {
+            **of._asdict(),
+            "absent": list(absent),
+            "slips": [{"slip": name, "candidates": count} for name, count in of.slips],
+            "checks": [
+                {"kind": kind, "check": check, "entries": count} for kind, check, count in of.checks
+            ],
+            "wrong_entries": [
+                {"entry": entry, **{_key(name): counted[entry] for name, counted in wrong.items()}}
+                for entry in entries
+            ],
+        },
+        "sheets": [
+            {
+                **sheet_json(sheet),
+                "name": sheet.candidate,
+                "counts": {_key(name): count for name, count in zip(COUNTED, counts(sheet))},
+            }
+            for sheet in sheets
+        ],
+    }
+
+
+def _key(name: str) -> str:
+    return name.replace(" ", "_")
+
+
+def csv_text(sheets: Iterable[Sheet]) -> str:
+    """The class."""
+    text = io.StringIO()
+    writer = csv.writer(text, lineterminator="\n")
+    writer.writerow(HEADS)
+    writer.writerows(_row(sheet) for sheet in sheets)
+    return text.getvalue()

@@ -1,0 +1,89 @@
+"""What a hand-in comes to: its entries counted, and the result in a sentence."""
+
+from __future__ import annotations
+
+from collections import Counter
+from typing import Iterable, NamedTuple
+
+from .mark import Marked, Sheet
+
+WORDS = {1: "One", 2: "Two", 3: "Three", 4: "Four", 5: "Five"}
+
+
+class Counts(NamedTuple):
+    """The model's entries, each counted as one of five things, and records beyond them."""
+
+    right: int
+    wrong: int  # no check of their redundancy fails
+    failing: int  # wrong, and a check fails
+    missing: int
+    unmarked: int
+    extra: int
+
+
+# What the counts are called.
+COUNTED = ("right", "wrong", "fails a check", "missing", "not marked", "extra")
+
+
+WRONG, FAILS, MISSING = COUNTED[1:4]
+
+
+def _fails(entry: Marked) -> bool:
+    """Whether a check of its redundancy fails."""
+    return bool(entry.opened and entry.opened.failed)
+
+
+def counts(sheet: Sheet) -> Counts:
+    """A hand-in's entries, counted."""
+    wrong = [entry for entry in sheet.entries if entry.state == "wrong"]
+    failing = sum(map(_fails, wrong))
+    missing = 0 if sheet.problem else len(sheet.missing)
+    extra = sum(entry.state in ("extra", "doubled") for entry in sheet.entries)
+    marked = sheet.right + len(wrong) + missing
+    return Counts(
+        sheet.right, len(wrong) - failing, failing, missing, sheet.size - marked, extra
+    )
+
+
+def wrong_by_entry(sheets: Iterable[Sheet]) -> dict[str, Counter[int]]:
+    """For each way to be wrong, how many candidates have each of the model's entries so."""
+    made: dict[str, Counter[int]] = {WRONG: Counter(), FAILS: Counter(), MISSING: Counter()}
+    for sheet in sheets:
+        if not sheet.problem:
+            made[MISSING].update(sheet.missing)
+            for entry in sheet.entries:
+                if entry.state == "wrong" and entry.model is not None:
+                    made[FAILS if _fails(entry) else WRONG][entry.model] += 1
+    return made
+
+
+def result(sheet: Sheet) -> str:
+    """A candidate's result in a sentence or two."""
+    if sheet.problem:
+        return f"Not marked: {sheet.problem}."
+    of = counts(sheet)
+    wrong = of.wrong + of.failing
+    said = [f"{of.right} of {sheet.size} entries right"]
+    if of.right == sheet.size:
+        said = [f"All {sheet.size} entries right" if sheet.size > 1 else "The entry is right"]
+    for count, what in (
+        (wrong, "wrong"), (of.missing, "missing"), (of.unmarked, "not marked"), (of.extra, "extra")
+    ):  # fmt: skip
+        said += [f"{count} {what}"] if count else []
+    return f"{', '.join(said)}.{_explained(sheet, wrong)}"
+
+
+def _explained(sheet: Sheet, wrong: int) -> str:
+    """What the slips explain, in a sentence behind the first."""
+    if not wrong:
+        return ""
+    entries = {entry for slip in sheet.slips for entry in slip.entries}
+    if not entries:
+        return " No slip that the desk knows explains what is wrong."
+    number = len(sheet.slips)
+    much = f"{len(entries)} of the {wrong} wrong entries"
+    if len(entries) == wrong:
+        much = {1: "the wrong entry", 2: "both wrong entries"}.get(wrong, f"all {wrong} wrong entries")
+    verb = "slip explains" if number == 1 else "slips explain"
+    names = "; ".join(slip.name for slip in sheet.slips)
+    return f" {WORDS.get(number, number)} {verb} {much}: {names}."

@@ -1,0 +1,156 @@
+"""A class: names, counts, pictures, and its table and JSON for other programs."""
+
+from __future__ import annotations
+
+import csv
+import io
+import json
+import re
+from fractions import Fraction
+
+from common import CLASS, PLAIN_BOOK, Case, seal, taa1
+from taa1 import pictures
+from taa1.records import PLAIN, SEALED, Entry, split
+from taa1.results import COUNTED
+
+INPUTS = (CLASS / "sitting.txt", CLASS / "model.txt")
+MODEL = split(seal(), SEALED)
+
+
+def _wrong_version() -> bytes:
+    """The model's record 2 with another version, properly sealed."""
+    entry = Entry.of(split(PLAIN_BOOK, PLAIN)[2])
+    return seal(plain=entry._replace(version=entry.version ^ 1).data)
+
+
+# Of each hand-in: the book, and its entries right, wrong, failing, missing, not marked, extra.
+FAILING = MODEL[4][:-1] + bytes([MODEL[4][-1] ^ 1])
+BOOKS = {
+    "all": (MODEL, (12, 0, 0, 0, 0, 0)),
+    "wrong": ([*MODEL[:2], _wrong_version(), *MODEL[3:]], (11, 1, 0, 0, 0, 0)),
+    "fails": ([*MODEL[:4], FAILING, *MODEL[5:]], (11, 0, 1, 0, 0, 0)),
+    "short": (MODEL[:9], (9, 0, 0, 3, 0, 0)),
+    "twice": ([*MODEL, MODEL[0]], (12, 0, 0, 0, 0, 1)),
+    "double": ([*MODEL[:7], MODEL[0], *MODEL[8:]], (11, 0, 0, 1, 0, 1)),
+    "tried": ([*MODEL[:5], FAILING, *MODEL[5:]], (12, 0, 0, 0, 0, 1)),
+    "noise": ([b"\x8f" * SEALED], (0, 0, 0, 0, 12, 0)),
+    "mixed": ([FAILING, _wrong_version(), *MODEL[5:], MODEL[6], MODEL[7]], (7, 1, 1, 3, 0, 2)),
+}
+
+
+class Class(Case):
+    """taa1 mark of several candidates."""
+
+    def setUp(self) -> None:
+        """Writes the books."""
+        super().setUp()
+        self.books = [self.file(f"{n}.book", b"".join(records)) for n, (records, _) in BOOKS.items()]
+
+    def test_csv(self) -> None:
+        """A line of heads and one for each candidate, each entry counted as what it is."""
+        done = taa1("mark", *INPUTS, *self.books, "--csv")
+        rows = list(csv.DictReader(io.StringIO(done.out.decode())))
+        self.assertEqual([row["candidate"] for row in rows], list(BOOKS))
+        for row, (_, counts) in zip(rows, BOOKS.values()):
+            self.assertEqual(tuple(int(row[name]) for name in COUNTED), counts, row["candidate"])
+            self.assertEqual(sum(counts[:5]), int(row["entries"]))
+        opens = [row["opens"] for row in rows]
+        self.assertEqual(opens, ["yes", "yes", "no", "yes", "yes", "yes", "no", "", "no"])
+        self.assertIn("0 of 1 records begin with a kind", rows[7]["problem"])
+
+    def test_formulas(self) -> None:
+        """What a spreadsheet would work out has an apostrophe in front; commas are quoted."""
+        names = ("=1+1.book", "+a.book", "@b.book", "-c, \"d\".book", "e=f.book")
+        for name in names:
+            self.file(name, b"".join(MODEL))
+        files = [f"./{name}" for name in names]
+        out = taa1("mark", *INPUTS, *files, "--csv", cwd=self.folder).out.decode()
+        found = [row[0] for row in csv.reader(io.StringIO(out))][1:]
+        self.assertEqual(found, ["'=1+1", "'+a", "'@b", "'-c, \"d\"", "e=f"])
+
+    def test_json(self) -> None:
+        """The form has a number, and says of the class what the sheets say."""
+        said = json.loads(taa1("mark", *INPUTS, *self.books, "--json").out)
+        self.assertEqual((said["form"], said["version"]), ("taa1 mark", 1))
+        counts = [tuple(sheet["counts"].values()) for sheet in said["sheets"]]
+        self.assertEqual(counts, [counts for _, counts in BOOKS.values()])
+        wrong = {each.pop("entry"): tuple(each.values()) for each in said["class"]["wrong_entries"]}
+        self.assertEqual(
+            wrong,
+            {2: (2, 0, 0), 4: (0, 2, 0), 0: (0, 0, 1), 1: (0, 0, 1), 3: (0, 0, 1), 7: (0, 0, 1),
+             9: (0, 0, 1), 10: (0, 0, 1), 11: (0, 0, 1)},
+        )  # fmt: skip
+        self.fails(2, "mark: --csv or --json, not both", "mark", *INPUTS, *self.books, "--csv", "--json")
+
+    def test_bars(self) -> None:
+        """Each part of a candidate's bar is as wide as it has entries."""
+        taa1("mark", *INPUTS, *self.books, "--html", self.folder / "pages")
+        page = (self.folder / "pages" / "index.html").read_text()
+        most = max(sum(counts) for _, counts in BOOKS.values())
+        for name, (_, counts) in BOOKS.items():
+            row = re.search(rf'<a href="{name}.book.html">{name}</a>.*?<svg.*?>(.*?)</svg>', page)
+            assert row
+            wide = dict.fromkeys(COUNTED, 0.0)
+            for width, filling in re.findall(r'width="([\d.]+)%".*?fill="url\(#(.*?)\)"', row[1]):
+                wide[filling.replace("-", " ")] += float(width)
+            for what, count in zip(COUNTED, counts):
+                self.assertAlmostEqual(wide[what], 100 * count / most, 1, (name, what))
+        worst = re.findall(r'data-head="entry">entry (\d+)<.*?<title>(.*?)</title>', page)
+        self.assertEqual(worst[:3], [("2", "wrong: 2"), ("4", "fails a check: 2"), ("0", "missing: 1")])
+        self.assertIn("Right in every book that was marked: entries 5, 6 and 8.", page)
+
+    def test_histogram(self) -> None:
+        """Every value is in one column, and full points in the last."""
+        values = [Fraction(n, 2) for n in range(25)]
+        self.assertEqual(pictures.columns(values, Fraction(12)), (2, [4, 4, 4, 4, 4, 5]))
+        self.assertEqual(pictures.columns([Fraction(0), Fraction(3)], Fraction(3)), (1, [1, 0, 1]))
+        self.assertEqual(pictures.columns([Fraction(0)], Fraction(0)), (1, [1]))
+        wide = pictures.columns(values, Fraction(247, 2))
+        self.assertEqual((wide.width, len(wide.counts), sum(wide.counts)), (13, 10, 25))
+        means = {"mean": Fraction(17, 3), "median": Fraction(6)}
+        page = pictures.histogram(values, Fraction(12), means)
+        self.assertIn(">mean 5.67<", page)
+        self.assertIn('<text x="50.00%" y="160.0" dx="0" text-anchor="middle">▲', page)
+
+
+class Names(Case):
+    """Candidates' names, from their files or from a list."""
+
+    def names(self, *books: object, error: str = "") -> list[str]:
+        """The names on the pages."""
+        done = taa1("mark", *INPUTS, *books, "--html", "pages", cwd=self.folder)
+        self.assertEqual((done.status, done.error), (0, error))
+        index = (self.folder / "pages" / "index.html").read_text()
+        return re.findall(r'data-head="candidate"><a href="[^"]*">(.*?)</a>', index)
+
+    def test_files(self) -> None:
+        for folder in ("one", "two"):
+            (self.folder / folder).mkdir()
+            self.file(f"{folder}/ann.book", seal())
+            self.file(f"{folder}/{folder}.b.hex", seal())
+        books = ("one/ann.book", "one/one.b.hex", "two/ann.book", "two/two.b.hex")
+        names = ["ann (one-ann.book)", "one.b", "ann (two-ann.book)", "two.b"]
+        self.assertEqual(self.names(*books), names)
+        title = (self.folder / "pages" / "one-ann.book.html").read_text()
+        self.assertIn("<h1>ann (one-ann.book)</h1>", title)
+
+    def test_list(self) -> None:
+        """By the file's whole name or its stem; who handed nothing in is named."""
+        for name in ("ann.book", "b.c.hex", "dee.book"):
+            self.file(name, seal())
+        self.file("list", "# the winter class\nann = Ann Archer\nb.c.hex = Bo & Co\ngil = Gil Hart\n")
+        books = ("ann.book", "b.c.hex", "dee.book", "--candidates", "list")
+        error = "taa1: nothing was handed in by Gil Hart\n"
+        self.assertEqual(self.names(*books, error=error), ["Ann Archer", "Bo &amp; Co", "dee"])
+        index = (self.folder / "pages" / "index.html").read_text()
+        self.assertIn("Nothing was handed in by Gil Hart.", index)
+        out = taa1("mark", *INPUTS, *books, "--json", cwd=self.folder).out
+        self.assertEqual([s["name"] for s in json.loads(out)["sheets"]], ["Ann Archer", "Bo & Co", "dee"])
+        self.assertEqual(json.loads(out)["class"]["absent"], ["Gil Hart"])
+
+    def test_bad_list(self) -> None:
+        book = self.file("ann.book", seal())
+        bad = self.file("list", "ann\n= Ann\nann =\nb = B\nb = C\n")
+        lines = [f"{bad}, line {n}: no line of the form FILE = Name" for n in (1, 2, 3)]
+        lines.append(f"{bad}, line 5: b for the second time, after line 4")
+        self.fails(2, "\ntaa1: ".join(lines), "mark", *INPUTS, book, "--candidates", bad)
