@@ -104,8 +104,8 @@ SEALING = {
     "key-middle": "middle ten bytes for the key's mask",
     "key-rest": "first ten bytes that the response leaves for the key's mask",
     "tb4-sum": "TB4 as a sum",
-    "d-key1": "TA12 alone",
-    "d-key2": "TA22 alone",
+    "d-key1": "key 1 for D, no TB4",
+    "d-key2": "key 2 for D, no TB4",
     "d-o-exchanged": "D and O exchanged: O's first ten bytes, EXP4 of D",
     "d-o-exchanged-zeros": "D and O exchanged: O's first ten bytes, D and zeros",
     "d-from-o": "O's first ten bytes for D",
@@ -173,8 +173,6 @@ ONE_SIDED = {
     ("radio", "ta41-under-session"): "TA41 under session key 2",
     ("radio", "sessions-exchanged"): "TA11 for TA21",
     ("network", "sessions-exchanged"): "TA21 for TA11",
-    ("radio", "d-key1"): "zeros for D",
-    ("network", "d-key2"): "zeros for D",
     ("radio", "sides-other"): "TA12 alone",
 }
 OPENING = {
@@ -196,6 +194,17 @@ OPENING = {
     "identity-kept": "identity not decrypted",
     "identity-again": "TA61 for its inverse",
 }
+# Slips of one step in the keys.
+KEYS = {
+    "session1-exp2-xor": "EXP2's last byte as ⊕, in TA11 alone",
+    "session1-unchained": "no chaining in BL1, in TA11 alone",
+    "session2-decrypting": "decryption for encryption in BL1, in TA21 alone",
+    "session2-exp2-xor": "EXP2's last byte as ⊕, in TA21 alone",
+    "key1-masks": "masks counted from the left, in TA12 alone",
+    "o-exp2-xor": "EXP2's last byte as ⊕, in TA41 alone",
+    # EXP1 is worked in EXP2 alone there, since TA31 is right under the candidate's own D
+    "exp1-before": "EXP1's ⊕ bytes before their pairs, in EXP2 alone",
+}
 # Edited books: the slip that is named, and for how many entries; none where fields are named.
 EDITED = {
     "texts-exchanged": ("two entries' texts exchanged", 2),
@@ -208,4 +217,11 @@ EDITED = {
     "keys-exchanged": ("two entries' keys exchanged", 2),
     "flags-missed": ("redundancy not checked", 7),
     "flag-missed-once": ("three zero bits not checked", 1),
+}
+# Edited files of keys, likewise.
+EDITED_KEYS = {
+    "o-right-book-wrong": "G for O",
+    "response-key-exchanged": "masks exchanged",
+    "sessions-miscopied": "RS reversed",
+    "only-d-wrong": "TB4 as a sum",
 }

@@ -9,7 +9,9 @@ from typing import Union
 import said
 from common import DESK
 from exams import Exam
-from planted import OpenedBook, SealedBook, opened_books, sealed_books
+from planted import KeyFile, OpenedBook, SealedBook, key_files, opened_books, sealed_books
+from taa1.handins import text_of
+from taa1.keysheet import parse
 from taa1.mark import Marker, Sheet
 from taa1.opened import OpenedMarker
 from taa1.sheets import sheet_text
@@ -42,7 +44,7 @@ def explained(sheet: Sheet) -> list[int]:
     return sorted({index for slip in sheet.slips for index in slip.entries})
 
 
-def called(book: Union[SealedBook, OpenedBook], slip: str) -> str:
+def called(book: Union[SealedBook, OpenedBook, KeyFile], slip: str) -> str:
     """What the desk calls a planted slip."""
     names = {**said.SEALING, **(said.OPENING if isinstance(book, OpenedBook) else {})}
     return said.ONE_SIDED.get((book.exam.name, slip), names[slip])
@@ -108,6 +110,63 @@ class SealedBooks(unittest.TestCase):
         self.assertEqual((sheet.extra, sheet.perfect), (more, False))
         line = f"  {more} extra record{'s' * (more > 1)}: {records} records, where the model has 20"
         self.assertEqual(sheet_text(sheet).splitlines()[1], f"{line} entries")
+
+
+class KeyFiles(unittest.TestCase):
+    """Keys beside a book: what is wrong, what follows from it, and the slip."""
+
+    def test_planted(self) -> None:
+        for file in key_files():
+            with self.subTest(file.name):
+                text = text_of(file.text)
+                keys = parse(text[0] if text else "")
+                sheet = marker(file.exam).mark(file.name, file.book, keys)
+                states = {mark.name: mark.state for mark in sheet.keys.marks}
+                short = {"D"} if file.name == "both/short" else set()
+                wrong = {name for name in states if states[name] in ("wrong", "follows")}
+                self.assertEqual(wrong, set(file.wrong) | short)
+                follows = {name for name in states if states[name] == "follows"}
+                self.assertEqual(follows, set(file.followed))
+                self.assertEqual((sheet.right, sheet.following), (file.right, file.entries_followed))
+                self.assertEqual(bool(keys.problems), file.group == "bad" and not short)
+                getattr(self, f"_{file.group.replace(' ', '_')}", self._no_slip)(file, sheet)
+
+    def _no_slip(self, file: KeyFile, sheet: Sheet) -> None:
+        """Files as such, whose values are the model's."""
+        self.assertEqual(sheet.slips, ())
+
+    def _edited(self, file: KeyFile, sheet: Sheet) -> None:
+        """The slip that gives the file's values or the book's entries, if there is one."""
+        slip = said.EDITED_KEYS.get(file.name.partition("/")[2])
+        self.assertEqual(named(sheet), {slip} if slip else set())
+
+    def _one_side(self, file: KeyFile, sheet: Sheet) -> None:
+        worked = file.name.endswith("-worked")
+        self.assertEqual(named(sheet), {"both sides for one"} if worked else set())
+
+    def _one_step(self, file: KeyFile, sheet: Sheet) -> None:
+        """The slip is named with every value and entry that it gives; typing errors have none."""
+        slip = said.KEYS.get(file.slips[0], "")
+        if file.exam.name != "both":  # where TA22 does not run, in TA12 alone is everywhere
+            slip = slip.replace(", in TA12 alone", "")
+        self.assertEqual(named(sheet), {slip} if slip else set())
+        if slip:
+            self.assertEqual(explained(sheet), wrong(sheet))
+            self.assertEqual(set(sheet.slips[0].keys), set(file.wrong))
+
+    def _throughout(self, file: KeyFile, sheet: Sheet) -> None:
+        slip = said.KEYS.get(file.slips[0], called(file, file.slips[0]))
+        if file.slips[0] == "sessions-exchanged" and file.exam.name == "both":
+            slip = "RS reversed"  # the session keys show it
+        self.assertIn(slip, named(sheet))
+        self.assertEqual(explained(sheet), wrong(sheet))
+
+    def _several(self, file: KeyFile, sheet: Sheet) -> None:
+        """Each slip, also of a value that is worked from a wrong one."""
+        slips = {said.KEYS.get(name) or said.SEALING.get(name) for name in file.slips} - {None}
+        self.assertLessEqual(slips, named(sheet))
+        for slip in sheet.slips:
+            self.assertEqual(slip.own, file.slips[0].endswith("-digit") or slip.name.startswith("key 1"))
 
 
 class OpenedBooks(unittest.TestCase):

@@ -329,7 +329,7 @@ class Command(Case):
         """Text, JSON and pages say how it was read."""
         self.file("ben.hex", BOOK.hex())
         words = "12 of 12 entries right; opens; read as hexadecimal"
-        self.assertEqual(self.mark("ben.hex").out.decode(), f"ben.hex: {words}\n")
+        self.assertEqual(self.mark("ben.hex").out.decode(), f"ben.hex: {words}\n  points 12 of 12\n")
         sheet = json.loads(self.mark("ben.hex", "--json").out)["sheets"][0]
         self.assertEqual(sheet["read_as"], "hexadecimal")
         self.mark("ben.hex", "--html", "pages")

@@ -141,9 +141,11 @@ class Command(Case):
         self.assertEqual(
             done.decode(),
             f"{lines}: 12 of 12 entries right; every flag right; read as lines\n"
+            "  points 12 of 12\n"
             f"{plain}: 10 of 12 entries right; 2 flags set, which bytes can't say "
             "(lines can: entry I flag)\n"
             "  entries 2 and 6: the flag is set, which bytes can't say\n"
+            "  points 10 of 12\n"
             "candidates 2: 1 all right, 0 not marked\n",
         )
         said = json.loads(self.accepted("mark", "--opened", sitting, handout, plain, "--json"))

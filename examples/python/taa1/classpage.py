@@ -12,6 +12,7 @@ from .pages import RESULT, at_step
 from .pictures import STYLE, Part, bar, fillings, legend
 from .records import KINDS
 from .results import COUNTED, FAILS, MISSING, WRONG, counts, wrong_by_entry
+from .scheme import said as points_said
 from .sheets import Summary, class_numbers, opening, spans
 
 MOST_ENTRIES = 40  # in the picture of the entries
@@ -35,8 +36,9 @@ def _candidates(sheets: Sequence[Sheet], links: Sequence[str]) -> Html:
         said = f"not marked: {sheet.problem}" if sheet.problem else opening(sheet)
         slips = "; ".join(slip.name for slip in sheet.slips)
         name = text("a", sheet.candidate, href=link)
-        rows.append((name, picture, None if sheet.problem else of.right, said, slips))
-    heads = ("candidate", "entries", "right", "book", "slips")
+        points = points_said(sheet.points.sum) if sheet.points else None
+        rows.append((name, picture, None if sheet.problem else of.right, points, said, slips))
+    heads = ("candidate", "entries", "right", "points", "book", "slips")
     return table(heads, rows, "pictured")
 
 

@@ -16,7 +16,8 @@ from pathlib import Path
 from typing import Any, Callable, NoReturn, Optional, Sequence, Union
 from urllib.parse import quote
 
-from . import __version__, candidates, draw, files, handins, names, pages, paper, texts
+from . import __version__, candidates, draw, files, handins, keysheet, names, pages, paper
+from . import scheme, texts
 from .calls import CALLS, Call, Parameter
 from .classpage import class_page
 from .damage import Damage, damaged
@@ -475,19 +476,20 @@ def run_mark(args: argparse.Namespace) -> int:
     _once(args.sitting, args.book, *handed.names)
     forms = _forms(args, handed.names)
     listed = candidates.read_list(args.candidates) if args.candidates else {}
+    by = _scheme(args.scheme)
     reader, heading = _reader(args)
     sheets = []
     for done, (name, form) in enumerate(zip(handed.names, forms)):
         files.progress(done, len(handed.names))
         try:
-            sheet = reader.mark(name, files.read(name), form)
+            sheet = reader.mark(name, files.read(name), form, _keys_beside(name))
         except Problem as problem:
             reason = str(problem).removeprefix(f"{place(name)}: ")
             sheet = reader.unreadable(place(name), reason)
         if sheet.problem and not args.dry:
             files.progress(0, 0)
             files.say(f"{sheet.name}: {sheet.problem}")
-        sheets.append(sheet)
+        sheets.append(sheet if sheet.problem else sheet._replace(points=scheme.score(by, sheet)))
     files.progress(0, 0)
     named = handins.page_names(handed.names, INDEX)
     who = candidates.named(handed.names, named, listed)
@@ -518,6 +520,33 @@ def run_mark(args: argparse.Namespace) -> int:
         end = summary_text(of) if len(sheets) > 1 else ""
         _emit_text(args, "".join(map(sheet_text, sheets)) + end)
     return REFUSED if of.unreadable else ACCEPTED
+
+
+def _scheme(name: Optional[str]) -> scheme.Scheme:
+    """The scheme in a file, or the default."""
+    if name is None:
+        return scheme.parse(scheme.DEFAULT, "the default")
+    return scheme.parse(texts.text_of(files.read(name), place(name)), place(name))
+
+
+def run_scheme(args: argparse.Namespace) -> int:
+    """The points that marking gives, as a text to change: mark --scheme FILE."""
+    _emit_text(args, scheme.DEFAULT)
+    return ACCEPTED
+
+
+def _keys_beside(name: str) -> Optional[keysheet.KeyFile]:
+    """What NAME.keys says that lies beside a hand-in NAME.book, if there is one."""
+    beside = os.path.splitext(name)[0] + ".keys"
+    if name == STANDARD or beside == name or not os.path.isfile(beside):
+        return None
+    try:
+        text = handins.text_of(files.read(beside))
+    except Problem as problem:
+        return keysheet.KeyFile({}, problem.lines)
+    if text is None:
+        return keysheet.KeyFile({}, (f"{shown(beside)}: it is no text",))
+    return keysheet.parse(text[0])
 
 
 def _reader(args: argparse.Namespace) -> tuple[Union[Reader, OpenedMarker], texts.Heading]:
@@ -765,6 +794,9 @@ def parser() -> Parser:
         help="BOOK is a sealed book that was handed out, and each CANDIDATE what was opened from "
         "it: lines, where `entry I flag` says that a flag is set, or a plain book's bytes",
     )
+    mark.add_argument(
+        "--scheme", metavar="FILE", help="the points; default: those that taa1 scheme prints"
+    )
     mark.add_argument("--html", metavar="FOLDER", help="write a page for each, and index.html")
     mark.add_argument(
         "--candidates", metavar="FILE", help="their names, a line FILE = Name for each hand-in"
@@ -781,6 +813,7 @@ def parser() -> Parser:
     )
     _common(mark, bytes="", json="")
 
+    _common(command("scheme", run_scheme, private=False))
     _common(command("slips", run_slips, private=False))
 
     help_ = command("help", run_help, private=False)

@@ -12,13 +12,14 @@ from typing import Any, Iterable, Sequence
 
 from .mark import Sheet
 from .results import COUNTED, counts, wrong_by_entry
+from .scheme import written
 from .sheets import Summary, sheet_json
 from .texts import Heading
 
 FORM, VERSION = "taa1 mark", 1
 
 HEADS = (
-    "candidate", "file", "entries", *COUNTED, "opens", "slips", "read as", "problem",
+    "candidate", "file", "entries", *COUNTED, "points", "opens", "slips", "read as", "problem",
 )  # fmt: skip
 FORMULA = ("=", "+", "-", "@", "\t", "\r")  # what begins a formula in a spreadsheet
 
@@ -32,7 +33,8 @@ def _row(sheet: Sheet) -> Iterable[Any]:
     opens = "" if sheet.problem else "no" if sheet.refused else "yes"
     slips = "; ".join(slip.name for slip in sheet.slips)
     read_as = "" if sheet.problem else sheet.read_as or "bytes"
-    start = (sheet.candidate, sheet.name, sheet.size, *counts(sheet))
+    points = written(sheet.points.sum) if sheet.points else ""
+    start = (sheet.candidate, sheet.name, sheet.size, *counts(sheet), points)
     return map(_cell, (*start, opens, slips, read_as, sheet.problem or ""))
 
 

@@ -19,6 +19,7 @@ from typing import Callable, NamedTuple, Optional, Sequence
 
 from .engine import Refused
 from .files import MOST_BYTES, STANDARD, Problem, from_hex, is_printed, place, reason
+from .keysheet import KeyFile
 from .mark import Marked, Marker, Sheet, Wanted
 from .records import KINDS, PLAIN, SEALED, split
 from .sheets import plural
@@ -252,13 +253,15 @@ class Reader:
         self.names = {PLAIN: {record[1:4] for record in plain}}
         self.sealed_names = {record[1:4] for record in marker.model}
 
-    def mark(self, name: str, data: bytes, form: str = "") -> Sheet:
+    def mark(
+        self, name: str, data: bytes, form: str = "", keys: Optional[KeyFile] = None
+    ) -> Sheet:
         """The mark sheet of a hand-in; a form that is given is not questioned."""
         where = place(name)
         reading = self.forced(data, form) if form else self.read(data)
         problem = reading.problem
         if problem is None:
-            sheet = self.marker.mark(where, reading.book)._replace(read_as=reading.how)
+            sheet = self.marker.mark(where, reading.book, keys)._replace(read_as=reading.how)
             problem = None if form else self.strange(sheet)
             if problem is None:
                 return sheet

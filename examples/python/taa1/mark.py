@@ -14,10 +14,13 @@ from typing import NamedTuple, Optional, Sequence, Union
 
 from .desk import Desk
 from .engine import Refused, Sitting
-from .explain import IDENTITY, TEXT, Found, Part, Table, exchanges
+from .explain import IDENTITY, KEY, TEXT, Found, Part, Table, exchanges
+from .keysheet import KeyFile, KeyMarker, KeySheet
 from .pairing import Pairs, out_of_order, pair
 from .records import KINDS, PLAIN, SEALED, Entry, Ring, split, whole
+from .scheme import Points
 from .slips import work
+from .working import KEYS
 
 PARTS = {IDENTITY: "identities", TEXT: "texts", "flag": "flags"}
 FIELDS = {"identity": slice(1, 4), "version": slice(4, 6), "text": slice(6, SEALED)}
@@ -56,6 +59,7 @@ class Marked:
     borrowed: tuple[tuple[str, int], ...] = ()  # fields that are another entry's, and whose
     note: str = ""  # what else is wrong
     record: bytes = b""  # as it was handed in
+    follows: str = ""  # the candidate's own key under which it is right
 
 
 class Flags(NamedTuple):
@@ -83,8 +87,10 @@ class Explained(NamedTuple):
     name: str
     entries: tuple[int, ...]
     others: tuple[str, ...]
-    part: str = ""  # of entries that have more wrong: identities or texts
+    part: str = ""  # of entries that have more wrong: identities, texts or flags
     step: tuple[str, str] = ("", "")  # at which it happens, and the clause
+    keys: tuple[str, ...] = ()  # that it explains as well
+    own: bool = False  # under the candidate's own keys
 
 
 class Sheet(NamedTuple):
@@ -103,11 +109,19 @@ class Sheet(NamedTuple):
     problems: tuple[str, ...] = ()  # of lines that can't be read
     flags: Optional[Flags] = None  # of a book that was opened
     candidate: str = ""  # the name, from a list or from the file's
+    keys: KeySheet = KeySheet()  # handed in beside it
+    kinds: tuple[int, ...] = ()  # of the model's entries
+    points: Optional[Points] = None
 
     @property
     def right(self) -> int:
         """How many entries are right."""
         return sum(entry.state == "right" for entry in self.entries)
+
+    @property
+    def following(self) -> int:
+        """How many wrong entries are right under the candidate's own keys."""
+        return sum(bool(entry.follows) for entry in self.entries)
 
     @property
     def failing(self) -> int:
@@ -139,7 +153,9 @@ class Marker:
     def __init__(self, desk: Desk, sitting: Sitting, plain: bytes) -> None:
         """Works the model, and every slip, once."""
         self.desk = desk
+        self.keys = KeyMarker(desk, sitting)
         self.ring = Ring.of(desk.call("ring", *sitting)["ring"])
+        self.plain = plain
         self.entries = [Entry.of(record) for record in split(plain, PLAIN)]
         sealed = desk.call("seal_book", self.ring.data, plain)["out"]
         self.model = split(sealed, SEALED)
@@ -165,7 +181,8 @@ class Marker:
                 for part, value in parts_of(record).items()
                 if value != self.parts[place][part]
             }
-            self.table.add(worked.slip, altered)
+            keys = {(KEY, name): value for name, value in worked.keys.items()}
+            self.table.add(worked.slip, {**altered, **keys})
             for (place, _), value in altered.items():
                 self.signs[value].add(place)
         self.known: dict[bytes, Opened] = {}
@@ -175,9 +192,11 @@ class Marker:
         """What is wanted of each entry."""
         return Wanted(self.model, self.entries)
 
-    def mark(self, name: str, book: bytes) -> Sheet:
-        """The mark sheet of a book."""
+    def mark(self, name: str, book: bytes, file: Optional[KeyFile] = None) -> Sheet:
+        """The mark sheet of a book, and of keys that are handed in beside it."""
         records = split(book, SEALED)
+        keys = self.keys.mark(file) if file else KeySheet()
+        follow = self._following(keys)
         pairs = pair(records, self.model, self.places, self._signs, self._said, self._alike)
         refused: Optional[Refused] = None
         try:
@@ -185,7 +204,7 @@ class Marker:
         except Refused as error:
             refused = error
         moved = out_of_order(pairs.entries)
-        slips, borrowed = self._explain(records, pairs.entries)
+        slips, borrowed = self._explain(records, pairs.entries, keys)
         named: dict[int, list[str]] = defaultdict(list)
         for slip in slips:
             for index in slip.entries:
@@ -208,12 +227,33 @@ class Marker:
                     "; ".join(named[index]) or None,
                     tuple(borrowed.get(index, {}).items()),
                     record=record,
+                    follows=follow.get((model, record), ""),
                 )
             )
         missing = sorted(set(range(len(self.model))) - set(pairs.entries.values()))
-        left = len(book) % SEALED
-        size = len(self.model)
-        return Sheet(name, None, refused, size, tuple(entries), tuple(missing), left, slips)
+        return Sheet(
+            name,
+            None,
+            refused,
+            len(self.model),
+            tuple(entries),
+            tuple(missing),
+            len(book) % SEALED,
+            slips,
+            keys=keys,
+            kinds=tuple(entry.kind for entry in self.entries),
+        )
+
+    def _following(self, keys: KeySheet) -> dict[tuple[Optional[int], bytes], str]:
+        """The entries that are others under the candidate's own keys, and under which."""
+        if keys.ring is None:
+            return {}
+        own = split(self.desk.call("seal_book", keys.ring.data, self.plain)["out"], SEALED)
+        return {
+            (place, record): KINDS[record[0]].sealing_key.upper()
+            for place, (record, right) in enumerate(zip(own, self.model))
+            if record != right
+        }
 
     def unreadable(self, name: str, problem: str) -> Sheet:
         """The sheet of a book that can't be read."""
@@ -265,7 +305,7 @@ class Marker:
     # ---- what explains it
 
     def _explain(
-        self, records: list[bytes], pairs: dict[int, int]
+        self, records: list[bytes], pairs: dict[int, int], keys: KeySheet
     ) -> tuple[tuple[Explained, ...], dict[int, dict[str, int]]]:
         """The slips that give the wrong entries; and for each entry the fields that are
         another one's, and whose."""
@@ -278,17 +318,22 @@ class Marker:
                     right.append((place, part))
                 else:
                     wrong[place, part] = value
+        entries = set(wrong)
+        wrong.update({(KEY, name): value for name, value in keys.wrong.items()})
+        right += [(KEY, mark.name) for mark in keys.marks if mark.state == "right"]
         found = self.table.explain(wrong, right)
         rest = set(wrong).difference(*(each.parts for each in found))
+        under = self.keys.explain(keys, rest)
         alone = {
             (place, field): value
-            for place in {place for place, _ in rest}
+            for place in {place for place, _ in rest if place != KEY}
             for field, value in self._wrong_alone(records[at[place]], place).items()
             if (place, IDENTITY if field == IDENTITY else TEXT) in rest
         }
         others, borrowed = exchanges(alone, self.fields)
-        slips = tuple(explained(each, set(wrong), at) for each in [*found, *others])
-        return slips, {at[place]: fields for place, fields in borrowed.items()}
+        slips = [explained(each, entries, at) for each in [*found, *others]]
+        slips += [explained(each, entries, at)._replace(own=True) for each in under]
+        return tuple(slips), {at[place]: fields for place, fields in borrowed.items()}
 
     def _wrong_alone(self, record: bytes, place: int) -> dict[str, bytes]:
         """The fields of a record that are wrong with nothing else wrong in their part."""
@@ -315,9 +360,9 @@ def _state(pairs: Pairs, index: int) -> tuple[str, Optional[int]]:
 
 
 def explained(found: Found, wrong: set[Part], at: dict[int, int]) -> Explained:
-    """A slip in the words of a sheet."""
-    places = {place for place, _ in found.parts}
-    kinds = {part for _, part in found.parts}
+    """A slip in the words of a sheet; the wrong parts of the entries are given."""
+    places = {place for place, _ in found.parts if place != KEY}
+    kinds = {part for place, part in found.parts if place != KEY}
     all_of_them = all((p, part) in found.parts for p, part in wrong if p in places)
     part = "" if all_of_them or len(kinds) > 1 else PARTS[min(kinds)]
     return Explained(
@@ -326,6 +371,7 @@ def explained(found: Found, wrong: set[Part], at: dict[int, int]) -> Explained:
         tuple(slip.name for slip in found.others),
         part,
         found.slip.step,
+        tuple(name for name in KEYS if (KEY, name) in found.parts),
     )
 
 

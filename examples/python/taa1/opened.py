@@ -13,9 +13,10 @@ from typing import Any, NamedTuple, Optional
 from . import texts
 from .desk import Desk, RefusedFile
 from .engine import MOST_RECORDS, Refusal, Refused, Sitting
-from .explain import IDENTITY, TEXT, Found, Part, Table, exchanges
+from .explain import IDENTITY, KEY, TEXT, Found, Part, Table, exchanges
 from .files import Problem, place
 from .handins import BYTES, FORMS, text_of
+from .keysheet import KeyFile, KeyMarker, KeySheet
 from .mark import Difference, Flags, Marked, Sheet, Wanted, differences, explained
 from .pairing import pair
 from .records import KINDS, PLAIN, SEALED, Entry, split
@@ -56,8 +57,9 @@ class OpenedMarker:
         self.sealed = sealed
         records = split(sealed, SEALED)
         self._check(records, where)
-        steps = Steps(desk)
-        self.truth = opened(steps, ring_of(steps.keys(sitting)), records)
+        self.records, self.steps = records, Steps(desk)
+        self.keys = KeyMarker(desk, sitting)
+        self.truth = opened(self.steps, ring_of(self.keys.model), records)
         self.table = Table()
         for worked in work_opened(desk, sitting, records):
             altered = {
@@ -66,7 +68,8 @@ class OpenedMarker:
                 for part, value in _parts(made).items()
                 if value != _parts(self.truth[index])[part]
             }
-            self.table.add(worked.slip, altered)
+            keys = {(KEY, name): value for name, value in worked.keys.items()}
+            self.table.add(worked.slip, {**altered, **keys})
 
     def _check(self, records: list[bytes], where: str) -> None:
         bad = next((i for i, record in enumerate(records) if record[0] not in KINDS), 0)
@@ -177,33 +180,40 @@ class OpenedMarker:
     def _right(self, answers: dict[int, Answer], start: int) -> int:
         """How many answers are right if the entries are counted from here."""
         at = ((index - start, answer) for index, answer in answers.items())
-        return sum(i < len(self.truth) and self._state(i, answer) == "right" for i, answer in at)
+        return sum(i < len(self.truth) and _state(self.truth[i], answer) == "right" for i, answer in at)
 
     # ---- marking
 
-    def mark(self, name: str, data: bytes, form: str = "") -> Sheet:
-        """The mark sheet of a hand-in."""
+    def mark(
+        self, name: str, data: bytes, form: str = "", file: Optional[KeyFile] = None
+    ) -> Sheet:
+        """The mark sheet of a hand-in, and of keys that are handed in beside it."""
         where = place(name)
         try:
             read = self.read(data, form)
         except (Problem, ValueError, SyntaxError) as error:
             return self.unreadable(where, str(error).lstrip(", :"))
+        keys = self.keys.mark(file) if file else KeySheet()
+        own = opened(self.steps, keys.ring, self.records) if keys.ring else self.truth
         wrong: dict[Part, Any] = {}
         right: list[Part] = []
         for index, answer in read.answers.items():
             truth, said = _parts(self.truth[index]), _said(answer)
-            state = self._state(index, answer)
+            state = _state(self.truth[index], answer)
             right += [(index, p) for p in said if state == "right" or said[p] == truth[p]]
             if state == "wrong":
                 wrong.update({(index, p): v for p, v in said.items() if v != truth[p]})
-        flags = self._flags(read)
+        flags, entries = self._flags(read), set(wrong)
+        wrong.update({(KEY, name): value for name, value in keys.wrong.items()})
+        right += [(KEY, mark.name) for mark in keys.marks if mark.state == "right"]
         invented = {part for part, value in wrong.items() if part[1] == FLAG and value}
         found = self.table.explain(wrong, right, invented)
-        others, borrowed = self._exchanged(
-            read.answers, set(wrong).difference(*(each.parts for each in found))
-        )
+        rest = set(wrong).difference(*(each.parts for each in found))
+        others, borrowed = self._exchanged(read.answers, rest & entries)
         at = {index: index for index in range(len(self.truth))}
-        slips = tuple(explained(each, set(wrong), at) for each in [*found, *others])
+        slips = [explained(each, entries, at) for each in [*found, *others]]
+        under = self.keys.explain(keys, rest)
+        slips += [explained(each, entries, at)._replace(own=True) for each in under]
         named: dict[int, list[str]] = defaultdict(list)
         for slip in slips:
             for index in slip.entries:
@@ -214,11 +224,13 @@ class OpenedMarker:
             None,
             len(self.truth),
             tuple(
-                self._marked(index, answer, named[index], borrowed.get(index, {}))
+                self._marked(index, answer, own[index], named[index], borrowed.get(index, {}))
                 for index, answer in sorted(read.answers.items())
             ),
             tuple(i for i in at if i not in read.answers and i not in flags.unsaid),
-            slips=slips,
+            slips=tuple(slips),
+            keys=keys,
+            kinds=tuple(opened.kind for opened in self.truth),
             read_as=read.how,
             again=read.extra,
             problems=read.problems,
@@ -252,13 +264,6 @@ class OpenedMarker:
         missing = tuple(range(len(self.truth)))
         return Sheet(name, problem, None, len(missing), missing=missing, flags=Flags((), (), (), (), ()))
 
-    def _state(self, index: int, answer: Answer) -> str:
-        """Right, wrong, or unsaid: a flag that bytes can't say."""
-        truth = self.truth[index]
-        if truth.failed:
-            return {True: "right", False: "wrong", None: "unsaid"}[answer.flag]
-        return "right" if not answer.flag and answer.entry == _entry(truth) else "wrong"
-
     def _flags(self, read: Read) -> Flags:
         """Flags that are set, missed, invented, left out, and that the hand-in can't say."""
         truth = [index for index, opened in enumerate(self.truth) if opened.failed]
@@ -272,9 +277,10 @@ class OpenedMarker:
         )
 
     def _marked(
-        self, index: int, answer: Answer, slips: list[str], borrowed: dict[str, int]
+        self, index: int, answer: Answer, own: Opened, slips: list[str], borrowed: dict[str, int]
     ) -> Marked:
-        truth, state = self.truth[index], self._state(index, answer)
+        truth, state = self.truth[index], _state(self.truth[index], answer)
+        follows = state == "wrong" and own != truth and _state(own, answer) == "right"
         note, differ = "", ()  # type: tuple[str, tuple[Difference, ...]]
         if answer.problem and state == "wrong":
             note = answer.problem
@@ -296,7 +302,15 @@ class OpenedMarker:
             borrowed=tuple(borrowed.items()),
             note=note,
             record=answer.entry.data if answer.entry else b"",
+            follows=KINDS[truth.kind].sealing_key.upper() if follows else "",
         )
+
+
+def _state(truth: Opened, answer: Answer) -> str:
+    """Right, wrong, or unsaid: a flag that bytes can't say."""
+    if truth.failed:
+        return {True: "right", False: "wrong", None: "unsaid"}[answer.flag]
+    return "right" if not answer.flag and answer.entry == _entry(truth) else "wrong"
 
 
 def _answer(words: list[str], line: int) -> Answer:

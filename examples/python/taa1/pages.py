@@ -11,7 +11,7 @@ from .names import IN_SITTING, KIND_NAMES, both, sealing
 from .page import Html, Row, fields, page, pairs, table, tag, text
 from .records import KINDS, Entry, whole
 from .results import result
-from .sheets import fault, opening, others, spans, too_many, was_read
+from .sheets import explains, fault, keys_said, opening, others, sum_said, too_many, was_read
 
 RESULT = """
 .result { font-size: 1.15em; margin: 0 0 .8em; }
@@ -173,9 +173,8 @@ def _slips(sheet: Sheet) -> Html:
     rows = []
     for slip in sheet.slips:
         name = f"{slip.name} (or: {'; '.join(slip.others)})" if slip.others else slip.name
-        part = f", their {slip.part}" if slip.part else ""
-        rows.append((name, at_step(slip), spans(slip.entries) + part))
-    return table(("slip", "step", "explains entries"), rows)
+        rows.append((name, at_step(slip), explains(slip)))
+    return table(("slip", "step", "explains"), rows)
 
 
 def at_step(slip: Explained) -> str:
@@ -221,6 +220,8 @@ def sheet_page(sheet: Sheet, wanted: Wanted, heading: str, class_page: str) -> s
     facts = [("hand-in", file if sheet.problem else f"{file}, {was_read(sheet)}")]
     facts += [] if sheet.problem else [("book", opening(sheet))]
     facts += [("", line) for line in too_many(sheet) + others(sheet)]
+    facts += [("" if at else "keys", line) for at, line in enumerate(keys_said(sheet.keys))]
+    facts += [("points", sum_said(sheet.points).removeprefix("points "))] if sheet.points else []
     wrong = [entry for entry in sheet.entries if entry.state != "right"]
     parts = [text("p", result(sheet), class_="result"), pairs(facts)]
     if sheet.slips:

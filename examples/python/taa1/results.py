@@ -70,7 +70,8 @@ def result(sheet: Sheet) -> str:
         (wrong, "wrong"), (of.missing, "missing"), (of.unmarked, "not marked"), (of.extra, "extra")
     ):  # fmt: skip
         said += [f"{count} {what}"] if count else []
-    return f"{', '.join(said)}.{_explained(sheet, wrong)}"
+    own = f"; {sheet.following} of the wrong are right under own keys" if sheet.following else ""
+    return f"{', '.join(said)}{own}.{_explained(sheet, wrong)}"
 
 
 def _explained(sheet: Sheet, wrong: int) -> str:

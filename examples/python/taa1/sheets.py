@@ -2,10 +2,14 @@
 
 from __future__ import annotations
 
+from fractions import Fraction
 from typing import Any, Iterable, NamedTuple, Optional, Sequence
 
+from .keysheet import KeySheet
 from .mark import Explained, Flags, Marked, Sheet
 from .records import KINDS, SEALED
+from .scheme import EXTRA, Points
+from .scheme import said as points_said
 
 MOST_VALUES = 12  # lines of what is wrong with one book's entries that have values
 MOST_LINES = 24  # such lines
@@ -22,7 +26,8 @@ def verdict(sheet: Sheet) -> str:
     if sheet.problem:
         return f"not marked: {sheet.problem}"
     read_as = f"; read as {sheet.read_as}" if sheet.read_as else ""
-    return f"{sheet.right} of {sheet.size} entries right; {opening(sheet)}{read_as}"
+    follow = f", {sheet.following} more under own keys" if sheet.following else ""
+    return f"{sheet.right} of {sheet.size} entries right{follow}; {opening(sheet)}{read_as}"
 
 
 def opening(sheet: Sheet) -> str:
@@ -99,6 +104,9 @@ def _like(entry: Marked, values: bool = True) -> tuple[Any, ...]:
     from the model's entry they stand; without values, which fields are wrong."""
     if entry.state == "doubled" or entry.state == "extra" and entry.model is not None:
         return entry.state, 0, (), (), "", False
+    if entry.follows:
+        own = (f"right under the candidate's own {entry.follows}",)
+        return entry.state, 0, own, (), "", False
     opened = entry.opened
     failed = failed_checks(opened.kind, opened.failed) if opened and opened.failed else ""
     no_kind = opened is not None and opened.kind not in KINDS
@@ -167,9 +175,18 @@ def too_many(sheet: Sheet) -> list[str]:
     """What is to be said first of a book with more records than one for each entry."""
     if not sheet.extra:
         return []
-    extra = f"{sheet.extra} extra record{'s' * (sheet.extra != 1)}"
+    cost = -sheet.points.of(EXTRA) if sheet.points else Fraction(0)
+    costs = f", which cost{'s' * (sheet.extra == 1)} {points_said(cost)}" if cost else ""
     records = len(sheet.entries) + sheet.again
-    return [f"{extra}: {records} records, where the model has {sheet.size} entries"]
+    there = f"{records} records, where the model has {sheet.size} entries"
+    return [f"{plural(sheet.extra, 'extra record')}{costs}: {there}"]
+
+
+def sum_said(points: Points) -> str:
+    """The points and their sum."""
+    parts = "; ".join(f"{item.what}: {points_said(item.points)}" for item in points.items)
+    parts = f" ({parts})" if len(points.items) > 1 else ""
+    return f"points {points_said(points.sum)} of {points_said(points.most)}{parts}"
 
 
 def others(sheet: Sheet) -> list[str]:
@@ -188,19 +205,58 @@ def others(sheet: Sheet) -> list[str]:
     return said
 
 
+def explains(slip: Explained) -> str:
+    """Which entries and keys a slip explains."""
+    part = f", their {slip.part}" if slip.part else ""
+    what = [_entries(list(slip.entries)) + part] if slip.entries else []
+    own = ", worked from the candidate's own keys" if slip.own else ""
+    return "; ".join([*what, *([listed(slip.keys)] if slip.keys else [])]) + own
+
+
 def explanation(slip: Explained, sheet: Sheet) -> str:
     """How much a slip explains."""
     wrong = sum(entry.state == "wrong" for entry in sheet.entries)
     same = f" (or: {'; '.join(slip.others)})" if slip.others else ""
     part = f", their {slip.part}" if slip.part else ""
-    return f"{slip.name}{same}: explains {len(slip.entries)} of {wrong} wrong entries{part}"
+    what = [f"{len(slip.entries)} of {wrong} wrong entries{part}"] if slip.entries else []
+    what += [listed(slip.keys)] if slip.keys else []
+    own = ", worked from the candidate's own keys" if slip.own else ""
+    return f"{slip.name}{same}: explains {', and '.join(what)}{own}"
+
+
+def listed(words: Sequence[str]) -> str:
+    """Words with commas, and `and` before the last."""
+    return " and ".join(filter(None, (", ".join(words[:-1]), words[-1])))
+
+
+def keys_said(keys: KeySheet) -> list[str]:
+    """What is to be said of the keys that are handed in."""
+    said = list(keys.problems)
+    for mark in keys.marks:
+        if mark.state == "wrong" and mark.wants is not None:
+            also = f", which is {mark.also}" if mark.also else ""
+            if len(mark.has) == len(mark.wants):
+                said.append(f"{mark.name}: {mark.has.hex()}, not {mark.wants.hex()}{also}")
+            else:
+                length = plural(len(mark.has), "byte")
+                said.append(f"{mark.name}: {length}, not {len(mark.wants)}{also}")
+        elif mark.state == "follows":
+            said.append(f"{mark.name}: wrong, but right under the candidate's own {listed(mark.under)}")
+        elif mark.state == "idle":
+            said.append(f"{mark.name}: not asked for, since this side does not run")
+    right = [mark.name for mark in keys.marks if mark.state == "right"]
+    if right:
+        said.append(f"right: {listed(right)}")
+    return said
 
 
 def sheet_text(sheet: Sheet) -> str:
     """A mark sheet as lines of text."""
     lines = [f"{sheet.name}: {verdict(sheet)}"]
-    lines += [f"  {line}" for line in too_many(sheet) + faults(sheet) + others(sheet)]
+    said = too_many(sheet) + keys_said(sheet.keys) + faults(sheet) + others(sheet)
+    lines += [f"  {line}" for line in said]
     lines += [f"  slip: {explanation(slip, sheet)}" for slip in sheet.slips]
+    lines += [f"  {sum_said(sheet.points)}"] if sheet.points else []
     return "\n".join(lines) + "\n"
 
 
@@ -262,10 +318,26 @@ def sheet_json(sheet: Sheet) -> dict[str, Any]:
         "right": sheet.right,
         "of": sheet.size,
         "extra": sheet.extra,
+        "points": sheet.points
+        and {
+            "sum": str(sheet.points.sum),
+            "of": str(sheet.points.most),
+            "items": [{"for": item.what, "points": str(item.points)} for item in sheet.points.items],
+        },
+        "keys": [
+            {
+                "name": mark.name,
+                "state": mark.state,
+                "has": mark.has,
+                "wants": mark.wants,
+                "right_under_own": list(mark.under),
+            }
+            for mark in sheet.keys.marks
+        ],
         "entries": [_entry_json(entry) for entry in sheet.entries],
         "missing": list(sheet.missing),
         "flags": sheet.flags._asdict() if sheet.flags else None,
-        "lines_not_read": list(sheet.problems),
+        "lines_not_read": [*sheet.keys.problems, *sheet.problems],
         "bytes_left": sheet.left,
         "slips": [
             {
@@ -274,6 +346,8 @@ def sheet_json(sheet: Sheet) -> dict[str, Any]:
                 "clause": s.step[1],
                 "explains": list(s.entries),
                 "part": s.part or None,
+                "keys": list(s.keys),
+                "under_own_keys": s.own,
                 "or": list(s.others),
             }
             for s in sheet.slips
@@ -291,5 +365,6 @@ def _entry_json(entry: Marked) -> dict[str, Any]:
         "differences": [difference._asdict() for difference in entry.differences],
         "of_other_entries": dict(entry.borrowed),
         "note": entry.note or None,
+        "right_under_own": entry.follows or None,
         "slip": entry.slip,
     }

@@ -88,6 +88,7 @@ def _limited(
 
 _SESSION = {"TA11, TA21 and TA41": DERIVING[:3], "TA12 and TA22": DERIVING[3:]}
 _EACH_KEY: dict[str, tuple[str, ...]] = {**_SESSION, **{name: (name,) for name in DERIVING}}
+_EACH_SIDE: dict[str, tuple[str, ...]] = {name: (name,) for name in DERIVING[3:]}
 _KEYS_OR_SEALS = {"deriving keys": DERIVING, "sealing": SEALING}
 _EXP2_OR_TA31 = {"EXP2": DERIVING, "TA31": ("TA31",)}
 _TA31_OR_TA61: dict[str, tuple[str, ...]] = {"TA31 and TA32": ("TA31", "TA32"), "TA61": ("TA61",)}
@@ -114,13 +115,6 @@ def _taken(name: str, **taken: str) -> Slip:
 
 def _sides(name: str, sides: Callable[[int], int]) -> Slip:
     return _sitting(name, lambda s: s._replace(sides=sides(s.sides)))
-
-
-def _masks(name: str, change: Callable[[int], int]) -> Slip:
-    return _sitting(
-        name,
-        lambda s: s._replace(response_mask=change(s.response_mask), key_mask=change(s.key_mask)),
-    )
 
 
 def exchanged(number: int) -> int:
@@ -184,6 +178,25 @@ def _left_over(output: bytes, mask: int) -> bytes:
     return bytes(byte for i, byte in enumerate(output) if not mask >> (15 - i) & 1)
 
 
+def _masked(change: Callable[[int], int]) -> Mapping[str, Alteration]:
+    """Bytes chosen by other masks."""
+    return {"chosen": lambda steps, output, mask: Steps.chosen(steps, output, change(mask))}
+
+
+_SPLITS: dict[str, Mapping[str, Alteration]] = {
+    "bytes of the masks exchanged": _masked(exchanged),
+    "masks counted from the left": _masked(mirrored),
+    "bytes chosen by the masks lowest first": {
+        "chosen": lambda steps, output, mask: Steps.chosen(steps, output, mask)[::-1]
+    },
+    "first ten bytes for the key's mask": _key_as(lambda output, mask: output[:10]),
+    "middle ten bytes for the key's mask": _key_as(lambda output, mask: output[3:13]),
+    "first ten bytes that the response leaves for the key's mask": _key_as(
+        lambda output, mask: _left_over(output, mask)[:10]
+    ),
+}
+
+
 def _ta71(steps: Steps, key1: bytes, key2: bytes) -> bytes:
     made: bytes = steps.desk.call("ta71", key1, key2)["bytes"]
     return made
@@ -208,18 +221,7 @@ RING_SLIPS: tuple[Slip, ...] = (
     _sides("TA22 alone", lambda sides: 2),
     _sides("both sides for one", lambda sides: 3),
     _taken("masks exchanged", response_mask="key_mask", key_mask="response_mask"),
-    _masks("bytes of the masks exchanged", exchanged),
-    _masks("masks counted from the left", mirrored),
-    Slip(
-        "bytes chosen by the masks lowest first",
-        {"chosen": lambda steps, output, mask: Steps.chosen(steps, output, mask)[::-1]},
-    ),
-    Slip("first ten bytes for the key's mask", _key_as(lambda output, mask: output[:10])),
-    Slip("middle ten bytes for the key's mask", _key_as(lambda output, mask: output[3:13])),
-    Slip(
-        "first ten bytes that the response leaves for the key's mask",
-        _key_as(lambda output, mask: _left_over(output, mask)[:10]),
-    ),
+    *(slip for name, altered in _SPLITS.items() for slip in _limited(name, altered, _EACH_SIDE)),
     Slip("TA11 for TA21", {"reversed_seed": lambda steps, seed: seed}),
     Slip("TA21 for TA11", {"ta11": lambda steps, root, seed: steps.ta21(root, seed)}),
     Slip(
@@ -235,8 +237,9 @@ RING_SLIPS: tuple[Slip, ...] = (
         {"ta11": lambda steps, root, seed: root, "ta21": lambda steps, root, seed: root},
     ),
     Slip("TA71 for TB4", {"tb4": _ta71}),
+    Slip("key 1 for D, no TB4", {"tb4": lambda steps, one, two: one}),
+    Slip("key 2 for D, no TB4", {"tb4": lambda steps, one, two: two}),
     Slip("TB4 as a sum", {"tb4": lambda steps, one, two: _added(one, two)}),
-    _ring("zeros for D", d=lambda steps, s, r: bytes(10)),
     _ring("C for D", d=lambda steps, s, r: r.c),
     _ring("D for C", c=lambda steps, s, r: r.d),
     _ring("C and D exchanged", c=lambda steps, s, r: r.d, d=lambda steps, s, r: r.c),
@@ -773,9 +776,10 @@ class Worked(NamedTuple):
 
 
 class WorkedOpened(NamedTuple):
-    """What a slip makes of sealed records: by their entries, what they open to."""
+    """What a slip makes of the keys and, by their entries, of what sealed records open to."""
 
     slip: Slip
+    keys: Keys
     opened: dict[int, Opened]
 
 
@@ -823,17 +827,21 @@ def _sealed(steps: Steps, ring: Ring, entries: list[Entry], model: list[bytes]) 
 def work_opened(desk: Desk, sitting: Sitting, sealed: list[bytes]) -> Iterator[WorkedOpened]:
     """What sealed records open to under each slip, where that differs from what they do."""
     right = Steps(desk)
-    ring = ring_of(right.keys(sitting))
+    keys = right.keys(sitting)
+    ring = ring_of(keys)
     truth = opened(right, ring, sealed)
     for slip in (*SLIPS, *OPENING_SLIPS):
         steps = Steps(desk, slip.altered)
-        under = ring_of(steps.keys(sitting))
-        if list(map(len, under)) != list(map(len, ring)):
-            continue
-        if under == ring and not OPEN_STEPS & set(slip.altered):
-            continue
-        made = opened(steps, under, sealed)
-        yield WorkedOpened(slip, {i: o for i, (o, t) in enumerate(zip(made, truth)) if o != t})
+        made = steps.keys(sitting)
+        under, records = ring_of(made), truth
+        same = under == ring and not OPEN_STEPS & set(slip.altered)
+        if not same and list(map(len, under)) == list(map(len, ring)):
+            records = opened(steps, under, sealed)
+        yield WorkedOpened(
+            slip,
+            {name: value for name, value in made.items() if value != keys[name]},
+            {i: o for i, (o, t) in enumerate(zip(records, truth)) if o != t},
+        )
 
 
 def opened(steps: Steps, ring: Ring, sealed: list[bytes]) -> list[Opened]:

@@ -243,7 +243,7 @@ def _fields(words: list[str]) -> dict[str, list[str]]:
     return fields
 
 
-def _entry(fields: dict[str, list[str]]) -> Entry:
+def _entry(fields: dict[str, list[str]], any_number: bool = False) -> Entry:
     """The entry of a line's fields. Raises ValueError."""
 
     def word(name: str, wanted: str) -> str:
@@ -263,16 +263,18 @@ def _entry(fields: dict[str, list[str]]) -> Entry:
     key = _named(f"key of kind {number}:", string, fields["key"], kind.key)
     key_number: Optional[int] = None
     if kind.number:
-        wanted = f"a decimal number up to {names.highest}"
-        key_number = _named("number", decimal, word("number", wanted), names.highest)
+        highest = 0xFFFF if any_number else names.highest
+        wanted = f"a decimal number up to {highest}"
+        key_number = _named("number", decimal, word("number", wanted), highest)
     elif fields.get("number", ["-"]) != ["-"]:
         raise ValueError(f"number {fields['number'][0]!r}: kind {number} has none: leave it out")
     return Entry(number, identity, version, key, key_number)
 
 
 def entry_of(words: list[str]) -> Entry:
-    """The entry of a line's words behind the index, in any order. Raises ValueError."""
-    return _entry(_fields(words))
+    """The entry of a line's words behind the index, in any order, as a candidate may write
+    it: its number may be too high for its kind. Raises ValueError."""
+    return _entry(_fields(words), any_number=True)
 
 
 def _named(name: str, read: Callable[..., Any], *given: Any) -> Any:

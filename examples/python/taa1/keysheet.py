@@ -1,0 +1,148 @@
+"""The keys that a candidate hands in beside a book: NAME.keys, names and values.
+
+Each value is marked beside the model's, and worked again from the candidate's own
+earlier values, so that one wrong key costs once: what follows from it rightly is said
+to do so.
+"""
+
+from __future__ import annotations
+
+import re
+from typing import Collection, Mapping, NamedTuple, Optional
+
+from .desk import Desk
+from .engine import Sitting
+from .explain import KEY, Found, Part, Table
+from .names import field
+from .records import Ring
+from .slips import SLIPS
+from .texts import lines_of
+from .values import DIGITS, without_0x
+from .working import KEYS, Steps, ring_of
+
+LENGTHS = dict(zip(KEYS, (16, 16, 4, 10, 4, 10, 10, 16, 10, 16)))
+# What a value is worked from; of each list, the first one that is handed in.
+PARENTS = {
+    "response 1": (("session key 1",),),
+    "key 1": (("session key 1",),),
+    "response 2": (("session key 2",),),
+    "key 2": (("session key 2",),),
+    "D": (("key 1", "session key 1"), ("key 2", "session key 2")),
+}
+
+
+def _short(name: str) -> str:
+    """A name as it is compared: without spaces, in small letters."""
+    return re.sub(r"[\s_-]", "", name).lower()
+
+
+SHORT = {_short(each): name for name in KEYS for each in (field(name), name)}
+
+
+class KeyFile(NamedTuple):
+    """What stands in NAME.keys."""
+
+    values: dict[str, bytes]
+    problems: tuple[str, ...] = ()  # lines that can't be read
+
+
+class KeyMark(NamedTuple):
+    """One value of a candidate."""
+
+    name: str
+    state: str  # right; wrong; follows: right under own keys; idle: this side does not run
+    has: bytes
+    wants: Optional[bytes]
+    under: tuple[str, ...] = ()  # own values that are wrong, from which it follows
+    also: str = ""  # the model's value that it is instead
+
+
+class KeySheet(NamedTuple):
+    """A candidate's values, marked."""
+
+    marks: tuple[KeyMark, ...] = ()
+    problems: tuple[str, ...] = ()
+    own: Mapping[str, bytes] = {}  # those that can be worked with
+    ring: Optional[Ring] = None  # of them, where it is not the model's
+
+    @property
+    def wrong(self) -> dict[str, bytes]:
+        """The values that are not the model's."""
+        return {mark.name: mark.has for mark in self.marks if mark.state in ("wrong", "follows")}
+
+
+def parse(text: str) -> KeyFile:
+    """The values in a text of lines NAME = HEXADECIMAL; any may be missing."""
+    values: dict[str, bytes] = {}
+    problems: list[str] = []
+    for number, line in lines_of(text):
+        left, equals, right = re.sub(r"[=:]", "=", line, count=1).partition("=")
+        name, digits = SHORT.get(_short(left)), "".join(map(without_0x, right.split()))
+        bad = sorted(set(digits) - DIGITS)
+        problem = ""
+        if not equals:
+            problem = "no line of the form NAME = HEXADECIMAL"
+        elif name is None:
+            problem = f"no name {left.strip()!r}: the names are {', '.join(KEYS)}"
+        elif name in values:
+            problem = f"{name} for the second time; the first one counts"
+        elif bad:
+            problem = f"{name}: {bad[0]!r} is no hexadecimal digit"
+        elif len(digits) % 2 or not digits:
+            problem = f"{name}: {len(digits)} hexadecimal digits, not {2 * LENGTHS[name]}"
+        else:
+            values[name] = bytes.fromhex(digits)
+        if problem:
+            problems.append(f"keys, line {number}: {problem}")
+    return KeyFile(values, tuple(problems))
+
+
+class KeyMarker:
+    """Marks keys beside one sitting's."""
+
+    def __init__(self, desk: Desk, sitting: Sitting) -> None:
+        """Works the model's keys."""
+        self.desk, self.sitting = desk, sitting
+        self.steps = Steps(desk)
+        self.model = self.steps.keys(sitting)
+
+    def mark(self, file: KeyFile) -> KeySheet:
+        """The marks of a candidate's values."""
+        own = {
+            name: value
+            for name, value in file.values.items()
+            if len(value) == LENGTHS[name] and self.model[name] is not None
+        }
+        worked = self.steps.keys(self.sitting, own)
+        marks = []
+        for name in KEYS:
+            if name in file.values:
+                has, wants = file.values[name], self.model[name]
+                under: tuple[str, ...] = ()
+                state = "idle" if wants is None else "right" if has == wants else "wrong"
+                if state == "wrong" and has == worked[name]:
+                    state = "follows"
+                    used = (next(filter(own.get, each), "") for each in PARENTS[name])
+                    under = tuple(each for each in used if each and own[each] != self.model[each])
+                also = next((n for n, v in self.model.items() if v == has and state == "wrong"), "")
+                marks.append(KeyMark(name, state, has, wants, under, also))
+        ring = ring_of({name: own.get(name, value) for name, value in worked.items()})
+        differs = ring != ring_of(self.model)
+        return KeySheet(tuple(marks), file.problems, own, ring if differs else None)
+
+    def explain(self, sheet: KeySheet, rest: Collection[Part]) -> list[Found]:
+        """Of wrong values that nothing explains yet, and that follow from none: the slips
+        that give them under the candidate's own earlier ones."""
+        wrong = {
+            (KEY, mark.name): mark.has
+            for mark in sheet.marks
+            if mark.state == "wrong" and (KEY, mark.name) in rest
+        }
+        if not wrong:
+            return []
+        table = Table()
+        worked = self.steps.keys(self.sitting, sheet.own)
+        for slip in SLIPS:
+            made = Steps(self.desk, slip.altered).keys(self.sitting, sheet.own)
+            table.add(slip, {(KEY, n): v for n, v in made.items() if v != worked[n]})
+        return table.explain(wrong, [(KEY, m.name) for m in sheet.marks if m.state != "wrong"])

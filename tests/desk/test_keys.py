@@ -1,0 +1,182 @@
+"""Keys that are handed in beside a book, and points."""
+
+from __future__ import annotations
+
+import json
+import unittest
+from fractions import Fraction
+
+from common import CLASS, DESK, ENTRIES, LINES, PLAIN_BOOK, RING, SITTING, Case, seal, taa1
+from taa1.keysheet import KeyFile, parse
+from taa1.mark import Marker
+from taa1.records import SEALED, split
+from taa1.scheme import DEFAULT, Points, said, score
+from taa1.scheme import parse as parse_scheme
+from taa1.sheets import sheet_text
+from taa1.working import KEYS, Steps
+
+MARKER = Marker(DESK, SITTING, PLAIN_BOOK)
+MODEL = MARKER.model
+VALUES = {name: value or b"" for name, value in Steps(DESK).keys(SITTING).items()}
+SCHEME = parse_scheme(DEFAULT, "the default")
+
+
+def points(records: list[bytes], scheme: str = "", keys: dict[str, bytes] = {}) -> Points:
+    """The points of a book by a scheme."""
+    sheet = MARKER.mark("book", b"".join(records), KeyFile(keys))
+    return score(parse_scheme(scheme, "scheme"), sheet)
+
+
+class Files(unittest.TestCase):
+    """How NAME.keys is read."""
+
+    def test_names(self) -> None:
+        """Both sets of names, in any writing."""
+        for name in KEYS:
+            for written in (name, name.upper(), name.replace(" ", "_"), name.replace(" ", "")):
+                self.assertEqual(parse(f"{written}: 0x{VALUES[name].hex(' ')}"), ({name: VALUES[name]}, ()))
+        fields = parse("KS = 00\nKS' = 01\nRES1 = 02\nDCK1 = 03\nDCK = 04\nKSO = 05\nEGSKO = 06\n")
+        names = ["session key 1", "session key 2", "response 1", "key 1", "D", "O", "G"]
+        self.assertEqual((list(fields.values), fields.problems), (names, ()))
+
+    def test_bad_lines(self) -> None:
+        for line, problem in (
+            ("D", "no line of the form NAME = HEXADECIMAL"),
+            ("E = 00", "no name 'E': the names are " + ", ".join(KEYS)),
+            ("O = 0x", "O: 0 hexadecimal digits, not 32"),
+            ("O = 012", "O: 3 hexadecimal digits, not 32"),
+            ("O = 0O", "O: 'O' is no hexadecimal digit"),
+            ("D = 00", "D for the second time; the first one counts"),
+        ):
+            read = parse(f"D = 01  # mine\n\n{line}\n")
+            self.assertEqual(read, ({"D": b"\1"}, (f"keys, line 3: {problem}",)))
+
+
+class Values(unittest.TestCase):
+    """What is said of values, beyond the planted ones."""
+
+    def said(self, **values: bytes) -> list[str]:
+        file = KeyFile({name.replace("_", " "): value for name, value in values.items()})
+        return sheet_text(MARKER.mark("book", b"".join(MODEL), file)).splitlines()[1:]
+
+    def test_another(self) -> None:
+        """A value that is another one of the model's is called so."""
+        lines = self.said(key_1=VALUES["key 2"], D=VALUES["D"])
+        has, wants = VALUES["key 2"].hex(), VALUES["key 1"].hex()
+        self.assertEqual(lines, [f"  key 1: {has}, not {wants}, which is key 2", "  right: D"])
+
+    def test_derived_ring(self) -> None:
+        """Without D in the file, the candidate's own D is worked from the own keys."""
+        own = bytes(10)
+        ring = RING._replace(d=DESK.call("tb4", own, VALUES["key 2"])["bytes"])
+        sealed = DESK.call("seal_book", ring.data, PLAIN_BOOK)["out"]
+        sheet = MARKER.mark("book", sealed, KeyFile({"key 1": own}))
+        self.assertEqual([entry.follows for entry in sheet.entries[:3]], ["D", "D", ""])
+
+    def test_given_key(self) -> None:
+        """C is given; a wrong one explains identities."""
+        own = bytes(range(10))
+        sealed = DESK.call("seal_book", RING._replace(c=own).data, PLAIN_BOOK)["out"]
+        sheet = MARKER.mark("book", sealed, KeyFile({"C": own}))
+        self.assertEqual((sheet.right, sheet.following), (0, 12))
+
+
+class Schemes(unittest.TestCase):
+    """Points in exact fractions."""
+
+    def test_default(self) -> None:
+        self.assertEqual(points(MODEL), ((("entries right", 12),), 12))
+        self.assertEqual(SCHEME["follow-through"], Fraction(1, 2))
+        self.assertEqual(parse_scheme("", "scheme"), SCHEME)
+        self.assertEqual(parse_scheme(DEFAULT, "scheme"), SCHEME)
+
+    def test_bad_lines(self) -> None:
+        for line, problem in (
+            ("entry", "no line of the form NAME = POINTS, as in entry = 1"),
+            ("entries = 1", "no name 'entries': the names are " + ", ".join(SCHEME)),
+            ("entry = 0.5", "entry: '0.5' is no whole number nor a fraction, as 2, 1/2 or -1"),
+            ("entry = 1/0", "entry: '1/0' is no whole number nor a fraction, as 2, 1/2 or -1"),
+        ):
+            with self.assertRaisesRegex(Exception, f"^scheme, line 1: {problem}$"):
+                parse_scheme(line, "scheme")
+        with self.assertRaisesRegex(Exception, "^scheme, line 2: order for the second time$"):
+            parse_scheme("order = 1\norder = 2", "scheme")
+
+    def test_written(self) -> None:
+        for value, words in (("0", "0"), ("27/2", "13 1/2"), ("1/3", "1/3"), ("-1", "-1"), ("-3/2", "-1 1/2")):
+            self.assertEqual(said(Fraction(value)), words)
+
+    def test_thirds(self) -> None:
+        """No point is lost by rounding."""
+        self.assertEqual(points(MODEL[:10], "entry = 1/3").sum, Fraction(10, 3))
+        self.assertEqual(points(MODEL, "entry = 1/3").sum, 4)
+
+    def test_extra(self) -> None:
+        """Extra records cost; trying every variant wins nothing; never below 0."""
+        self.assertEqual(points([*MODEL, MODEL[0]]).sum, 11)
+        noise = [record[:6] + bytes([i]) * 15 for i in range(3) for record in MODEL]
+        tried = points([*MODEL, *noise])
+        self.assertEqual((tried.of("entries right"), tried.of("extra records"), tried.sum), (12, -36, 0))
+        few = points([*noise[:6], *noise[12:18]])  # six entries, twice tried: no more records than 12
+        self.assertEqual(few.of("extra records"), -6)
+        self.assertEqual(points([*MODEL, MODEL[0]], "extra = 0").sum, 12)
+
+    def test_order(self) -> None:
+        self.assertEqual(points(MODEL[1:] + MODEL[:1]).sum, 12)
+        self.assertEqual(points(MODEL[1:] + MODEL[:1], "order = -1/4").sum, Fraction(47, 4))
+
+    def test_redundancy(self) -> None:
+        """A mark for each check that does not fail, of right and wrong entries alike."""
+        checks = sum({1: 5, 2: 5, 3: 3, 4: 3, 5: 5, 6: 3}[entry.kind] for entry in ENTRIES)
+        whole = points(MODEL, "redundancy byte = 1/10")
+        self.assertEqual((whole.sum, whole.most), (12 + Fraction(checks, 10),) * 2)
+        number = Steps(DESK, {"number_byte": lambda steps, number: bytes([0x20 | number])})
+        text = number.text(ENTRIES[2], RING)  # of kind 2: one of five checks fails
+        book = [*MODEL[:2], MODEL[2][:6] + text, *MODEL[3:]]
+        self.assertEqual(points(book, "redundancy byte = 1/10").sum, 11 + Fraction(checks - 1, 10))
+
+    def test_keys(self) -> None:
+        """Values that are handed in count, and what follows from a wrong one counts in part."""
+        all_right = points(MODEL, "", VALUES)
+        self.assertEqual((all_right.sum, all_right.most), (24, 24))
+        own = Steps(DESK).keys(SITTING, {"session key 1": bytes(16)})
+        values = {**{name: value or b"" for name, value in own.items()}, "session key 1": bytes(16)}
+        ring = RING._replace(d=values["D"])
+        book = split(DESK.call("seal_book", ring.data, PLAIN_BOOK)["out"], SEALED)
+        made = points(book, "", values)
+        halves = Fraction(1, 2) * (2 + 3)  # two entries; response 1, key 1 and D
+        self.assertEqual((made.sum, made.most), (10 + halves + 2 + 1 + 1 + 2 + 1, 24))
+        self.assertEqual(points(book, "follow-through = 0", values).sum, made.sum - halves)
+
+
+class Command(Case):
+    """taa1 mark with NAME.keys and --scheme, and taa1 scheme."""
+
+    def test_command(self) -> None:
+        book = self.file("ann.book", seal())
+        self.file("ann.keys", f"D = {VALUES['D'].hex()}\nO = 00\n")
+        sitting, model = CLASS / "sitting.txt", self.file("model.txt", LINES)
+        scheme = self.file("scheme.txt", "entry = 1/3  # each\nD = 5\n")
+        done = self.accepted("mark", sitting, model, book, "--scheme", scheme)
+        self.assertEqual(
+            done.decode(),
+            f"{book}: 12 of 12 entries right; opens\n  O: 1 byte, not 16\n  right: D\n"
+            "  points 9 of 11 (entries right: 4; D: 5)\n",
+        )
+        (sheet,) = json.loads(self.accepted("mark", sitting, model, book, "--json"))["sheets"]
+        self.assertEqual(sheet["points"]["sum"], "13")
+        self.assertEqual([key["state"] for key in sheet["keys"]], ["right", "wrong"])
+        pages = self.folder / "pages"
+        self.accepted("mark", sitting, model, book, "--html", pages)
+        self.assertIn("<th>points</th><td>13 of 15 (entries right: 12; D: 1)</td>", (pages / "ann.book.html").read_text())
+
+    def test_scheme(self) -> None:
+        self.assertEqual(self.accepted("scheme").decode(), DEFAULT)
+        scheme = self.file("scheme.txt", "entries = 1\n")
+        done = taa1("mark", CLASS / "sitting.txt", CLASS / "model.txt", CLASS / "ann.book", "--scheme", scheme)
+        self.assertEqual((done.status, done.out), (2, b""))
+        self.assertIn(f"taa1: {scheme}, line 1: no name 'entries': the names are entry, ", done.error)
+
+
+if __name__ == "__main__":
+    unittest.main()
