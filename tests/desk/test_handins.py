@@ -3,14 +3,17 @@
 from __future__ import annotations
 
 import json
+import random
 import shutil
 import subprocess
+import time
 import unittest
 from typing import Any
 
 import planted
 from common import CLASS, DESK, PLAIN_BOOK, SITTING, Case, here, seal
 from taa1.engine import Sitting
+from taa1.files import MOST_BYTES
 from taa1.handins import FORMS, Reader, page_names
 from taa1.mark import Marker
 from taa1.records import SEALED, split
@@ -130,7 +133,7 @@ STRANGE: dict[str, tuple[bytes, str, str]] = {
         f"this looks like a plain book{WANTED}",
         "hex",
     ),
-    "lines": (format_lines(PLAIN_BOOK).encode(), f"this looks like a plain book in lines{WANTED}", ""),
+    "lines": (format_lines(PLAIN_BOOK).encode(), f"this looks like a plain book in lines{WANTED}", "bytes"),
     "converted to UTF-8": (
         BOOK.decode("latin-1").encode(),
         f"{DAMAGED}: it was converted to UTF-8, and each byte above 7f is two now",
@@ -152,8 +155,8 @@ STRANGE: dict[str, tuple[bytes, str, str]] = {
         "bytes",
     ),
     "short": (b"\1\2\3", "this looks like no sealed book: 3 bytes, where a record has 21", "bytes"),
-    "a PDF": (b"%PDF-1.7\n\xff", "this looks like a PDF document", ""),
-    "comments": (b"# nothing yet\n", "this looks like a text without a digit", ""),
+    "a PDF": (b"%PDF-1.7\n\xff", "this looks like a PDF document", "bytes"),
+    "comments": (b"# nothing yet\n", "this looks like a text without a digit", "bytes"),
     "cut": (BOOK[:50], "this looks like a book that was cut short: 2 records and 8 bytes", "bytes"),
     "the first byte lost": (
         BOOK[1:],
@@ -170,28 +173,28 @@ STRANGE: dict[str, tuple[bytes, str, str]] = {
         lines(21).replace(RECORDS[3].hex(), RECORDS[3].hex()[:-1]).encode(),
         "this looks like text that is no hexadecimal: an odd number of hexadecimal digits, 503, "
         "41 of them in line 4",
-        "",
+        "bytes",
     ),
     "od's lines, one lost": (
         b"".join(dumped("od", "-tx1").splitlines(True)[1:]),
         "this looks like a dump of bytes, but in no form that is known, or with lines lost or "
         "doubled (od -An -v -tx1 makes one that is read)",
-        "",
+        "bytes",
     ),
     "a letter for a digit": (
         b"O" + BOOK.hex()[1:].encode(),
         "this looks like text that is no hexadecimal: line 1, column 1: 'O' is no hexadecimal digit",
-        "",
+        "bytes",
     ),
     "a letter": (
         b"Dear Sir,\nthe dog ate it.\n",
         "this looks like text that is no hexadecimal: line 1, column 4: 'r' is no hexadecimal digit",
-        "",
+        "bytes",
     ),
     "odd": (
         b"012",
         "this looks like text that is no hexadecimal: an odd number of hexadecimal digits, 3",
-        "",
+        "bytes",
     ),
     "another sitting's dump": (
         dumped("od", "-tx1", data=seal(OTHER)),
@@ -230,12 +233,11 @@ class Forms(unittest.TestCase):
     def test_strange(self) -> None:
         for name, (data, said, form) in STRANGE.items():
             with self.subTest(name):
-                advice = f"; --as ann.book={form} marks it all the same" if form else ""
                 sheet = READER.mark("ann.book", data)
+                advice = f"; --as ann.book={form} marks it all the same"
                 self.assertEqual(sheet.problem, said + advice)
                 self.assertEqual((sheet.right, sheet.entries), (0, ()))
-                if form:
-                    self.assertIsNone(READER.mark("ann.book", data, form).problem)
+                self.assertIsNone(READER.mark("ann.book", data, form).problem)
 
     def test_line_ends(self) -> None:
         """Changed line ends are said, and not repaired."""
@@ -269,6 +271,23 @@ class Forms(unittest.TestCase):
             other = {"C reversed": {"c": SITTING.c[::-1]}, "root reversed": {"root": SITTING.root[::-1]}}
             sheet = READER.mark("a", seal(SITTING._replace(**other[worked])))  # type: ignore[arg-type]
             self.assertEqual((sheet.problem, sheet.slips[0].name), (None, worked))
+
+    def test_bad_content(self) -> None:
+        """Whatever a file holds, it is marked or something is said of it, in little time."""
+        draw = random.Random(4)
+        texts = [content if isinstance(content, bytes) else content.encode() for content, _ in CERTAIN.values()]
+        for _ in range(300):
+            data = bytearray(draw.choice(texts))
+            for _ in range(draw.randint(1, 5)):
+                at = draw.randrange(len(data))
+                data[at : at + draw.randint(0, 3)] = draw.randbytes(draw.randint(0, 3))
+            sheet = READER.mark("a", bytes(data))
+            self.assertTrue(sheet.problem is None or sheet.problem.isprintable())
+        start = time.monotonic()
+        for part in (b"/* ", b"{", b"b'", b"0x", b"00000000 01\n", b"*\n", b"01 ", b"b\"\\", b"\1", b"# \r"):
+            data = part * (MOST_BYTES // len(part))
+            self.assertIsNotNone(READER.mark("a", data).problem, part)
+        self.assertLess(time.monotonic() - start, 60)
 
     def test_forced(self) -> None:
         """A form that is given is not questioned; what can't be read so is said."""

@@ -36,7 +36,7 @@ from .page import is_made_by
 from .records import KINDS, PLAIN, RING, Entry, split
 from .sheets import plural, reading, sheet_text, summary, summary_text
 from .slips import EXCHANGES, SLIPS
-from .values import IDENTITY, MASK, hexadecimal
+from .values import IDENTITY, MASK, hexadecimal, without_0x
 
 ACCEPTED, REFUSED, WRONG_USE = 0, 1, 2
 LENGTH = 11  # the refusal of an input of another length
@@ -74,9 +74,10 @@ class Parser(argparse.ArgumentParser):
 
 def _number(text: str) -> int:
     """A number, decimal or with 0x in hexadecimal."""
+    digits = without_0x(text)
     try:
-        if len(text) <= 40 and not text.startswith(("-", "+")):
-            return int(text, 16) if text.lower().startswith("0x") else int(text, 10)
+        if len(text) <= 40 and digits.isascii() and digits.isalnum():
+            return int(digits, 10 if digits is text else 16)
     except ValueError:
         pass
     raise argparse.ArgumentTypeError(f"{text[:40]!r} is no decimal number, nor one in 0x..")
@@ -360,7 +361,7 @@ def run_card(args: argparse.Namespace) -> int:
     text = "".join(args.card)
     if text.startswith("@"):
         text = texts.text_of(files.read(text[1:]), place(text[1:]))
-    digits = "".join(text.split())
+    digits = "".join(map(without_0x, text.split()))
     pairs = [digits[at : at + 2] for at in range(0, len(digits), 2)]
     card = files.from_hex("".join("00" if pair == "??" else pair for pair in pairs), "card")
     unreadable = sum(1 << len(pairs) - 1 - i for i, pair in enumerate(pairs) if pair == "??")
@@ -686,7 +687,7 @@ def parser() -> Parser:
         _common(made, json="")
 
     drawing = command("draw", run_draw)
-    drawing.add_argument("--sides", type=int, choices=(1, 2, 3), help="drawn, too, by default")
+    drawing.add_argument("--sides", type=_number, choices=(1, 2, 3), help="drawn, too, by default")
     drawing.add_argument("--title", type=_words, metavar="WORDS", help="the sitting's title")
     drawing.add_argument("--date", type=_words, metavar="WORDS", help="the sitting's date")
     drawing.add_argument("--book", action="store_true", help="draw a model book, not a sitting")

@@ -38,7 +38,7 @@ def hexadecimal(text: str) -> bytes:
     listed = re.search(r"\{([^{}]*)\}", text)  # as xxd -i writes it
     if listed:
         text = listed[1]
-    text = re.sub(r"#.*|//.*|(?s:/\*.*?\*/)|[-,;:\[\]()'\"]|\\x", _blank, text)
+    text = re.sub(r"#.*|//.*|[-,;:\[\]()'\"]|\\x", _blank, _without_blocks(text))
     words = [word.lower().removeprefix("0x") for word in text.split()]
     if {len(word) for word in words} == {1, 2}:  # bytes, some without the zero in front
         text = " ".join(word.rjust(2, "0") for word in words)
@@ -46,7 +46,16 @@ def hexadecimal(text: str) -> bytes:
 
 
 def _blank(found: re.Match[str]) -> str:
-    return re.sub(r"\S", " ", found[0])
+    return " " * len(found[0])
+
+
+def _without_blocks(text: str) -> str:
+    """Text without comments as C has them, but with their lines."""
+    kept, end = [], 0
+    while (start := text.find("/*", end)) >= 0 and (stop := text.find("*/", start + 2)) >= 0:
+        kept += [text[end:start], "\n" * text.count("\n", start, stop)]
+        end = stop + 2
+    return "".join([*kept, text[end:]])
 
 
 def _word(word: str) -> bytes:
@@ -89,7 +98,7 @@ def dumped(text: str, value: Callable[[str], bytes]) -> bytes:
 
 def _addressed(lines: list[str], value: Callable[[str], bytes], base: int) -> Optional[bytes]:
     """The bytes of a dump with addresses to a base; None if they don't agree."""
-    made, last, repeated = b"", b"", False
+    made, last, repeated = bytearray(), b"", False
     for line in lines:
         if line == "*":
             repeated = True
@@ -105,14 +114,14 @@ def _addressed(lines: list[str], value: Callable[[str], bytes], base: int) -> Op
             made += last
         repeated = False
         if not found[3]:  # the length: a last word may have been filled up
-            return made[:address] if 0 <= len(made) - address < 8 else None
+            return bytes(made[:address]) if 0 <= len(made) - address < 8 else None
         if len(made) != address:
             return None
         # the bytes as letters stand behind two spaces, or between | or >
         values = found[3].partition("  ")[0] if found[2] else re.split(r"[|>]", found[3])[0]
         last = b"".join(map(value, values.split()))
         made += last
-    return made
+    return bytes(made)
 
 
 def records(text: str) -> bytes:
@@ -133,11 +142,11 @@ def _base64(text: str) -> bytes:
 
 
 def _literal(text: str) -> bytes:
-    found = re.search(r"""\bb('|").*\1""", text)
-    data = ast.literal_eval(found[0]) if found else None
-    if not isinstance(data, bytes):
+    letter = r"""[ !#-&(-\[\]-~]|\\x[0-9a-f]{2}|\\[\\nrt'"]"""
+    found = re.search(f"""\\bb(?:'(?:{letter}|")*'|"(?:{letter}|')*")""", text)
+    if not found:
         raise ValueError("there is no b'..'")
-    return data
+    return bytes(ast.literal_eval(found[0]))
 
 
 class Form(NamedTuple):
@@ -265,8 +274,9 @@ class Reader:
             problem = None if form else self.strange(sheet)
             if problem is None:
                 return sheet
-        if reading.form and not form:
-            problem += f"; --as {shlex.quote(name)}={reading.form} marks it all the same"
+        if not form:
+            given = f"{shlex.quote(name)}={reading.form or BYTES}"
+            problem += f"; --as {given} marks it all the same"
         return self.marker.unreadable(where, problem)
 
     def unreadable(self, name: str, problem: str) -> Sheet:
@@ -316,7 +326,7 @@ class Reader:
         for name, form in FORMS.items():
             try:
                 readings.append(Reading(form.read(text), form.what + code, name))
-            except (Problem, ValueError, SyntaxError) as error:
+            except (Problem, ValueError) as error:
                 why = why or _said(error)
         best = max(readings, key=lambda each: self.common(each.book), default=Reading(b""))
         if self.common(best.book):
@@ -389,7 +399,8 @@ class Reader:
                     return f"{DAMAGED}: {damage}"
             except ValueError:
                 pass
-        if len(book) >= 3 * SEALED and max(book) < 0x80:
+        kinds = sum(record[0] in KINDS for record in split(book, SEALED))
+        if len(book) >= 3 * SEALED and max(book) < 0x80 and 2 * SEALED * kinds >= len(book):
             return f"{DAMAGED}: no byte is above 7f"
         if book.count(LOST) >= 3:
             return f"{DAMAGED}: it was converted to UTF-8, and bytes are lost (each is ef bf bd now)"
