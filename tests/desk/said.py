@@ -143,7 +143,7 @@ SEALING = {
     "number-little": "bytes of the number exchanged",
     "number-decimal": "number's digits taken as hexadecimal",
     "drop-last": "last byte dropped, not byte 8",
-    "drop-7": "byte 7 dropped, which is 8th from the left counted from 0",
+    "drop-7": "byte 7 dropped (the one that is eighth from the left, counted from 0), not byte 8",
     "drop-first": "first byte dropped, not byte 8",
     "text-reversed": "text reversed",
     "ta61-k132": "TA61's strings in the order K1 K3 K2",

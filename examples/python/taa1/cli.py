@@ -35,7 +35,7 @@ from .overview import EXAMPLES, overview
 from .page import is_made_by
 from .records import KINDS, PLAIN, RING, Entry, split
 from .sheets import plural, reading, sheet_text, summary, summary_text
-from .slips import EXCHANGES, SLIPS
+from .slips import EXCHANGES, OPENING_SLIPS, SLIPS
 from .values import IDENTITY, MASK, hexadecimal, without_0x
 
 ACCEPTED, REFUSED, WRONG_USE = 0, 1, 2
@@ -612,7 +612,8 @@ def run_help(args: argparse.Namespace) -> int:
 
 def run_slips(args: argparse.Namespace) -> int:
     """The names of the slips that marking looks for."""
-    _emit_text(args, "".join(f"{slip.name}\n" for slip in (*SLIPS, *EXCHANGES)))
+    names = dict.fromkeys(slip.name for slip in (*SLIPS, *EXCHANGES, *OPENING_SLIPS))
+    _emit_text(args, "".join(f"{name}\n" for name in names))
     return ACCEPTED
 
 

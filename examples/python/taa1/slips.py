@@ -284,6 +284,10 @@ def _before(cut: Iterable[bytes], made: Sum = xored) -> bytes:
     return b"".join(bytes([made(group)]) + group for group in cut)
 
 
+def _inside(cut: Iterable[bytes], made: Sum = xored) -> bytes:
+    return b"".join(group[:1] + bytes([made(group)]) + group[1:] for group in cut)
+
+
 def _at_the_end(cut: Iterable[bytes], made: Sum = xored) -> bytes:
     cut = list(cut)
     return b"".join(cut) + bytes(map(made, cut))
@@ -307,6 +311,7 @@ def _places(expansion: str, group: str) -> list[tuple[str, Callable[..., bytes]]
     """The names of an expansion with its bytes in other places, or as sums."""
     return [
         (f"{expansion}'s ⊕ bytes before their {group}", _before),
+        (f"{expansion}'s ⊕ bytes behind the first byte of their {group}", _inside),
         (f"{expansion}'s ⊕ bytes all at the end", _at_the_end),
         (f"{expansion}'s ⊕ bytes all in front", _in_front),
         (f"{expansion} with sums for ⊕", _summing),
@@ -597,8 +602,14 @@ ENTRY_SLIPS: tuple[Slip, ...] = (
 # ---- the sealed text and the identity
 
 
-def _dropping(place: int) -> Mapping[str, Alteration]:
-    return {"dropped": lambda steps, output: output[:place] + output[place + 1 :]}
+def _dropping(place: int) -> Slip:
+    """Another byte dropped, at this place from the left."""
+    name = {0: "first byte", 15: "last byte"}.get(place, f"byte {15 - place}")
+    from_0 = " (the one that is eighth from the left, counted from 0)" if place == 8 else ""
+    return Slip(
+        f"{name} dropped{from_0}, not byte 8",
+        {"dropped": lambda steps, output: output[:place] + output[place + 1 :]},
+    )
 
 
 def _order(order: tuple[int, ...]) -> Slip:
@@ -621,9 +632,7 @@ def _plain_p(steps: Steps, a: bytes) -> bytes:
 
 
 RECORD_SLIPS: tuple[Slip, ...] = (
-    Slip("last byte dropped, not byte 8", _dropping(15)),
-    Slip("byte 7 dropped, which is 8th from the left counted from 0", _dropping(8)),
-    Slip("first byte dropped, not byte 8", _dropping(0)),
+    *(_dropping(place) for place in range(15, -1, -1) if place != 7),
     Slip(
         "text reversed",
         {
@@ -649,6 +658,10 @@ RECORD_SLIPS: tuple[Slip, ...] = (
         {"strings": lambda steps, output: (output[:3], output[3:6], output[6:] + output[:1])},
     ),
     Slip(
+        "bytes of TA61's strings in the other order",
+        {"strings": lambda steps, output: tuple(k[::-1] for k in Steps.strings(steps, output))},
+    ),
+    Slip(
         "TA61's input ⊕ of neighbours",
         {"shrunk_key": lambda steps, common_key: xor(common_key[:8], common_key[1:])},
     ),
@@ -662,8 +675,13 @@ RECORD_SLIPS: tuple[Slip, ...] = (
 # ---- unsealing
 
 
-def _put_back(place: int) -> Mapping[str, Alteration]:
-    return {"zero_back": lambda steps, text: text[:place] + b"\0" + text[place:]}
+def _put_back(place: int) -> Slip:
+    """The zero byte put back at another place from the left."""
+    name = {0: "in front", 15: "at the end"}.get(place, f"at byte {15 - place}")
+    return Slip(
+        f"zero byte put back {name}, not at byte 8",
+        {"zero_back": lambda steps, text: text[:place] + b"\0" + text[place:]},
+    )
 
 
 def _bl2(
@@ -704,9 +722,7 @@ def _written(name: str, change: Callable[[Opened], Opened]) -> Slip:
 
 
 OPENING_SLIPS: tuple[Slip, ...] = (
-    Slip("zero byte put back at the end, not at byte 8", _put_back(15)),
-    Slip("zero byte put back in front, not at byte 8", _put_back(0)),
-    Slip("zero byte put back at byte 7, not at byte 8", _put_back(8)),
+    *(_put_back(place) for place in range(15, -1, -1) if place != 7),
     Slip("three zero bits not checked", {"failed_bits": _unchecked}),
     Slip(
         "three zero bits not checked, and taken into the number",
