@@ -10,7 +10,7 @@ import said
 from common import DESK
 from exams import Exam
 from planted import KeyFile, OpenedBook, SealedBook, key_files, opened_books, sealed_books
-from taa1.handins import text_of
+from taa1.forms import text_of
 from taa1.keysheet import parse
 from taa1.mark import Marker, Sheet
 from taa1.opened import OpenedMarker

@@ -426,8 +426,7 @@ class Bad(Case):
         said = self.accepted("--help").decode()
         self.assertEqual(self.accepted("help").decode(), said)
         commands = list(next(a.choices for a in parser()._actions if a.dest == "command") or ())
-        self.assertEqual(set(EXAMPLES) - set(commands) - {"scheme"}, set())
-        self.assertEqual(set(commands) - set(EXAMPLES), set())
+        self.assertEqual(set(EXAMPLES), set(commands))
         listed = [line.split()[0] for line in said.splitlines() if re.match(r"  [a-z]", line)]
         self.assertEqual(set(listed), set(commands))
         self.assertEqual(listed[:6], ["draw", "book", "model", "paper", "seal", "mark"])

@@ -14,7 +14,8 @@ import planted
 from common import CLASS, DESK, PLAIN_BOOK, SITTING, Case, here, seal
 from taa1.engine import Sitting
 from taa1.files import MOST_BYTES
-from taa1.handins import FORMS, Reader, page_names
+from taa1.forms import FORMS
+from taa1.handins import Reader, page_names
 from taa1.mark import Marker
 from taa1.records import SEALED, split
 from taa1.sheets import others
@@ -410,6 +411,10 @@ class Folders(Case):
         done = self.mark("class", "class/ann.book", "--json")
         names = [sheet["candidate"] for sheet in json.loads(done.out)["sheets"]]
         self.assertEqual(names, ["class/ben.hex", "class/cho", "class/ann.book"])
+        (self.room / "scheme").write_bytes(self.accepted("scheme"))
+        for _ in range(2):  # the second time, the first one's sheets are there
+            done = self.mark("class", "--scheme", "class/scheme", "-o", "class/marks")
+            self.assertEqual((done.status, done.error), (0, ""))
 
     def test_no_hand_in(self) -> None:
         (self.folder / "none").mkdir()

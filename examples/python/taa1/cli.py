@@ -26,6 +26,7 @@ from .document import Document, as_page, as_text
 from .engine import MOST_RECORDS, Refused
 from .exports import class_json, csv_text
 from .files import STANDARD, Problem, place, shown
+from .forms import BYTES, FORMS, text_of
 from .handins import Reader
 from .library import PACKAGE, LibraryError, repository
 from .mark import Marker, Sheet
@@ -473,7 +474,8 @@ def run_mark(args: argparse.Namespace) -> int:
         raise Problem("mark: --clean is about pages, so it wants --html")
     if args.csv and args.json:
         raise Problem("mark: --csv or --json, not both")
-    handed = handins.hand_ins(args.candidate, (args.sitting, args.book))
+    beside = (args.sitting, args.book, args.scheme, args.candidates, args.output)
+    handed = handins.hand_ins(args.candidate, [name for name in beside if name])
     _once(args.sitting, args.book, *handed.names)
     forms = _forms(args, handed.names)
     listed = candidates.read_list(args.candidates) if args.candidates else {}
@@ -542,7 +544,7 @@ def _keys_beside(name: str) -> Optional[keysheet.KeyFile]:
     if name == STANDARD or beside == name or not os.path.isfile(beside):
         return None
     try:
-        text = handins.text_of(files.read(beside))
+        text = text_of(files.read(beside))
     except Problem as problem:
         return keysheet.KeyFile({}, problem.lines)
     if text is None:
@@ -567,8 +569,8 @@ def _reader(args: argparse.Namespace) -> tuple[Union[Reader, OpenedMarker], text
 
 def _forms(args: argparse.Namespace, names: list[str]) -> list[str]:
     """For each hand-in the form that it is to be read in, or nothing."""
-    forms = dict.fromkeys(names, handins.BYTES if args.bytes else "")
-    known = [handins.BYTES, *handins.FORMS]
+    forms = dict.fromkeys(names, BYTES if args.bytes else "")
+    known = [BYTES, *FORMS]
     for given in args.as_ or ():
         file, _, form = given.rpartition("=")
         meant = [name for name in names if file in ("", name, os.path.basename(name))]
@@ -811,7 +813,7 @@ def parser() -> Parser:
         action="append",
         dest="as_",
         metavar="[CANDIDATE=]FORM",
-        help=f"read it so, whatever it looks like: {', '.join((handins.BYTES, *handins.FORMS))}",
+        help=f"read it so, whatever it looks like: {', '.join((BYTES, *FORMS))}",
     )
     _common(mark, bytes="", json="")
 

@@ -15,7 +15,7 @@ from .desk import Desk, RefusedFile
 from .engine import MOST_RECORDS, Refusal, Refused, Sitting
 from .explain import IDENTITY, KEY, TEXT, Found, Part, Table, exchanges
 from .files import Problem, place
-from .handins import BYTES, FORMS, text_of
+from .forms import BYTES, FORMS, text_of
 from .keysheet import KeyFile, KeyMarker, KeySheet
 from .mark import Difference, Flags, Marked, Sheet, Wanted, differences, explained
 from .pairing import pair
