@@ -1,12 +1,18 @@
-"""Chromium and poppler, for tests that look at pages as a person does."""
+"""Chromium and poppler, for tests that look at pages as a person does.
+
+    browser.py FOLDER PAGE..    pictures of pages, at a screen's, a phone's and a sheet's width
+"""
 
 from __future__ import annotations
 
+import base64
 import html
 import json
+import os
 import re
 import shutil
 import subprocess
+import sys
 import tempfile
 import unicodedata
 from html.parser import HTMLParser
@@ -19,28 +25,28 @@ POPPLER = all(map(shutil.which, ("pdftotext", "pdftoppm")))
 MISSING = "no Chromium" if BROWSER is None else "" if POPPLER else "no poppler-utils"
 
 SCREEN, PHONE = 1280, 390  # widths of a window
+HIGH = {SCREEN: 900, PHONE: 844}
 POINTS = {"A4": (595.3, 841.9), "letter": (612.0, 792.0)}
 MARGIN = 15 / 25.4 * 72  # of a printed page's sides, in points
 
-# What is wrong with a page in a frame: text beyond the edges, over other text, or with a
-# word broken in two, but at a hyphen. It looks at each word's boxes.
-LOOK = """
-function look(frame) {
-  const page = frame.contentDocument, wide = frame.clientWidth, wrong = [];
-  const walk = page.createTreeWalker(page.body, NodeFilter.SHOW_TEXT), boxes = [];
-  if (page.documentElement.scrollWidth > wide) wrong.push('wider than ' + wide);
+# What is wrong with a page: text beyond the edges, over other text, or with a word broken in
+# two, but at a hyphen. It looks at each word's boxes.
+LOOK = """(() => {
+  const wide = innerWidth, wrong = [], boxes = [];
+  const walk = document.createTreeWalker(document.body, NodeFilter.SHOW_TEXT);
+  if (document.documentElement.scrollWidth > wide) wrong.push('wider than ' + wide);
   for (let node; node = walk.nextNode();) {
     for (const word of node.data.matchAll(/[^\\s-]+-?/g)) {
-      const range = page.createRange();
+      const range = document.createRange();
       range.setStart(node, word.index);
       range.setEnd(node, word.index + word[0].length);
       const found = [...range.getClientRects()].filter(box => box.width && box.height);
       if (found.length > 1 && word[0].length < 40) wrong.push('broken: ' + word[0]);
-      for (const box of found) boxes.push([box, word[0], node]);
+      for (const box of found) boxes.push([box, word[0]]);
     }
   }
   boxes.sort((a, b) => a[0].top - b[0].top);
-  boxes.forEach(([box, word, node], at) => {
+  boxes.forEach(([box, word], at) => {
     if (box.left < 0 || box.right > wide + 0.5) wrong.push('cut off: ' + word);
     for (let next = at + 1; next < boxes.length && boxes[next][0].top < box.bottom - 3; next++) {
       const other = boxes[next][0];
@@ -48,64 +54,100 @@ function look(frame) {
         wrong.push('over each other: ' + word + ' ' + boxes[next][1]);
     }
   });
-  return [boxes.length, wrong];
-}
-onload = () => {
-  const seen = [...document.querySelectorAll('iframe')].map(look);
-  document.getElementById('seen').textContent = JSON.stringify(seen);
-};
-"""
+  if (!boxes.length) wrong.push('empty');
+  return JSON.stringify(wrong);
+})()"""
 
 
-def _run(folder: str, *options: str) -> bytes:
-    """Runs Chromium over a page."""
-    done = subprocess.run(
-        [BROWSER or "", "--headless=new", "--no-sandbox", "--disable-gpu", "--hide-scrollbars",
-         "--no-first-run", f"--user-data-dir={folder}/profile", *options],
-        capture_output=True, check=True, timeout=120,
-    )  # fmt: skip
-    return done.stdout
+class Browser:
+    """A Chromium that takes orders from a pipe, by the DevTools protocol."""
+
+    def __init__(self) -> None:
+        """Starts it, with one page."""
+        self.folder = tempfile.TemporaryDirectory()
+        orders, self.orders = os.pipe()
+        self.answers, answers = os.pipe()
+        self.process = subprocess.Popen(
+            ["bash", "-c", f'exec "$@" 3<&{orders} 4>&{answers}', "bash", BROWSER or "",
+             "--headless=new", "--no-sandbox", "--disable-gpu", "--hide-scrollbars", "--no-first-run",
+             f"--user-data-dir={self.folder.name}", "--remote-debugging-pipe", "about:blank"],
+            pass_fds=(orders, answers), stdin=subprocess.DEVNULL,
+            stdout=subprocess.DEVNULL, stderr=subprocess.DEVNULL,
+        )  # fmt: skip
+        os.close(orders)
+        os.close(answers)
+        self.read = b""
+        self.number = 0
+        self.session = ""
+        target = self.order("Target.createTarget", url="about:blank")["targetId"]
+        self.session = self.order("Target.attachToTarget", targetId=target, flatten=True)["sessionId"]
+        self.order("Page.enable")
+
+    def close(self) -> None:
+        """Ends it."""
+        self.session = ""
+        self.order("Browser.close")
+        self.process.wait(30)
+        os.close(self.orders)
+        os.close(self.answers)
+        self.folder.cleanup()
+
+    def _message(self) -> dict[str, Any]:
+        while b"\0" not in self.read:
+            more = os.read(self.answers, 1 << 20)
+            assert more, "Chromium has ended"
+            self.read += more
+        message, _, self.read = self.read.partition(b"\0")
+        return dict(json.loads(message))
+
+    def order(self, method: str, **parameters: Any) -> dict[str, Any]:
+        """Gives an order, and waits for its answer."""
+        self.number += 1
+        order = {"id": self.number, "method": method, "params": parameters}
+        session = {"sessionId": self.session} if self.session else {}
+        data = json.dumps({**order, **session}).encode() + b"\0"
+        while data:
+            data = data[os.write(self.orders, data) :]
+        while True:
+            message = self._message()
+            if message.get("id") == self.number:
+                assert "result" in message, message
+                return dict(message["result"])
+
+    def open(self, page: Path, width: int = SCREEN) -> None:
+        """Shows a page in a window of a width; a phone's is a phone's."""
+        self.order(
+            "Emulation.setDeviceMetricsOverride",
+            width=width, height=HIGH[width], deviceScaleFactor=1, mobile=width == PHONE,
+        )  # fmt: skip
+        self.order("Page.navigate", url=page.resolve().as_uri())
+        while self._message().get("method") != "Page.loadEventFired":
+            pass
+
+    def look(self) -> list[str]:
+        """What is wrong with the page."""
+        answer = self.order("Runtime.evaluate", expression=LOOK)
+        return list(json.loads(answer["result"]["value"]))
+
+    def picture(self) -> bytes:
+        """The whole page as PNG."""
+        answer = self.order("Page.captureScreenshot", captureBeyondViewport=True)
+        return base64.b64decode(answer["data"])
+
+    def print(self, paper: str) -> bytes:
+        """The page as PDF."""
+        size = f"@page {{ size: {paper}; }}"
+        style = f"document.head.append(Object.assign(document.createElement('style'), {{id: 'size'}}))"
+        self.order("Runtime.evaluate", expression=f"window.size || {style}")
+        self.order("Runtime.evaluate", expression=f"size.textContent = {size!r}")
+        answer = self.order("Page.printToPDF", preferCSSPageSize=True)
+        return base64.b64decode(answer["data"])
 
 
-def looked_at(pages: list[Path], *widths: int) -> dict[tuple[str, int], list[str]]:
-    """What is wrong with each page at each width of a window, and at none with an empty one."""
-    cases = [(page, width) for page in pages for width in widths]
-    frames = "".join(
-        f'<iframe style="border:0;width:{width}px;height:900px" srcdoc="{html.escape(page.read_text())}">'
-        "</iframe>\n"
-        for page, width in cases
-    )
-    with tempfile.TemporaryDirectory() as folder:
-        frame = Path(folder) / "frame.html"
-        frame.write_text(
-            f'<!DOCTYPE html><meta charset="utf-8"><pre id="seen"></pre>{frames}'
-            f"<script>{LOOK}</script>"
-        )
-        dom = _run(folder, "--window-size=1400,1000", "--dump-dom", frame.as_uri()).decode()
-    match = re.search(r'<pre id="seen">(.*?)</pre>', dom, re.S)
-    seen: list[Any] = json.loads(html.unescape(match.group(1))) if match else []
-    assert len(seen) == len(cases), dom[:500]
-    for (page, width), (boxes, _) in zip(cases, seen):
-        assert boxes, f"{page.name} is empty at {width}"
-    return {(page.name, width): wrong for (page, width), (_, wrong) in zip(cases, seen)}
-
-
-def pictured(page: Path, width: int) -> bytes:
-    """A page's picture at a width, as PNG; a window itself can't be as narrow as a phone."""
-    with tempfile.TemporaryDirectory() as folder:
-        frame, picture = Path(folder) / "frame.html", Path(folder) / "picture.png"
-        frame.write_text(
-            '<!DOCTYPE html><meta charset="utf-8"><body style="margin: 0"><iframe '
-            f'style="border: 0; width: {width}px; height: 1400px" '
-            f'srcdoc="{html.escape(page.read_text())}"></iframe>'
-        )
-        size = f"--window-size={max(width, 500)},1400"
-        _run(folder, size, f"--screenshot={picture}", frame.as_uri())
-        return picture.read_bytes()
-
-
-class _Words(HTMLParser):
+class Words(HTMLParser):
     """A page's texts and headings: what stands in h1 to h3, titles and rows of heads."""
+
+    VOID = ("meta", "rect", "path", "line", "br")
 
     def __init__(self, page: str) -> None:
         super().__init__()
@@ -115,10 +157,13 @@ class _Words(HTMLParser):
         self.feed(page)
 
     def handle_starttag(self, tag: str, attrs: list[tuple[str, Optional[str]]]) -> None:
-        if tag not in ("meta", "rect", "br"):
+        if tag not in self.VOID:
             self.open.append(tag)
         if tag in ("h1", "h2", "h3") or (tag == "tr" and "thead" in self.open):
             self.headings.append("")
+
+    def handle_startendtag(self, tag: str, attrs: list[tuple[str, Optional[str]]]) -> None:
+        pass
 
     def handle_endtag(self, tag: str) -> None:
         self.open.pop()
@@ -141,31 +186,36 @@ def _plain(text: str) -> str:
     return " ".join(unicodedata.normalize("NFKC", text).split())
 
 
-def printed(page: Path, paper: str) -> Printed:
-    """A page printed on A4 or letter.
+def _words(text: str) -> list[str]:
+    """A text's words, which may be broken behind a hyphen."""
+    return re.findall("[^ -]+-?|-", _plain(text))
+
+
+def poppler(program: str, pdf: bytes, *options: str) -> bytes:
+    """What a program of poppler makes of a PDF."""
+    command = [program, *options, "-", *(["-"] if program == "pdftotext" else [])]
+    return subprocess.run(command, input=pdf, capture_output=True, check=True, timeout=120).stdout
+
+
+def printed(browser: Browser, page: Path, paper: str) -> Printed:
+    """The page that the browser shows, printed on A4 or letter.
 
     Wrong are words that are lost or beyond the margins, a sheet that is blank or ends in
     a heading (at its top lines to write on may follow), and colours, which black and white
     would lose.
     """
-    text = page.read_text()
-    words = _Words(text)
+    words = Words(re.sub('<p class="link">.*?</p>', "", page.read_text()))  # not for paper
     wrong: list[str] = []
-    with tempfile.TemporaryDirectory() as folder:
-        copy, pdf = Path(folder) / "page.html", Path(folder) / "page.pdf"
-        copy.write_text(text.replace("</style>", f"@page {{ size: {paper}; }}</style>", 1))
-        _run(folder, "--no-pdf-header-footer", f"--print-to-pdf={pdf}", copy.as_uri())
-        lines = subprocess.check_output(["pdftotext", "-layout", pdf, "-"]).decode()
-        boxes = subprocess.check_output(["pdftotext", "-bbox", pdf, "-"]).decode()
-        drawn = subprocess.check_output(["pdftoppm", "-r", "20", pdf])
+    pdf = browser.print(paper)
+    lines = poppler("pdftotext", pdf, "-layout").decode()
+    boxes = poppler("pdftotext", pdf, "-bbox").decode()
     wide, high = POINTS[paper]
     sizes = re.findall(r'<page width="([\d.]+)"', boxes)
     wrong += [f"a sheet {size} wide" for size in sizes if abs(float(size) - wide) > 1]
     for left, right, word in re.findall(r'<word xMin="([\d.-]+)".*?xMax="([\d.]+)".*?>(.*?)</', boxes):
         if float(left) < MARGIN - 2 or float(right) > wide - MARGIN + 2:
             wrong.append(f"beyond the margin: {html.unescape(word)}")
-    have = set(_plain(lines).split())
-    lost = {word for said in words.texts for word in _plain(said).split()} - have
+    lost = {word for said in words.texts for word in _words(said)} - set(_words(lines))
     wrong += [f"lost: {word}" for word in sorted(lost) if len(word) < 40]
     headings = {_plain(heading) for heading in words.headings}
     sheets = [[_plain(line) for line in sheet.splitlines() if line.strip()] for sheet in lines.split("\f")]
@@ -181,21 +231,50 @@ def printed(page: Path, paper: str) -> Printed:
             wrong.append(f"sheet {number} is blank")
         elif body[-1] in headings and low > high / 4:
             wrong.append(f"sheet {number} ends in the heading {body[-1]!r}")
-    if not _grey(drawn):
+    if not all(map(_grey, pictures(poppler("pdftoppm", pdf, "-r", "20")))):
         wrong.append("colours")
     return Printed(sheets, wrong)
 
 
-def _grey(pictures: bytes) -> bool:
-    """Whether pictures, one behind the other, have grey points alone, and dark ones."""
-    dark = False
-    while pictures:
-        match = re.match(rb"P6\s+(\d+)\s+(\d+)\s+255\s", pictures)
+class Picture(NamedTuple):
+    """A picture in rows of points, each of one byte (P5) or three (P6)."""
+
+    wide: int
+    points: bytes
+
+
+def pictures(data: bytes) -> list[Picture]:
+    """The pictures that pdftoppm writes one behind the other."""
+    made = []
+    while data:
+        match = re.match(rb"P([56])\s+(\d+)\s+(\d+)\s+255\s", data)
         assert match
-        end = match.end() + 3 * int(match.group(1)) * int(match.group(2))
-        red, green, blue = (pictures[match.end() + at : end : 3] for at in range(3))
-        if not red == green == blue:
-            return False
-        dark = dark or min(red) < 128
-        pictures = pictures[end:]
-    return dark
+        size = int(match[2]) * int(match[3]) * (3 if match[1] == b"6" else 1)
+        made.append(Picture(int(match[2]), data[match.end() : match.end() + size]))
+        data = data[match.end() + size :]
+    return made
+
+
+def _grey(picture: Picture) -> bool:
+    """Whether a picture in colours has grey points alone, and dark ones."""
+    red, green, blue = (picture.points[at::3] for at in range(3))
+    return red == green == blue and min(red) < 128
+
+
+def main() -> None:
+    """Writes pictures of pages."""
+    folder, *pages = map(Path, sys.argv[1:])
+    folder.mkdir(parents=True, exist_ok=True)
+    browser = Browser()
+    for page in pages:
+        for width, name in ((PHONE, "phone"), (SCREEN, "screen")):
+            browser.open(page, width)
+            (folder / f"{page.stem}.{name}.png").write_bytes(browser.picture())
+        for paper in POINTS:
+            command = ["pdftoppm", "-gray", "-r", "70", "-png", "-", folder / f"{page.stem}.{paper}"]
+            subprocess.run(command, input=browser.print(paper), check=True, timeout=120)
+    browser.close()
+
+
+if __name__ == "__main__":
+    main()

@@ -1,74 +1,141 @@
-"""The pages in Chromium, at a screen's, a phone's and a sheet's width."""
+"""Every page in Chromium, at a screen's, a phone's and a sheet's width."""
 
 from __future__ import annotations
 
+import tempfile
+import unittest
+from itertools import combinations
 from pathlib import Path
+from typing import ClassVar
 
-from browser import MISSING, PHONE, POINTS, SCREEN, looked_at, pictured, printed
-from common import CLASS, Case
-from taa1.page import page, tag, text
+from browser import MARGIN, MISSING, PHONE, POINTS, SCREEN, Browser, pictures, poppler, printed
+from common import CLASS, seal, taa1
+from taa1.page import page, text
+from taa1.pictures import FILLINGS, HEIGHT, STYLE, Part, bar, fillings
+from taa1.records import SEALED, split
 
-SITTING = CLASS / "sitting.txt"
+HEADING = "title = Key management, the winter paper\ndate = 3 December\n"
 BOOK = CLASS / "model.txt"
+# The pages, and the sheets of paper that each takes at most.
+PAGES = {
+    "paper": 2, "form": 3, "solution": 10, "model": 6, "index": 3,
+    "ann.book": 1, "ben.book": 2, "cho.book": 2, "dee.book": 2, "eve.book": 2, "fay.book": 2,
+    "noise.book": 1, "all-wrong.book": 3, "many.book": 2, "gil.txt": 2,
+}  # fmt: skip
 
 
-class Looking(Case):
-    """The pages that print a sitting."""
+def _make(folder: Path) -> None:
+    """Makes every kind of page, under a title and a date: the setter's, a class's with
+    hand-ins that are not marked, wrong in all, too long or opened, and with long names."""
+    sitting = folder / "sitting.txt"
+    sitting.write_text(HEADING + (CLASS / "sitting.txt").read_text())
+    books = {path.stem: path.read_bytes() for path in CLASS.glob("*.book")}
+    records = split(seal(), SEALED)
+    books["noise"] = b"\x8f" * 100
+    books["all-wrong"] = b"".join(record[:-1] + bytes([record[-1] ^ 0x55]) for record in records)
+    books["many"] = b"".join([*records, *records[:3]])
+    for name, data in books.items():
+        (folder / f"{name}.book").write_bytes(data)
+    (folder / "names").write_text("dee = Deirdre Featherstonehaugh-Cholmondeley of Wotton\n")
+    hand_ins = sorted(folder.glob("*.book"))
+    sealed, opened = folder / "sealed", folder / "gil.txt"
+    sealed.write_bytes(seal())
+    opened.write_text(BOOK.read_text().replace("version 513", "version 258").replace("kind 3", "kind 6"))
+    for arguments in (
+        ("mark", "--opened", sitting, sealed, opened, "--html", folder),
+        ("mark", sitting, BOOK, *hand_ins, "--candidates", folder / "names", "--html", folder),
+        ("paper", sitting, BOOK, "--html", folder),
+        ("model", sitting, BOOK, "--html", "-o", folder / "model.html"),
+    ):
+        done = taa1(*arguments)
+        assert done.status < 2, done.error
 
-    def setUp(self) -> None:
-        """Needs a browser."""
-        super().setUp()
-        if MISSING:
-            self.skipTest(MISSING)
 
-    def pages(self) -> list[Path]:
-        """The pages, under a title and a date."""
-        heading = "title = Key management, the winter paper\ndate = 3 December\n"
-        sitting = self.file("sitting.txt", heading + SITTING.read_text())
-        self.accepted("paper", sitting, BOOK, "--html", self.folder)
-        self.accepted("model", sitting, BOOK, "--html", "-o", self.folder / "model.html")
-        return sorted(self.folder.glob("*.html"))
+@unittest.skipIf(MISSING, MISSING)
+class Looking(unittest.TestCase):
+    """The pages as a person sees them."""
+
+    browser: ClassVar[Browser]
+    folder: ClassVar[Path]
+
+    @classmethod
+    def setUpClass(cls) -> None:
+        """Makes the pages, once."""
+        cls.browser = Browser()
+        cls.addClassCleanup(cls.browser.close)
+        made = tempfile.TemporaryDirectory()
+        cls.addClassCleanup(made.cleanup)
+        cls.folder = Path(made.name)
+        _make(cls.folder)
+
+    def show(self, *parts: str, style: str = "", width: int = SCREEN) -> Path:
+        """Opens a page that is none of the desk's."""
+        path = self.folder / "other.htm"
+        path.write_text(page("Other", *parts, style=style))
+        self.browser.open(path, width)
+        return path
+
+    def test_every_page(self) -> None:
+        """The pages that are looked at are those that there are."""
+        self.assertEqual({path.stem for path in self.folder.glob("*.html")}, set(PAGES))
 
     def test_screen_and_phone(self) -> None:
-        """No text is cut off, broken or over other text."""
-        seen = looked_at(self.pages(), SCREEN, PHONE)
-        self.assertEqual({case: wrong for case, wrong in seen.items() if wrong}, {})
-
-    def test_pictures(self) -> None:
-        """Each page's picture has something on it."""
-        blank = self.file("blank.txt", "<!DOCTYPE html><title>blank</title>")
+        """No text is cut off, broken or over other text, and the picture is not blank."""
         for width in (SCREEN, PHONE):
-            least = 2 * len(pictured(blank, width))
-            for path in self.pages():
-                self.assertGreater(len(pictured(path, width)), least, path.name)
+            self.show(width=width)
+            least = 2 * len(self.browser.picture())
+            for name in PAGES:
+                with self.subTest(name, width=width):
+                    self.browser.open(self.folder / f"{name}.html", width)
+                    self.assertEqual(self.browser.look(), [])
+                    self.assertGreater(len(self.browser.picture()), least)
 
     def test_paper(self) -> None:
         """On A4 and Letter nothing is lost, no sheet ends in a heading, and all is grey."""
-        most = {"form": 3, "model": 6, "paper": 2, "solution": 10}
-        for path in self.pages():
+        for name, most in PAGES.items():
+            path = self.folder / f"{name}.html"
+            self.browser.open(path)
             for paper in POINTS:
-                with self.subTest(path.name, paper=paper):
-                    sheets, wrong = printed(path, paper)
+                with self.subTest(name, paper=paper):
+                    sheets, wrong = printed(self.browser, path, paper)
                     self.assertEqual(wrong, [])
-                    self.assertLessEqual(len(sheets), most[path.stem])
+                    self.assertLessEqual(len(sheets), most)
+
+    def test_fillings(self) -> None:
+        """In grey, and in black and white, each series of a picture differs from the others."""
+        bars = [bar([Part(name, 1)], 1) for name in FILLINGS]
+        style = "header { display: none; } svg { width: 60px; }"
+        self.show(fillings(), *bars, style=STYLE + style)
+        pdf = self.browser.print("A4")
+        (picture,) = pictures(poppler("pdftoppm", pdf, "-gray", "-r", "96"))
+        rows = [picture.points[at : at + picture.wide] for at in range(0, len(picture.points), picture.wide)]
+        left = round(MARGIN / 72 * 96)
+        top = next(at for at, row in enumerate(rows) if min(row) < 128)
+        cuts = [
+            b"".join(row[left + 3 : left + 51] for row in rows[top + HEIGHT * at + 2 :][: HEIGHT - 4])
+            for at in range(len(FILLINGS))
+        ]
+        for (one, cut), (two, other) in combinations(zip(FILLINGS, cuts), 2):
+            grey = sum(abs(a - b) for a, b in zip(cut, other)) / len(cut)
+            black = sum((a < 128) != (b < 128) for a, b in zip(cut, other)) / len(cut)
+            self.assertGreater(grey, 40, f"{one} and {two}")
+            self.assertGreater(black, 0.07, f"{one} and {two}")
 
     def test_faults_are_seen(self) -> None:
         """What the tests above look for is found in pages that have it."""
         wide = text("p", "word " * 300, style="white-space: nowrap")
         over = text("p", "one", style="margin-bottom: -2.4em") + text("p", "two")
         broken = text("p", "entries", style="width: 1em")
-        for part, said in ((wide, "cut off: word"), (over, "over each other: one two"),
-                           (broken, "broken: entries")):
-            name = self.file("bad.html", page("Bad", part))
-            for width in (SCREEN, PHONE):
-                self.assertIn(said, looked_at([name], width)[name.name, width])
+        for width in (SCREEN, PHONE):
+            for part, said in ((wide, "cut off: word"), (over, "over each other: one two"),
+                               (broken, "broken: entries")):  # fmt: skip
+                self.show(part, width=width)
+                self.assertIn(said, self.browser.look())
         style = "h2 { break-after: auto; } p { height: 210mm; margin: 0; break-inside: avoid; }"
-        ends = tag("p", "high") + tag("h2", "Next") + tag("p", "far")
-        name = self.file("bad.html", page("Bad", ends, style=style))
-        self.assertEqual(printed(name, "letter").wrong, ["sheet 1 ends in the heading 'Next'"])
-        hidden = text("p", "hidden", style="position: absolute; left: 400mm") + text("p", "here")
-        name = self.file("bad.html", page("Bad", hidden))
-        self.assertNotEqual(printed(name, "A4").wrong, [])
-        red = text("p", "red " * 300, style="color: #c00")
-        name = self.file("bad.html", page("Bad", red))
-        self.assertEqual(printed(name, "A4").wrong, ["colours"])
+        path = self.show(text("p", "high"), text("h2", "Next"), text("p", "far"), style=style)
+        wrong = ["sheet 1 ends in the heading 'Next'"]
+        self.assertEqual(printed(self.browser, path, "letter").wrong, wrong)
+        path = self.show(text("p", "hidden", style="position: absolute; left: 400mm"), text("p", "here"))
+        self.assertNotEqual(printed(self.browser, path, "A4").wrong, [])
+        path = self.show(text("p", "red " * 300, style="color: #c00"))
+        self.assertEqual(printed(self.browser, path, "A4").wrong, ["colours"])

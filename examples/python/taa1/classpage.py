@@ -13,7 +13,7 @@ from .pictures import STYLE, Part, bar, fillings, legend
 from .records import KINDS
 from .results import COUNTED, FAILS, MISSING, WRONG, counts, wrong_by_entry
 from .scheme import said as points_said
-from .sheets import Summary, class_numbers, opening, spans
+from .sheets import Summary, class_numbers, opening, reason, spans
 
 MOST_ENTRIES = 40  # in the picture of the entries
 
@@ -33,7 +33,7 @@ def _candidates(sheets: Sequence[Sheet], links: Sequence[str]) -> Html:
     rows = []
     for sheet, of, link in zip(sheets, counted, links):
         picture = bar([Part(name, count) for name, count in zip(COUNTED, of)], most)
-        said = f"not marked: {sheet.problem}" if sheet.problem else opening(sheet)
+        said = f"not marked: {reason(sheet)}" if sheet.problem else opening(sheet, brief=True)
         slips = "; ".join(slip.name for slip in sheet.slips)
         name = text("a", sheet.candidate, href=link)
         points = points_said(sheet.points.sum) if sheet.points else None

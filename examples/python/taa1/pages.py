@@ -21,15 +21,18 @@ RESULT = """
 STYLE = RESULT + """
 .entries tr:not(.right) td:last-child { font-weight: bold; }
 .beside { margin-bottom: .2em; table-layout: auto; width: auto; }
-.beside th { font-weight: normal; padding-right: 1.6em; }
-.beside td { padding-right: 1.6em; white-space: nowrap; }
+.beside th, .beside td { padding-right: 1.4em; white-space: nowrap; }
+.beside th { font-weight: normal; }
 .beside td:first-child { width: 6em; }
 .beside b { outline: 1px solid #000; outline-offset: 1px; }
 .beside u { font-weight: bold; text-decoration-thickness: 2px; text-underline-offset: 2px; }
+section h3 { margin: 1em 0 .2em; }
+section p { margin: 0 0 .2em; }
 .sign { break-inside: avoid; margin-top: 2em; }
+@media print { .link { display: none; } }
 @media screen and (max-width: 40em) {
   .entries td, .entries td.number { display: inline; padding-right: .5em; }
-  .entries td:not(:first-child)::before { content: none; }
+  .entries td:nth-last-child(-n+2)::before { content: none; }
   .beside { display: flex; flex-direction: column; width: 100%; }
   .beside thead, .beside td:first-child, .beside .same { display: none; }
   .beside tbody, .beside tr { display: contents; }
@@ -168,6 +171,11 @@ def _compared(entry: Marked, wanted: Wanted) -> list[Html]:
     return made
 
 
+def _algorithm(kind: int, wanted: Wanted) -> str:
+    """The algorithm by which entries of a kind were to be sealed, or unsealed."""
+    return (KINDS[kind].seal if wanted.sealed else KINDS[kind].unseal).upper()
+
+
 def _slips(sheet: Sheet) -> Html:
     """The slips, the steps at which they happened, and what they explain."""
     rows = []
@@ -180,20 +188,19 @@ def _slips(sheet: Sheet) -> Html:
 def at_step(slip: Explained) -> str:
     """The step at which a slip happens, and where that stands."""
     step, clause = slip.step
-    return f"{step} ({clause})" if clause else step
+    return f"{step} ({'clause' if '.' in clause else 'document'} {clause})" if clause else step
 
 
 def _entry_section(entry: Marked, wanted: Wanted, slips: Sequence[Explained]) -> Html:
     """What is wrong with an entry."""
     kind = None if entry.model is None else wanted.plain[entry.model].kind
     title = f"Entry {entry.index}"
-    if kind is not None:
-        title += f": kind {kind}, {sealing(kind)} by {KINDS[kind].seal.upper()}"
+    title += f": kind {kind}, {sealing(kind)} by {_algorithm(kind, wanted)}" if kind else ""
     said = fault(entry, values=False)
     said = said[:1].upper() + said[1:] + "."
     for slip in slips:
         if entry.index in slip.entries:
-            said += f" Slip: {slip.name}, at the step {at_step(slip)}."
+            said += f" Slip: {slip.name}, at this step: {at_step(slip)}."
     return tag("section", text("h3", title) + text("p", said) + "".join(_compared(entry, wanted)))
 
 
@@ -207,7 +214,7 @@ def _entries(sheet: Sheet, wanted: Wanted) -> Html:
         kind, made = "-", "-"
         if entry.model is not None:
             number = wanted.plain[entry.model].kind
-            kind, made = f"{number}, {sealing(number)}", KINDS[number].seal.upper()
+            kind, made = f"{number}, {sealing(number)}", _algorithm(number, wanted)
         model = (entry.model,) if elsewhere else ()
         rows.append(Row((entry.index, *model, kind, made, said), entry.state))
     model_head = ("of the model",) if elsewhere else ()
@@ -218,11 +225,11 @@ def sheet_page(sheet: Sheet, wanted: Wanted, heading: str, class_page: str) -> s
     """A candidate's page: the result, what explains it, each entry, and where to sign."""
     file = os.path.basename(sheet.name)
     facts = [("hand-in", file if sheet.problem else f"{file}, {was_read(sheet)}")]
-    facts += [] if sheet.problem else [("book", opening(sheet))]
+    facts += [] if sheet.problem else [("flags" if sheet.flags else "book", opening(sheet))]
     facts += [("", line) for line in too_many(sheet) + others(sheet)]
     facts += [("" if at else "keys", line) for at, line in enumerate(keys_said(sheet.keys))]
     facts += [("points", sum_said(sheet.points).removeprefix("points "))] if sheet.points else []
-    wrong = [entry for entry in sheet.entries if entry.state != "right"]
+    wrong = [entry for entry in sheet.entries if entry.state not in ("right", "doubled")]
     parts = [text("p", result(sheet), class_="result"), pairs(facts)]
     if sheet.slips:
         parts += [tag("h2", "What went wrong, and at which step"), _slips(sheet)]
@@ -232,5 +239,6 @@ def sheet_page(sheet: Sheet, wanted: Wanted, heading: str, class_page: str) -> s
         parts.append(tag("h2", "What was handed in beside what was wanted"))
         parts += [_entry_section(entry, wanted, sheet.slips) for entry in wrong]
     signature = fields(("Remarks", "Marked by", "Date", "Signature"))
-    parts += [tag("div", signature, class_="sign"), tag("p", tag("a", "The class", href=class_page))]
+    parts.append(tag("div", signature, class_="sign"))
+    parts.append(tag("p", text("a", "The class", href=class_page), class_="link"))
     return page(sheet.candidate, *parts, above=heading, style=STYLE, made_by=MADE_BY)

@@ -21,7 +21,7 @@ FILLINGS: dict[str, tuple[str, str]] = {
     "wrong": ("#fff", '<path d="M-1 1 1-1M0 6 6 0M5 7 7 5" stroke="#000" stroke-width="1.6"/>'),
     "fails a check": ("#fff", '<path d="M0 0H3V3H0zM3 3H6V6H3z" fill="#000"/>'),
     "missing": ("#fff", ""),
-    "not marked": ("#ddd", '<path d="M0 3H6" stroke="#000" stroke-width=".6"/>'),
+    "not marked": ("#ddd", '<path d="M0 3H6" stroke="#000" stroke-width="1.2"/>'),
     "extra": ("#fff", '<path d="M1.5 0V6M4.5 0V6" stroke="#000" stroke-width="1.2"/>'),
 }
 

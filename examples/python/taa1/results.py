@@ -6,6 +6,7 @@ from collections import Counter
 from typing import Iterable, NamedTuple
 
 from .mark import Marked, Sheet
+from .sheets import reason
 
 WORDS = {1: "One", 2: "Two", 3: "Three", 4: "Four", 5: "Five"}
 
@@ -60,7 +61,7 @@ def wrong_by_entry(sheets: Iterable[Sheet]) -> dict[str, Counter[int]]:
 def result(sheet: Sheet) -> str:
     """A candidate's result in a sentence or two."""
     if sheet.problem:
-        return f"Not marked: {sheet.problem}."
+        return f"Not marked: {reason(sheet)}."
     of = counts(sheet)
     wrong = of.wrong + of.failing
     said = [f"{of.right} of {sheet.size} entries right"]

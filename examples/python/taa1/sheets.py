@@ -30,11 +30,17 @@ def verdict(sheet: Sheet) -> str:
     return f"{sheet.right} of {sheet.size} entries right{follow}; {opening(sheet)}{read_as}"
 
 
-def opening(sheet: Sheet) -> str:
+def reason(sheet: Sheet) -> str:
+    """Why a hand-in is not marked, without the option that marks it all the same."""
+    return (sheet.problem or "").partition("; --as ")[0]
+
+
+def opening(sheet: Sheet, brief: bool = False) -> str:
     """Whether a book opens, and why not."""
     if sheet.refused:
         refused = sheet.refused
-        return f"does not open: refused {refused.number} at {refused.index} ({refused.name})"
+        said = f"refused {refused.number} at {refused.index}"
+        return said if brief else f"does not open: {said} ({refused.name})"
     return flags_said(sheet.flags) if sheet.flags else "opens"
 
 
