@@ -1,6 +1,6 @@
 -- Texts that open twice: examples, by computation. BL2's output is computed once for each; the call's answer is read off it.
 -- Assumes nothing.
-use mathlib.Core.List.{List, [], _∷_}
+use mathlib.Core.List.{List, [], _∷_, _++_}
 use mathlib.Core.Path.{_≡_, refl, ap, _∙_}
 use Prim.Native.Nat.{ℕ}
 use lib.ListN.{length}
@@ -11,8 +11,8 @@ use Rattle.standard.specs.Expansions.{grouped, x16Groups}
 use Rattle.standard.specs.Hurdle.{S, T, f, round, rounds, crypt, D, a, Q, laid, decrypt}
 use Rattle.standard.specs.Seals.{form81, failed, number2, key16, opened, unseal, fails, ta82Call}
 use Rattle.standard.specs.declared.Version.{Version}
-use Rattle.claims.specs.Entries.{upward}
-use Rattle.claims.specs.FalseClaims.{version7, version5075, text, otherO, text′, ofSecond, TwoRings, TwoVersions, OneBit}
+use Rattle.claims.specs.Entries.{upward, version7}
+use Rattle.claims.specs.FalseClaims.{version5075, text, otherO, text′, ofSecond, TwoRings, TwoVersions, OneBit}
 use Rattle.claims.proofs.TermLaws.{pair}
 
 -- what TA82 answers to a text that BL2 takes to u
@@ -27,7 +27,7 @@ abbrev spread : List ℕ → List ℕ
 spread b = grouped x16Groups 0 b
 
 abbrev body₁ : List ℕ
-body₁ = 0x01 ∷ 0x02 ∷ 0x03 ∷ 0x04 ∷ 0x05 ∷ 0x06 ∷ 0x07 ∷ 0x08 ∷ 0x09 ∷ 0x0a ∷ 0x12 ∷ 0x34 ∷ []
+body₁ = upward 1 10 ++ 0x12 ∷ 0x34 ∷ []
 
 abbrev body₂ : List ℕ
 body₂ = 0x8b ∷ 0xdb ∷ 0x11 ∷ 0x10 ∷ 0x04 ∷ 0x77 ∷ 0xf1 ∷ 0x21 ∷ 0x7a ∷ 0xb0 ∷ 0xfd ∷ 0x9b ∷ []
@@ -45,12 +45,12 @@ abbrev body₆ : List ℕ
 body₆ = 0x00 ∷ 0x00 ∷ 0x11 ∷ 0xe2 ∷ 0x05 ∷ 0x06 ∷ 0x07 ∷ 0x08 ∷ 0x09 ∷ 0x0a ∷ 0x12 ∷ 0x34 ∷ []
 
 record Computed : Type 0 where
-  ring₁ : opened (key16 (upward 16) (pair version7)) text ≡ spread body₁
+  ring₁ : opened (key16 (upward 0 16) (pair version7)) text ≡ spread body₁
   ring₂ : opened (key16 otherO (pair version7)) text ≡ spread body₂
-  version₁ : opened (key16 (upward 16) (pair version7)) text′ ≡ spread body₃
-  version₂ : opened (key16 (upward 16) (pair version5075)) text′ ≡ spread body₄
-  bit₁ : opened (key16 (upward 16) (pair version7)) (ofSecond 0b10) ≡ spread body₅
-  bit₂ : opened (key16 (upward 16) (pair version7)) (ofSecond 0b00) ≡ spread body₆
+  version₁ : opened (key16 (upward 0 16) (pair version7)) text′ ≡ spread body₃
+  version₂ : opened (key16 (upward 0 16) (pair version5075)) text′ ≡ spread body₄
+  bit₁ : opened (key16 (upward 0 16) (pair version7)) (ofSecond 0b10) ≡ spread body₅
+  bit₂ : opened (key16 (upward 0 16) (pair version7)) (ofSecond 0b00) ≡ spread body₆
 
 computed : Computed
 unfolding opened key16 bl2 decrypt crypt rounds round f T S bit laid Q D a
@@ -58,18 +58,18 @@ computed = record { ring₁ = refl; ring₂ = refl; version₁ = refl; version�
 
 pub two-rings : TwoRings
 two-rings = record {
-  first = λ r e. ap (λ (s : List ℕ). ta82Call text s version7) e ∙ answered text (upward 16) version7 (spread body₁) refl refl (computed .ring₁);
+  first = λ r e. ap (λ (s : List ℕ). ta82Call text s version7) e ∙ answered text (upward 0 16) version7 (spread body₁) refl refl (computed .ring₁);
   second = λ r e. ap (λ (s : List ℕ). ta82Call text s version7) e ∙ answered text otherO version7 (spread body₂) refl refl (computed .ring₂);
 }
 
 pub two-versions : TwoVersions
 two-versions = record {
-  first = answered text′ (upward 16) version7 (spread body₃) refl refl (computed .version₁);
-  second = answered text′ (upward 16) version5075 (spread body₄) refl refl (computed .version₂);
+  first = answered text′ (upward 0 16) version7 (spread body₃) refl refl (computed .version₁);
+  second = answered text′ (upward 0 16) version5075 (spread body₄) refl refl (computed .version₂);
 }
 
 pub one-bit : OneBit
 one-bit = record {
-  first = answered (ofSecond 0b10) (upward 16) version7 (spread body₅) refl refl (computed .bit₁);
-  second = answered (ofSecond 0b00) (upward 16) version7 (spread body₆) refl refl (computed .bit₂);
+  first = answered (ofSecond 0b10) (upward 0 16) version7 (spread body₅) refl refl (computed .bit₁);
+  second = answered (ofSecond 0b00) (upward 0 16) version7 (spread body₆) refl refl (computed .bit₂);
 }

@@ -12,7 +12,7 @@ use Rattle.standard.specs.Cores.{bl1, bl1With, bl2}
 use Rattle.standard.specs.Derivation.{core, chosen, split, ring, ta12Call, ta41Call}
 use Rattle.standard.specs.Expansions.{xorOf, exp1Groups, exp2}
 use Rattle.standard.specs.Hurdle.{S, T, f, round, rounds, crypt, D, a, Q, laid, encrypt, decrypt}
-use Rattle.standard.specs.Seals.{key16, ta81Call, ta82Call}
+use Rattle.standard.specs.Seals.{key16, ta82Call}
 use Rattle.standard.specs.declared.Bytes15.{Bytes15}
 use Rattle.standard.specs.declared.Bytes16.{Bytes16}
 use Rattle.standard.specs.declared.UnsealedNumbered.{UnsealedNumbered}
@@ -21,9 +21,9 @@ use Rattle.standard.proofs.CallLaws.{ta81-opens, ta82-seals}
 use Rattle.standard.proofs.Demand3Laws.{demand3}
 use Rattle.standard.proofs.ExpansionLaws.{bytes-grouped}
 use Rattle.standard.proofs.XorLaws.{xor-byte}
-use Rattle.claims.specs.Entries.{upward}
-use Rattle.claims.specs.FalseClaims.{text, version7}
-use Rattle.claims.specs.Variants.{tenBytes, openedAtEnd, ta82AtEnd, ZeroAtEnd, reversed, ChallengeReversed, exp2ByXor, ta41ByXor, LastByteXored, ringWith, StillHolds}
+use Rattle.claims.specs.Entries.{upward, version7}
+use Rattle.claims.specs.FalseClaims.{text}
+use Rattle.claims.specs.Variants.{openedAtEnd, ta82AtEnd, sealedText, ZeroAtEnd, reversed, ChallengeReversed, exp2ByXor, ta41ByXor, LastByteXored, ringWith, StillHolds}
 use Rattle.claims.proofs.BlockLaws.{bl1-back, bl1-inverse}
 use Rattle.claims.proofs.ExampleClaims.{two-rings}
 use Rattle.claims.proofs.RecipeLaws.{reversed-bytes, ring-bytes}
@@ -32,14 +32,14 @@ use Rattle.claims.proofs.TermLaws.{literal-bytes, pair}
 -- ---- the zero byte at the end
 
 -- the sealed text of the example is the one that claim 11a opens, under a ring whose O is 00 01 .. 0f
-sealed-text : ta81Call tenBytes version7 (upward 16) (record { 0 = 0x1234 }) .bytes ≡ text
+sealed-text : sealedText ≡ text
 sealed-text =
-    let o : ta82Call text (upward 16) version7 ≡ record { refusal = 0; key = tenBytes; number = 0x1234; «failed_checks» = 0 } =
-    two-rings .first (zeros 10 ++ upward 16) refl in
-    let s = ta82-seals (upward 16) version7 refl text (literal-bytes text refl) (ap (λ (x : UnsealedNumbered). x .«failed_checks») o) in
+    let o : ta82Call text (upward 0 16) version7 ≡ record { refusal = 0; key = upward 1 10; number = 0x1234; «failed_checks» = 0 } =
+    two-rings .first (zeros 10 ++ upward 0 16) refl in
+    let s = ta82-seals (upward 0 16) version7 refl text (literal-bytes text refl) (ap (λ (x : UnsealedNumbered). x .«failed_checks») o) in
     ap (λ (x : Bytes15). x .bytes) (rw o at s)
 
-opened-at-end : openedAtEnd (key16 (upward 16) (pair version7)) text
+opened-at-end : openedAtEnd (key16 (upward 0 16) (pair version7)) text
     ≡ 0x78 ∷ 0x78 ∷ 0xe6 ∷ 0x31 ∷ 0xcf ∷ 0x1b ∷ 0x44 ∷ 0x5f ∷ 0x7c ∷ 0x28 ∷ 0x5a ∷ 0xad ∷ 0xd7 ∷ 0xab ∷ 0x72 ∷ []
 unfolding openedAtEnd key16 bl2 decrypt crypt rounds round f T S bit laid Q D a
 opened-at-end = refl
@@ -47,7 +47,7 @@ opened-at-end = refl
 pub zero-at-end : ZeroAtEnd
 unfolding ta82AtEnd
 zero-at-end = record {
-  right = ta81-opens (upward 16) version7 refl tenBytes (record { 0 = 0x1234 }) (literal-bytes tenBytes refl) (omega arith);
+  right = ta81-opens (upward 0 16) version7 refl (upward 1 10) (record { 0 = 0x1234 }) (literal-bytes (upward 1 10) refl) (omega arith);
   wrong = rw (sealed-text, opened-at-end);
 }
 
@@ -59,20 +59,20 @@ output = 0x5e ∷ 0x4c ∷ 0x3e ∷ 0x42 ∷ 0x46 ∷ 0xfc ∷ 0x16 ∷ 0xfd ∷
 abbrev outputReversed : List ℕ
 outputReversed = 0xe6 ∷ 0xf4 ∷ 0x19 ∷ 0x5c ∷ 0x04 ∷ 0x27 ∷ 0x25 ∷ 0xfe ∷ 0xd7 ∷ 0x12 ∷ 0x60 ∷ 0x17 ∷ 0xf6 ∷ 0xc8 ∷ 0xb0 ∷ 0x0e ∷ []
 
-outputs : (core (upward 16) tenBytes ≡ output) × (core (upward 16) (reversed tenBytes) ≡ outputReversed)
+outputs : (core (upward 0 16) (upward 1 10) ≡ output) × (core (upward 0 16) (reversed (upward 1 10)) ≡ outputReversed)
 unfolding exp2 bl1 bl1With encrypt crypt rounds round f T S bit laid Q D a
 outputs = (refl, refl)
 
 -- split by the masks 000f and 3ff0
-split-alike : (c o : List ℕ) → length c ≡ 10 → core (upward 16) c ≡ o → ta12Call (upward 16) c 0x000f 0x3ff0 ≡ split 0x000f 0x3ff0 o
+split-alike : (c o : List ℕ) → length c ≡ 10 → core (upward 0 16) c ≡ o → ta12Call (upward 0 16) c 0x000f 0x3ff0 ≡ split 0x000f 0x3ff0 o
 unfolding ta12Call ones onesIn
 split-alike c o h e = rw (eq-eqb _ _ h, e)
 
 pub challenge-reversed : ChallengeReversed
 unfolding chosen bit
 challenge-reversed = record {
-  right = split-alike tenBytes output refl (outputs .0);
-  wrong = split-alike (reversed tenBytes) outputReversed refl (outputs .1);
+  right = split-alike (upward 1 10) output refl (outputs .0);
+  wrong = split-alike (reversed (upward 1 10)) outputReversed refl (outputs .1);
 }
 
 -- ---- EXP2's last byte as a ⊕
@@ -95,10 +95,10 @@ last-byte-xored = record {
   wrong = refl;
   otherwise = λ root hr e.
       let i = bl1-inverse root in
-      let h : Bytes 10 tenBytes = literal-bytes tenBytes refl in
-      let o : bl1 root (exp2ByXor tenBytes) ≡ bl1 root (exp2 tenBytes) = ap (λ (x : Bytes16). x .bytes) (rw (eq-eqb _ _ hr) at e) in
-      let same : exp2ByXor tenBytes ≡ exp2 tenBytes =
-      sym (i .back _ (by-xor-bytes tenBytes h)) ∙ ap (bl1-back root) o ∙ i .back _ (exp2-bytes tenBytes h) in
+      let h : Bytes 10 (upward 1 10) = literal-bytes (upward 1 10) refl in
+      let o : bl1 root (exp2ByXor (upward 1 10)) ≡ bl1 root (exp2 (upward 1 10)) = ap (λ (x : Bytes16). x .bytes) (rw (eq-eqb _ _ hr) at e) in
+      let same : exp2ByXor (upward 1 10) ≡ exp2 (upward 1 10) =
+      sym (i .back _ (by-xor-bytes (upward 1 10) h)) ∙ ap (bl1-back root) o ∙ i .back _ (exp2-bytes (upward 1 10) h) in
       let z : _≡_ {A = ℕ} 0x0b 0x1f = ap (λ (l : List ℕ). l ! 15) same in
       omega arith;
 }

@@ -3,7 +3,7 @@
 -- Assumes nothing.
 use mathlib.Core.List.{List}
 use mathlib.Core.Path.{_≡_}
-use Prim.Native.Nat.{ℕ, _<_}
+use Prim.Native.Nat.{ℕ, _+_, _<_}
 use Rattle.standard.specs.Bytes.{_!_, part, table, Bytes}
 use Rattle.standard.specs.Seals.{formOf, body31, body51, body81, body91, number2, ta31Call, ta32Call, ta51Call, ta52Call, ta81Call, ta82Call, ta91Call, ta92Call}
 use Rattle.standard.specs.declared.Algorithm.{Algorithm}
@@ -76,8 +76,11 @@ pub record Opens (a : Algorithm) (s : List ℕ) (v : Version) (t : List ℕ) : T
   pub accepted : unsealCall a t s v .refusal ≡ 0
   pub clear : unsealCall a t s v .failed ≡ 0
 
--- ---- strings that examples share
+-- ---- what examples share
 
--- 00 01 02 .., n bytes
-abbrev pub upward : ℕ → List ℕ
-upward n = table n (λ i. i)
+-- n bytes, from one on: 00 01 .. 0f is `upward 0 16`
+abbrev pub upward : (from n : ℕ) → List ℕ
+upward from n = table n (λ i. from + i)
+
+abbrev pub version7 : Version
+version7 = record { 0 = 7 }

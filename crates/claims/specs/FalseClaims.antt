@@ -16,16 +16,17 @@ use Rattle.standard.specs.declared.Algorithm.{Algorithm}
 use Rattle.standard.specs.declared.Algorithm.the-variants.{Ta81, Ta91}
 use Rattle.standard.specs.declared.RingKey.the-variants.{D, O, G}
 use Rattle.standard.specs.declared.Version.{Version}
-use Rattle.claims.specs.Entries.{sealingSize, sealCall, unsealCall, upward}
+use Rattle.claims.specs.Entries.{sealingSize, sealCall, unsealCall, upward, version7}
 
--- ---- 8: "A text opens as one kind only"
+-- ---- kinds
 
--- 8a: kinds 3 and 4 open the same texts to the same twelve bytes, under every key and version. The text has to consist of bytes, so that
--- TA82's number has two
+-- 8a: "A text opens as one kind only." Kinds 3 and 4 open the same texts to the same twelve bytes, under every key and version. The text
+-- has to consist of bytes, so that TA82's number has two
 abbrev pub ThreeAndFour : Type 0
 ThreeAndFour = (t s : List ℕ) (v : Version) → Bytes 15 t → unsealCall Ta81 t s v ≡ unsealCall Ta91 t s v
 
--- 8b: under every key and version there is a text that opens as kinds 2, 3 and 4, as three different entries
+-- 8b: "Apart from kinds 3 and 4, a text opens as one kind only." Under every sealing key of its length, and every version, there is a text
+-- that opens as kinds 2, 3 and 4, as three different entries
 pub record ThreeKinds (s : List ℕ) (v : Version) (t : List ℕ) : Type 0 where
   pub bytes : Bytes 15 t
   pub kind2 : ta52Call t s v
@@ -38,8 +39,10 @@ pub record ThreeKinds (s : List ℕ) (v : Version) (t : List ℕ) : Type 0 where
 abbrev pub AsThreeKinds : Type 0
 AsThreeKinds = (s : List ℕ) (v : Version) → length s ≡ 16 → (t : List ℕ) × ThreeKinds s v t
 
--- ---- 9: "The cipher can be undone because f can." Two halves go to the same under one round key, so that no g undoes f, not even one
--- that is told the round key
+-- ---- the cipher
+
+-- 9: "The cipher can be undone because f can." Two halves go to the same under one round key, so that no g undoes f, not even one that is
+-- told the round key
 
 abbrev pub half₁ : List ℕ
 half₁ = 0x00 ∷ 0x03 ∷ 0x01 ∷ 0x36 ∷ []
@@ -51,9 +54,10 @@ pub record FCollides : Type 0 where
   pub same : f half₁ (zeros 12) ≡ f half₂ (zeros 12)
   pub not-undone : (g : List ℕ → List ℕ → List ℕ) → ((x k : List ℕ) → Bytes 4 x → Bytes 12 k → g (f x k) k ≡ x) → ⊥
 
--- ---- 10: "A text belongs to one sealing key and one version." Both enter by their ⊕ alone
+-- ---- sealing key and version enter by their ⊕ alone
 
--- 10a: for every key s and versions v and w there is a key that does under w what s does under v; another one, if the versions differ
+-- 10a: "A text belongs to one sealing key and one version." For every key s and versions v and w there is a key that does under w what s
+-- does under v; another key, if the versions differ, which have sixteen bits
 
 -- n bytes: the key ⊕ both versions repeated
 abbrev pub otherKey : ℕ → List ℕ → Version → Version → List ℕ
@@ -67,7 +71,8 @@ pub record OtherKey (a : Algorithm) (s : List ℕ) (v w : Version) (s′ : List 
 abbrev pub KeyAndVersion : Type 0
 KeyAndVersion = (a : Algorithm) (s : List ℕ) (v w : Version) → length s ≡ sealingSize a → OtherKey a s v w (otherKey (sealingSize a) s v w)
 
--- 10b: so it is with a whole book: each version ⊕ the same two bytes x, and D, O and G ⊕ x repeated, C as it was
+-- 10b: "A book belongs to one ring." With each version ⊕ the same two bytes x, with D, O and G ⊕ x repeated, and with C as it was, the book
+-- has the same texts and encrypted identities
 
 abbrev pub otherRing : List ℕ → List ℕ → List ℕ
 otherRing x r = xors 10 (repeated 10 x) (ringKey D r) ++ xors 16 (repeated 16 x) (ringKey O r) ++ commonKey r ++ xors 16 (repeated 16 x) (ringKey G r)
@@ -79,8 +84,8 @@ otherVersion w x p = part 0 4 p ++ xors 2 (part 4 2 p) x ++ part 6 (w - 6) p
 abbrev pub otherVersions : ℕ → List ℕ → List ℕ → List ℕ
 otherVersions w x xs = each (length xs / w) w (otherVersion w x) xs
 
--- of the ring r, the book p and the bytes x: the other book's sealed form under the other ring is the sealed form with its versions
--- changed alike; each encrypted identity and each text is as it was
+-- of the ring r, the book p and the bytes x: the other book's sealed form under the other ring is p's with its versions changed alike, so
+-- that each encrypted identity and each text is as it was
 pub record OtherRing (r p x : List ℕ) : Type 0 where
   pub ring : Bytes ringSize (otherRing x r)
   pub sealed : IsSealedForm (otherRing x r) (otherVersions plainSize x p) (otherVersions sealedSize x (sealedForm r p))
@@ -92,28 +97,25 @@ pub record OtherRing (r p x : List ℕ) : Type 0 where
 abbrev pub RingAndVersions : Type 0
 RingAndVersions = (r p x : List ℕ) → Bytes ringSize r → WellFormed p → Bytes 2 x → OtherRing r p x
 
--- ---- 11: "A text opens to one entry, whatever the ring." "Whatever the version."
+-- ---- examples, all of kind 3
 
--- 11a: one text of kind 3 and one version, under the sealing keys O of two rings
-
-abbrev pub version7 : Version
-version7 = record { 0 = 7 }
+-- 11a: "A text opens to one entry, whatever the ring." One text, one version, and rings with two different O: two entries
 
 abbrev pub text : List ℕ
 text = 0x7d ∷ 0x3b ∷ 0xf4 ∷ 0xc5 ∷ 0x3b ∷ 0xec ∷ 0x9b ∷ 0x33 ∷ 0xbe ∷ 0x0c ∷ 0x29 ∷ 0x6b ∷ 0x64 ∷ 0xdc ∷ 0x2f ∷ []
 
 abbrev pub otherO : List ℕ
-otherO = upward 12 ++ 0x00 ∷ 0xbf ∷ 0x58 ∷ 0x8f ∷ []
+otherO = upward 0 12 ++ 0x00 ∷ 0xbf ∷ 0x58 ∷ 0x8f ∷ []
 
 pub record TwoRings : Type 0 where
-  pub first : (r : List ℕ) → ringKey O r ≡ upward 16
+  pub first : (r : List ℕ) → ringKey O r ≡ upward 0 16
       → ta82Call text (ringKey O r) version7
-      ≡ record { refusal = 0; key = 0x01 ∷ 0x02 ∷ 0x03 ∷ 0x04 ∷ 0x05 ∷ 0x06 ∷ 0x07 ∷ 0x08 ∷ 0x09 ∷ 0x0a ∷ []; number = 0x1234; «failed_checks» = 0 }
+      ≡ record { refusal = 0; key = upward 1 10; number = 0x1234; «failed_checks» = 0 }
   pub second : (r : List ℕ) → ringKey O r ≡ otherO
       → ta82Call text (ringKey O r) version7
       ≡ record { refusal = 0; key = 0x8b ∷ 0xdb ∷ 0x11 ∷ 0x10 ∷ 0x04 ∷ 0x77 ∷ 0xf1 ∷ 0x21 ∷ 0x7a ∷ 0xb0 ∷ []; number = 0xfd9b; «failed_checks» = 0 }
 
--- 11b: one text of kind 3 and one sealing key, under versions 7 and 5075
+-- 11b: "A text opens to one entry, whatever the version." One text, one sealing key, versions 7 and 5075: two entries
 
 abbrev pub version5075 : Version
 version5075 = record { 0 = 5075 }
@@ -122,26 +124,27 @@ abbrev pub text′ : List ℕ
 text′ = 0xf4 ∷ 0x20 ∷ 0x4d ∷ 0xb5 ∷ 0x69 ∷ 0x32 ∷ 0xc3 ∷ 0x24 ∷ 0x11 ∷ 0xc2 ∷ 0xc6 ∷ 0x07 ∷ 0xad ∷ 0x68 ∷ 0x0c ∷ []
 
 pub record TwoVersions : Type 0 where
-  pub first : ta82Call text′ (upward 16) version7
+  pub first : ta82Call text′ (upward 0 16) version7
       ≡ record { refusal = 0; key = 0x01 ∷ 0x02 ∷ 0x03 ∷ 0x04 ∷ 0x05 ∷ 0x06 ∷ 0x00 ∷ 0x00 ∷ 0x00 ∷ 0x0c ∷ []; number = 0x1234; «failed_checks» = 0 }
-  pub second : ta82Call text′ (upward 16) version5075
+  pub second : ta82Call text′ (upward 0 16) version5075
       ≡ record { refusal = 0; key = 0xa2 ∷ 0x4f ∷ 0x5a ∷ 0x19 ∷ 0x8f ∷ 0xec ∷ 0xb3 ∷ 0xee ∷ 0x72 ∷ 0xa6 ∷ []; number = 0x961c; «failed_checks» = 0 }
 
--- ---- 12: "The flag notices every change." Two texts of kind 3 that differ in one bit, of the second byte, both open, to different keys
+-- 12: "The flag notices every change." Two texts that differ in one bit, of the second byte, both open, to different keys
 
 abbrev pub ofSecond : ℕ → List ℕ
 ofSecond x = 0xf2 ∷ x ∷ 0x34 ∷ 0xe6 ∷ 0xa6 ∷ 0x21 ∷ 0xc2 ∷ 0x79 ∷ 0xee ∷ 0x4f ∷ 0x4c ∷ 0xf0 ∷ 0xad ∷ 0x62 ∷ 0x79 ∷ []
 
 pub record OneBit : Type 0 where
-  pub first : ta82Call (ofSecond 0b10) (upward 16) version7
+  pub first : ta82Call (ofSecond 0b10) (upward 0 16) version7
       ≡ record { refusal = 0; key = 0x6e ∷ 0x2e ∷ 0xad ∷ 0x0a ∷ 0x89 ∷ 0x46 ∷ 0xc9 ∷ 0x08 ∷ 0x09 ∷ 0x0a ∷ []; number = 0x1234; «failed_checks» = 0 }
-  pub second : ta82Call (ofSecond 0b00) (upward 16) version7
+  pub second : ta82Call (ofSecond 0b00) (upward 0 16) version7
       ≡ record { refusal = 0; key = 0x00 ∷ 0x00 ∷ 0x11 ∷ 0xe2 ∷ 0x05 ∷ 0x06 ∷ 0x07 ∷ 0x08 ∷ 0x09 ∷ 0x0a ∷ []; number = 0x1234; «failed_checks» = 0 }
 
--- ---- 13: "The flag protects the identity"
+-- ---- records
 
--- 13a: a record goes on opening, or not opening, with any other three bytes as its encrypted identity: to another identity, and to the
--- same kind, version and body. The bytes of ring and record matter, since another identity has to come of other bytes
+-- 13a: "The flag protects the identity." A record that opens goes on opening with any other three bytes as its encrypted identity (and one
+-- that does not goes on not opening): to another identity, with the same kind, version and body. Ring and record have to consist of bytes,
+-- so that TA61 can be undone
 
 abbrev pub withIdentity : List ℕ → List ℕ → List ℕ
 withIdentity x t = part 0 1 t ++ part 0 3 x ++ part 4 17 t
@@ -155,8 +158,8 @@ pub record OtherIdentity (r t x : List ℕ) : Type 0 where
 abbrev pub IdentityFree : Type 0
 IdentityFree = (r t x : List ℕ) → Bytes ringSize r → Bytes sealedSize t → Bytes 3 x → (x ≡ part 1 3 t → ⊥) → OtherIdentity r t x
 
--- 13b: two records of the same kind and version may exchange their texts: each opens to its own identity with the other's body. Here the
--- first record has the second one's text
+-- 13b: "A text belongs to the record in which it stands." Two records of the same kind and version may exchange their texts: each opens to
+-- its own identity with the other's body. Said of t with u's text; of u with t's it is the same
 
 abbrev pub withText : List ℕ → List ℕ → List ℕ
 withText u t = part 0 6 t ++ part 6 15 u

@@ -21,50 +21,54 @@ use Rattle.standard.specs.declared.Version.{Version}
 use Rattle.claims.specs.Entries.{Only, ExactlyOne, Count, Legal, sealingSize, sealCall, unsealCall, Opens}
 use Rattle.claims.specs.Variants.{ta52WithoutBits}
 
--- 1: "Decryption undoes encryption, and encryption decryption." The lengths are those that the calls take; others are refused with 11
+-- 1: "Decryption undoes encryption." And encryption undoes decryption. The lengths are those that the calls take; others are refused
+-- with 11
 pub record Undone : Type 0 where
   pub back : (k b : List ℕ) → length k ≡ 16 → length b ≡ 8 → decryptCall k (encryptCall k b .bytes) ≡ record { refusal = 0; bytes = b }
   pub forth : (k b : List ℕ) → length k ≡ 16 → length b ≡ 8 → encryptCall k (decryptCall k b .bytes) ≡ record { refusal = 0; bytes = b }
 
--- 2a: "The dropped byte loses nothing: every string of 15 bytes comes from one input that ends in a zero byte, and from no other." The
--- string has to consist of bytes, or it could not come out of BL1
+-- 2a: "The dropped byte loses nothing: every string of 15 bytes comes from exactly one input that ends in a zero byte." Under every key.
+-- The string has to consist of bytes, or it could not come out of BL1
 abbrev pub NothingLost : Type 0
 NothingLost = (k t : List ℕ) → Bytes 15 t → ExactlyOne (λ x. Bytes 16 x × (x ! 15 ≡ 0) × (without8 (bl1 k x) ≡ t))
 
--- 2b: "Without the zero byte 256 inputs would share each text", one for each value d of the dropped byte. A byte has no other values
+-- 2b: "Without the zero byte exactly 256 inputs would share each text." One for each value d of the dropped byte, which is below 256
 pub record Shared : Type 0 where
   pub one-each : (k t : List ℕ) → Bytes 15 t → (d : ℕ) → d < 256 → ExactlyOne (λ x. Bytes 16 x × (without8 (bl1 k x) ≡ t) × (bl1 k x ! 7 ≡ d))
   pub in-all : (k t : List ℕ) → Bytes 15 t → Count 256 (λ x. Bytes 16 x × (without8 (bl1 k x) ≡ t))
 
--- 3: "The checks pass exactly on the expansions of legal bodies, and shrinking gives the body." Of BL2's output, 15 bytes; BL1's input
--- has a zero byte behind them
+-- 3: "The checks pass exactly on the expansions of legal bodies, and shrinking gives the body." Said of BL2's output, 15 bytes: with a
+-- zero byte behind them they are BL1's input of one body alone
 abbrev pub ChecksExactly : Type 0
 ChecksExactly = (a : Algorithm) (u : List ℕ) → Bytes 15 u
     → (failed (formOf a) u ≡ 0) ↔ Only (λ b. Legal a b × (formOf a .input b ≡ u ++ 0 ∷ [])) (formOf a .shrink u)
 
--- 4a: "For a given kind, ring and version a text opens exactly if it is the sealed text of an entry, of one and no other, and that one is
--- what unsealing gives." The sealing key has the length that its calls take; others are refused with 11
+-- 4a: "For a given kind, ring and version a text opens exactly if it is the sealed text of an entry, of one and no other." That one is
+-- what unsealing gives. Sealing key and text have the lengths that the calls take; others are refused with 11. The text has to consist of
+-- bytes, since sealing gives no other
 abbrev pub OneText : Type 0
 OneText = (a : Algorithm) (s : List ℕ) (v : Version) (t : List ℕ) → length s ≡ sealingSize a → Bytes 15 t
     → Opens a s v t ↔ Only (λ b. Legal a b × (sealCall a b v s ≡ record { refusal = 0; bytes = t })) (unsealCall a t s v .body)
 
--- 4b: "So it is with a sealed record, its identity included." The ring's bytes matter here, since C's are added up
+-- 4b: "A sealed record opens exactly if it is the sealed form of a plain record, of one and no other, its identity included." Here the
+-- ring has to consist of bytes, since those of C go into the identity
 abbrev pub OneRecord : Type 0
 OneRecord = (r t : List ℕ) → Bytes ringSize r → Bytes sealedSize t
     → (openFault r t ≡ 0) ↔ Only (λ p. Bytes plainSize p × (plainFault p ≡ 0) × (sealRecord r p ≡ t)) (openRecord r t)
 
--- 4c: "And so it is with a book." Of any length, into every output long enough: what opening writes is the only book whose sealed form
--- was handed in
+-- 4c: "A book opens exactly if it is the sealed form of a well-formed plain book, of one and no other." Whatever its length; that one is
+-- what opening writes. The output has to be long enough, or opening is refused with 12
 abbrev pub OneBook : Type 0
 OneBook = (r s out : List ℕ) → Bytes ringSize r → ((i : ℕ) → s ! i < 256) → plainSize * (length s / sealedSize) ≤ length out
     → (openBook r s out .0 .refusal ≡ 0) ↔ Only (λ p. IsSealedForm r p s) (take (openBook r s out .0 .written) (openBook r s out .1))
 
--- 4d: "A record is opened as a book of one record is", so that what is said of a record is said of the call
+-- 4d: "A record by itself opens as a book of one record does." So what is said of records is said of the call
 abbrev pub RecordAlone : Type 0
 RecordAlone = (r t out : List ℕ) → length r ≡ ringSize → length t ≡ sealedSize → plainSize ≤ length out
     → (openBook r t out .0 .refusal ≡ openFault r t) × (openFault r t ≡ 0 → openBook r t out .1 ≡ openRecord r t ++ drop plainSize out)
 
--- 5: "Of the 256^15 texts so many open, as many as there are legal bodies", under each sealing key and version
+-- 5: "Of the 256^15 texts exactly as many open as there are legal bodies: 256^10 of kind 1, 32 · 256^10 of kinds 2 and 5, 256^12 of kinds
+-- 3, 4 and 6." Under every sealing key of its length, and every version
 abbrev pub howMany : Algorithm → ℕ
 howMany Ta31 = 256 ^ 10
 howMany Ta51 = 32 * 256 ^ 10
@@ -76,8 +80,8 @@ pub record HowMany : Type 0 where
   pub bodies : (a : Algorithm) → Count (howMany a) (Legal a)
   pub opening : (a : Algorithm) (s : List ℕ) (v : Version) → length s ≡ sealingSize a → Count (howMany a) (Opens a s v)
 
--- 6a: "A text whose flag is set unseals to a key all the same." Of every legal body there is another text that unseals to the same key
--- and number with its flag set; a text whose flag is clear there is by 4a
+-- 6a: "A text whose flag is set unseals to a key all the same." For every legal body there is such a text, other than its sealed text,
+-- that unseals to the same key and number; its sealed text, whose flag is clear, does so by 4a
 pub record Another (a : Algorithm) (s : List ℕ) (v : Version) (b t : List ℕ) : Type 0 where
   pub bytes : Bytes 15 t
   pub accepted : unsealCall a t s v .refusal ≡ 0
@@ -88,8 +92,8 @@ pub record Another (a : Algorithm) (s : List ℕ) (v : Version) (b t : List ℕ)
 abbrev pub UnsealsAllTheSame : Type 0
 UnsealsAllTheSame = (a : Algorithm) (s : List ℕ) (v : Version) (b : List ℕ) → length s ≡ sealingSize a → Legal a b → (t : List ℕ) × Another a s v b t
 
--- 6b: "For kinds 2 and 5 seven texts differ from an entry's sealed text in the three zero bits alone": they unseal to its key and number,
--- and the fifth check is the only one that fails
+-- 6b: "For kinds 2 and 5 exactly seven other texts unseal to an entry's key and number and fail the check of the three zero bits alone."
+-- That check is the fifth of TA52's
 abbrev pub fifthAlone : ℕ
 fifthAlone = 0b10000
 
@@ -97,24 +101,25 @@ abbrev pub SevenOthers : Type 0
 SevenOthers = (s : List ℕ) (v : Version) (ck : List ℕ) (n : ℕ) → length s ≡ 16 → Bytes 10 ck → n ≤ 31
     → Count 7 (λ t. Bytes 15 t × (ta52Call t s v ≡ record { refusal = 0; key = ck; number = n; «failed_checks» = fifthAlone }))
 
--- 6c: "Without the check of the three bits eight texts would open to one entry, and sealing would not give the text back": seven of them
--- are the sealed text of no entry
+-- 6c: "Without the check of the three zero bits eight texts would open to one entry, and sealing would not give the text back." Seven of
+-- the eight are the sealed text of no entry at all
 pub record EightWithout : Type 0 where
   pub eight : (s : List ℕ) (v : Version) (ck : List ℕ) (n : ℕ) → length s ≡ 16 → Bytes 10 ck → n ≤ 31
       → Count 8 (λ t. Bytes 15 t × (ta52WithoutBits t s v ≡ record { refusal = 0; key = ck; number = n; «failed_checks» = 0 }))
   pub not-back : (s : List ℕ) (v : Version) (t : List ℕ) → length s ≡ 16 → Bytes 15 t → ta52Call t s v .«failed_checks» ≡ fifthAlone
       → (ck : List ℕ) (n : KeyNumber) → Bytes 10 ck → n .0 ≤ 31 → ta51Call ck v s n .bytes ≡ t → ⊥
 
--- 7a: "A change of one byte of a text, of the first seven, goes into the right part of BL2's output as it is", whatever the text. Byte i,
--- counted from 0 at the left, has d ⊕ into it
+-- 7a: "A change of one byte, of a text's first seven, goes into the right part of BL2's output as it is." Whether the text opens or not.
+-- The change is byte i ⊕ d; i counts from 0 at the left
 abbrev pub changed : (n i d : ℕ) → List ℕ → List ℕ
 changed n i d xs = table n (λ j. choose (eqb j i) (xs ! j ⊕ d) (xs ! j))
 
 abbrev pub Carried : Type 0
 Carried = (k t : List ℕ) (i d : ℕ) → i < 7 → part 8 7 (opened k (changed 15 i d t)) ≡ changed 7 i d (part 8 7 (opened k t))
 
--- 7b: "So the flag notices each change of one byte whose group stands wholly in the right part": from the second byte to the seventh for
--- kind 1, from the fourth for kinds 2 and 5, from the third for kinds 3, 4 and 6. A d of 0 would be no change
+-- 7b: "The flag notices each change of one byte from the second to the seventh for kind 1, from the fourth for kinds 2 and 5, from the
+-- third for kinds 3, 4 and 6." There the byte's group stands wholly in the right part of BL2's output. A d of 0 would be no change. Of the
+-- other bytes nothing is claimed: 12 has a change of the second byte of kind 3 that the flag does not notice
 abbrev pub noticedFrom : Algorithm → ℕ
 noticedFrom Ta31 = 1
 noticedFrom Ta51 = 3

@@ -22,13 +22,9 @@ use Rattle.standard.specs.declared.KeyNumber.{KeyNumber}
 use Rattle.standard.specs.declared.RingInputs.{RingInputs}
 use Rattle.standard.specs.declared.UnsealedNumbered.{UnsealedNumbered}
 use Rattle.standard.specs.declared.Version.{Version}
-use Rattle.claims.specs.Entries.{upward}
+use Rattle.claims.specs.Entries.{upward, version7}
 
--- 01 02 .. 0a: a key, a seed or a challenge of ten bytes
-abbrev pub tenBytes : List ℕ
-tenBytes = 0x01 ∷ 0x02 ∷ 0x03 ∷ 0x04 ∷ 0x05 ∷ 0x06 ∷ 0x07 ∷ 0x08 ∷ 0x09 ∷ 0x0a ∷ []
-
--- ---- 14a: the zero byte put back at the end, not at byte 8 (right: `with8`)
+-- ---- the zero byte put back at the end, not at byte 8 (right: `with8`)
 
 abbrev pub withZeroAtEnd : List ℕ → List ℕ
 withZeroAtEnd t = part 0 15 t ++ 0 ∷ []
@@ -42,13 +38,15 @@ ta82AtEnd t s v =
     let u : List ℕ = openedAtEnd (form81 .key s (bytesOf 2 (v .0))) t in
     unsealedNumbered (first ((long 15 t && long 16 s, wrongLength) ∷ [])) (part 0 10 (form81 .shrink u)) (number2 (form81 .shrink u)) (failed form81 u)
 
--- a sealed text no longer opens: all three checks of it fail
-pub record ZeroAtEnd : Type 0 where
-  pub right : ta82Call (ta81Call tenBytes (record { 0 = 7 }) (upward 16) (record { 0 = 0x1234 }) .bytes) (upward 16) (record { 0 = 7 })
-      ≡ record { refusal = 0; key = tenBytes; number = 0x1234; «failed_checks» = 0 }
-  pub wrong : ta82AtEnd (ta81Call tenBytes (record { 0 = 7 }) (upward 16) (record { 0 = 0x1234 }) .bytes) (upward 16) (record { 0 = 7 }) .«failed_checks» ≡ 0b111
+-- 14a: "The zero byte can as well be put back at the end." A sealed text would no longer open: here all three checks of it fail
+abbrev pub sealedText : List ℕ
+sealedText = ta81Call (upward 1 10) version7 (upward 0 16) (record { 0 = 0x1234 }) .bytes
 
--- ---- 14b: TA22's challenge reversed, as TA21 reverses its seed (right: `ta22Call`)
+pub record ZeroAtEnd : Type 0 where
+  pub right : ta82Call sealedText (upward 0 16) version7 ≡ record { refusal = 0; key = upward 1 10; number = 0x1234; «failed_checks» = 0 }
+  pub wrong : ta82AtEnd sealedText (upward 0 16) version7 .«failed_checks» ≡ 0b111
+
+-- ---- TA22's challenge reversed, as TA21 reverses its seed (right: `ta22Call`)
 
 abbrev pub reversed : List ℕ → List ℕ
 reversed c = table 10 (λ i. c ! (9 - i))
@@ -56,14 +54,14 @@ reversed c = table 10 (λ i. c ! (9 - i))
 abbrev pub ta22Reversed : List ℕ → List ℕ → ℕ → ℕ → Authentication
 ta22Reversed ks rand rm km = ta12Call ks (reversed rand) rm km
 
--- another response, and another key, so that it is not the standard's TA22
+-- 14b: "TA22's challenge is reversed, as TA21's seed is." It would answer another response and another key than the standard's TA22
 pub record ChallengeReversed : Type 0 where
-  pub right : ta22Call (upward 16) tenBytes 0x000f 0x3ff0
+  pub right : ta22Call (upward 0 16) (upward 1 10) 0x000f 0x3ff0
       ≡ record { refusal = 0; response = 0xc9 ∷ 0x0a ∷ 0x4e ∷ 0xc3 ∷ []; key = 0x3e ∷ 0x42 ∷ 0x46 ∷ 0xfc ∷ 0x16 ∷ 0xfd ∷ 0xdd ∷ 0x29 ∷ 0x1b ∷ 0x0c ∷ [] }
-  pub wrong : ta22Reversed (upward 16) tenBytes 0x000f 0x3ff0
+  pub wrong : ta22Reversed (upward 0 16) (upward 1 10) 0x000f 0x3ff0
       ≡ record { refusal = 0; response = 0xf6 ∷ 0xc8 ∷ 0xb0 ∷ 0x0e ∷ []; key = 0x19 ∷ 0x5c ∷ 0x04 ∷ 0x27 ∷ 0x25 ∷ 0xfe ∷ 0xd7 ∷ 0x12 ∷ 0x60 ∷ 0x17 ∷ [] }
 
--- ---- 14c: kind 2 checked without the three zero bits of the number byte (right: `form51`, which finds them behind the inserted bytes)
+-- ---- kind 2 checked without the three zero bits of the number byte (right: `form51`, which finds them behind the inserted bytes)
 
 abbrev pub formWithoutBits : Form
 formWithoutBits = record {
@@ -82,7 +80,8 @@ ta52WithoutBits t s v =
     (part 0 10 (unseal formWithoutBits s (bytesOf 2 (v .0)) t)) (unseal formWithoutBits s (bytesOf 2 (v .0)) t ! 11)
     (fails formWithoutBits s (bytesOf 2 (v .0)) t)
 
--- under every sealing key and version, a text that is the sealed text of no entry would open. Claim 6c says how many
+-- 14c: "The number byte's three top bits need no check." Under every sealing key of its length, and every version, a text would open that
+-- is the sealed text of no entry; how many, 6c says
 pub record Unchecked (s : List ℕ) (v : Version) (t : List ℕ) : Type 0 where
   pub bytes : Bytes 15 t
   pub right : ta52Call t s v .«failed_checks» ≡ 0 → ⊥
@@ -92,7 +91,7 @@ pub record Unchecked (s : List ℕ) (v : Version) (t : List ℕ) : Type 0 where
 abbrev pub BitsUnchecked : Type 0
 BitsUnchecked = (s : List ℕ) (v : Version) → length s ≡ 16 → (t : List ℕ) × Unchecked s v t
 
--- ---- 14d: EXP2's last byte as a ⊕ (right: `exp2`, whose last byte is the sum)
+-- ---- EXP2's last byte as a ⊕ (right: `exp2`, whose last byte is the sum)
 
 unfoldable pub exp2ByXor : List ℕ → List ℕ
 exp2ByXor b = exp1 b ++ (xorOf 0 2 b ⊕ xorOf 2 2 b ⊕ xorOf 4 2 b ⊕ xorOf 6 2 b ⊕ xorOf 8 2 b) ∷ []
@@ -101,13 +100,14 @@ exp2ByXor b = exp1 b ++ (xorOf 0 2 b ⊕ xorOf 2 2 b ⊕ xorOf 4 2 b ⊕ xorOf 6
 unfoldable pub ta41ByXor : List ℕ → List ℕ → Bytes16
 ta41ByXor root seed = answer16 (first ((long 16 root && long 10 seed, wrongLength) ∷ [])) (bl1 root (exp2ByXor seed))
 
--- on the seed of case b it ends in 0b and not in 1f; so, under every root, TA41 answers otherwise
+-- 14d: "EXP2's last byte is the ⊕ of the five inserted bytes." On the seed 01 02 .. 0a it would be 0b and not 1f, and so TA41 would answer
+-- otherwise under every root
 pub record LastByteXored : Type 0 where
-  pub right : exp2 tenBytes ! 15 ≡ 0x1f
-  pub wrong : exp2ByXor tenBytes ! 15 ≡ 0x0b
-  pub otherwise : (root : List ℕ) → length root ≡ 16 → ta41ByXor root tenBytes ≡ ta41Call root tenBytes → ⊥
+  pub right : exp2 (upward 1 10) ! 15 ≡ 0x1f
+  pub wrong : exp2ByXor (upward 1 10) ! 15 ≡ 0x0b
+  pub otherwise : (root : List ℕ) → length root ≡ 16 → ta41ByXor root (upward 1 10) ≡ ta41Call root (upward 1 10) → ⊥
 
--- ---- 14e: with either of the last two mistakes in the ring recipe demand 3 would still hold, since it holds of every ring
+-- ---- the ring recipe with those two mistakes
 
 -- the recipe with another expansion than EXP2, and TA22's challenge turned somehow (right: `ring`, with `exp2` and as it is)
 unfoldable pub ringWith : (List ℕ → List ℕ) → (List ℕ → List ℕ) → RingInputs → List ℕ
@@ -132,6 +132,8 @@ pub record InputBytes (x : RingInputs) : Type 0 where
 abbrev pub HoldsOf : List ℕ → Type 0
 HoldsOf r = (s out : List ℕ) → ((i : ℕ) → s ! i < 256) → plainSize * (length s / sealedSize) ≤ length out → Demand3 r s out
 
+-- 14e: "With TA22 or EXP2 wrong, a text could open to two entries." Demand 3 would still hold, since it holds of every ring of 52 bytes,
+-- however it was made. The inputs have to consist of bytes, or the ring would not
 pub record StillHolds : Type 0 where
   pub right : (x : RingInputs) → ringWith exp2 (λ c. c) x ≡ ring x
   pub challenge-reversed : (x : RingInputs) → InputBytes x → HoldsOf (ringWith exp2 reversed x)

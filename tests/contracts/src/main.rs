@@ -1,10 +1,13 @@
 //! Reads the crates' sources: each public function has an `ensures` and no
 //! `requires`, one that stays in its crate is `pub(crate)`, what hosts call cites
 //! definitions of `standard` alone, and docs/READING.md has the table of the public
-//! ones and that of what they cite outside `standard`.
+//! ones and that of what they cite outside `standard`. The claims of docs/ARGUMENT.md
+//! are those of the crate `claims`.
 //!
 //!     contracts          checks; the last line: N passed, M failed
 //!     contracts table    prints the tables
+
+mod claims;
 
 use std::fs;
 use std::path::Path;
@@ -23,6 +26,21 @@ struct Function {
 
 fn read(path: &Path) -> String {
     fs::read_to_string(path).unwrap_or_else(|error| panic!("{}: {error}", path.display()))
+}
+
+/// The definitions or proofs in a folder, in the order of their names.
+fn antt_files(folder: &Path) -> Vec<claims::File> {
+    let entries = fs::read_dir(folder).unwrap_or_else(|e| panic!("{}: {e}", folder.display()));
+    let mut files = Vec::new();
+    for entry in entries {
+        let path = entry.expect("an entry of a folder").path();
+        let name = path.file_name().unwrap_or_default().to_string_lossy();
+        if let Some(name) = name.strip_suffix(".antt") {
+            files.push((name.to_string(), read(&path)));
+        }
+    }
+    files.sort();
+    files
 }
 
 /// The word after `before`, up to what cannot stand in a name.
@@ -294,8 +312,17 @@ fn main() -> ExitCode {
     if !right {
         println!("a table in docs/READING.md differs; `contracts table` prints the right ones");
     }
-    let passed = passed + usize::from(right);
-    let failed = failed + odd.len() + usize::from(!right);
+    let folder = root.join("crates/claims");
+    let (claimed, faults) = claims::check(
+        &read(&root.join("docs/ARGUMENT.md")),
+        &antt_files(&folder.join("specs")),
+        &antt_files(&folder.join("proofs")),
+    );
+    for fault in &faults {
+        println!("docs/ARGUMENT.md: {fault}");
+    }
+    let passed = passed + usize::from(right) + claimed;
+    let failed = failed + odd.len() + usize::from(!right) + faults.len();
     println!("{passed} passed, {failed} failed");
     ExitCode::from(u8::from(failed != 0))
 }
