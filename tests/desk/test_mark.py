@@ -371,7 +371,7 @@ class Command(Case):
         lines = done.error.splitlines()
         self.assertEqual(lines[0], f"taa1: {missing}: No such file or directory")
         words = "this looks like text that is no hexadecimal: an odd number of hexadecimal digits, 3"
-        self.assertEqual(lines[1], f"taa1: {odd}: {words}")
+        self.assertEqual(lines[1], f"taa1: {odd}: {words}; --as {odd}=bytes marks it all the same")
         sheets = json.loads(done.out)["sheets"]
         self.assertEqual([sheet["right"] for sheet in sheets], [0, 12, 0])
         self.assertEqual(sheets[0]["problem"], "No such file or directory")
