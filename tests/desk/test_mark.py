@@ -206,6 +206,15 @@ class Slips(unittest.TestCase):
             [("RSO reversed", 6), ("kind 2 for kind 5", 2)],
         )
 
+    def test_one_identity(self) -> None:
+        """A model of one radio's entries: texts show which entry is meant, wherever it stands."""
+        plain = book([entry._replace(identity=0x00A001) for entry in ENTRIES])
+        marker = Marker(DESK, SITTING, plain)
+        slipped = split(seal(SITTING._replace(rso=SITTING.rs), plain), SEALED)
+        sheet = marker.mark("book", b"".join(slipped[1:]))
+        self.assertEqual((sheet.right, sheet.missing), (5, (0,)))
+        self.assertEqual([(s.name, len(s.entries)) for s in sheet.slips], [("RS for RSO", 6)])
+
     def test_the_likelier(self) -> None:
         """RS for RSO leaves D right, and RS and RSO exchanged would not."""
         sheet = MARKER.mark("book", PLANTED["RS for RSO"])

@@ -14,7 +14,7 @@ from .desk import Desk
 from .engine import Sitting
 from .explain import KEY, Found, Part, Table
 from .names import field
-from .records import Ring
+from .records import KINDS, Ring
 from .slips import SLIPS
 from .texts import lines_of
 from .values import DIGITS, without_0x
@@ -95,6 +95,12 @@ def parse(text: str) -> KeyFile:
         if problem:
             problems.append(f"keys, line {number}: {problem}")
     return KeyFile(values, tuple(problems))
+
+
+def own_keys(kind: int, own: Ring, model: Ring) -> str:
+    """Which of a candidate's own keys are not the model's, of those that make an entry."""
+    names = (KINDS[kind].sealing_key, "c")
+    return " and ".join(n.upper() for n in names if getattr(own, n) != getattr(model, n))
 
 
 class KeyMarker:

@@ -10,12 +10,12 @@ from __future__ import annotations
 
 from collections import Counter, defaultdict
 from dataclasses import dataclass
-from typing import NamedTuple, Optional, Sequence, Union
+from typing import Iterable, NamedTuple, Optional, Sequence, Union
 
 from .desk import Desk
 from .engine import Refused, Sitting
 from .explain import IDENTITY, KEY, TEXT, Found, Part, Table, exchanges
-from .keysheet import KeyFile, KeyMarker, KeySheet
+from .keysheet import KeyFile, KeyMarker, KeySheet, own_keys
 from .pairing import Pairs, out_of_order, pair
 from .records import KINDS, PLAIN, SEALED, Entry, Ring, split, whole
 from .scheme import Points
@@ -205,10 +205,7 @@ class Marker:
             refused = error
         moved = out_of_order(pairs.entries)
         slips, borrowed = self._explain(records, pairs.entries, keys)
-        named: dict[int, list[str]] = defaultdict(list)
-        for slip in slips:
-            for index in slip.entries:
-                named[index].append(slip.name)
+        names = named(slips)
         entries = []
         for index, record in enumerate(records):
             model = pairs.entries.get(index)
@@ -224,7 +221,7 @@ class Marker:
                     index in moved,
                     opened,
                     differ,
-                    "; ".join(named[index]) or None,
+                    names.get(index),
                     tuple(borrowed.get(index, {}).items()),
                     record=record,
                     follows=follow.get((model, record), ""),
@@ -250,7 +247,7 @@ class Marker:
             return {}
         own = split(self.desk.call("seal_book", keys.ring.data, self.plain)["out"], SEALED)
         return {
-            (place, record): KINDS[record[0]].sealing_key.upper()
+            (place, record): own_keys(record[0], keys.ring, self.ring)
             for place, (record, right) in enumerate(zip(own, self.model))
             if record != right
         }
@@ -373,6 +370,15 @@ def explained(found: Found, wrong: set[Part], at: dict[int, int]) -> Explained:
         found.slip.step,
         tuple(name for name in KEYS if (KEY, name) in found.parts),
     )
+
+
+def named(slips: Iterable[Explained]) -> dict[int, str]:
+    """The slips of each entry that one explains."""
+    names: dict[int, list[str]] = defaultdict(list)
+    for slip in slips:
+        for index in slip.entries:
+            names[index].append(slip.name)
+    return {index: "; ".join(each) for index, each in names.items()}
 
 
 def differences(has: Union[Opened, Entry], entry: Entry) -> tuple[Difference, ...]:

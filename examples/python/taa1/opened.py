@@ -8,6 +8,7 @@ opens, or if its flag is set and the hand-in says so.
 from __future__ import annotations
 
 from collections import defaultdict
+from dataclasses import replace
 from typing import Any, NamedTuple, Optional
 
 from . import texts
@@ -16,8 +17,18 @@ from .engine import MOST_RECORDS, Refusal, Refused, Sitting
 from .explain import IDENTITY, KEY, TEXT, Found, Part, Table, exchanges
 from .files import Problem, place
 from .forms import BYTES, FORMS, text_of
-from .keysheet import KeyFile, KeyMarker, KeySheet
-from .mark import Difference, Flags, Marked, Sheet, Wanted, differences, explained
+from .keysheet import KeyFile, KeyMarker, KeySheet, own_keys
+from .mark import (
+    Difference,
+    Explained,
+    Flags,
+    Marked,
+    Sheet,
+    Wanted,
+    differences,
+    explained,
+    named,
+)
 from .pairing import pair
 from .records import KINDS, PLAIN, SEALED, Entry, split
 from .sheets import failed_checks
@@ -194,41 +205,29 @@ class OpenedMarker:
         except (Problem, ValueError, SyntaxError) as error:
             return self.unreadable(where, str(error).lstrip(", :"))
         keys = self.keys.mark(file) if file else KeySheet()
-        own = opened(self.steps, keys.ring, self.records) if keys.ring else self.truth
-        wrong: dict[Part, Any] = {}
-        right: list[Part] = []
-        for index, answer in read.answers.items():
-            truth, said = _parts(self.truth[index]), _said(answer)
-            state = _state(self.truth[index], answer)
-            right += [(index, p) for p in said if state == "right" or said[p] == truth[p]]
-            if state == "wrong":
-                wrong.update({(index, p): v for p, v in said.items() if v != truth[p]})
-        flags, entries = self._flags(read), set(wrong)
-        wrong.update({(KEY, name): value for name, value in keys.wrong.items()})
-        right += [(KEY, mark.name) for mark in keys.marks if mark.state == "right"]
-        invented = {part for part, value in wrong.items() if part[1] == FLAG and value}
-        found = self.table.explain(wrong, right, invented)
-        rest = set(wrong).difference(*(each.parts for each in found))
-        others, borrowed = self._exchanged(read.answers, rest & entries)
-        at = {index: index for index in range(len(self.truth))}
-        slips = [explained(each, entries, at) for each in [*found, *others]]
-        under = self.keys.explain(keys, rest)
-        slips += [explained(each, entries, at)._replace(own=True) for each in under]
-        named: dict[int, list[str]] = defaultdict(list)
-        for slip in slips:
-            for index in slip.entries:
-                named[index].append(slip.name)
+        slips, borrowed = self._explain(read.answers, keys)
+        names, follow = named(slips), self._following(read.answers, keys)
+        flags = self._flags(read)
         return Sheet(
             where,
             None,
             None,
             len(self.truth),
             tuple(
-                self._marked(index, answer, own[index], named[index], borrowed.get(index, {}))
+                replace(
+                    self._marked(index, answer),
+                    slip=names.get(index),
+                    borrowed=tuple(borrowed.get(index, {}).items()),
+                    follows=follow.get(index, ""),
+                )
                 for index, answer in sorted(read.answers.items())
             ),
-            tuple(i for i in at if i not in read.answers and i not in flags.unsaid),
-            slips=tuple(slips),
+            tuple(
+                index
+                for index in range(len(self.truth))
+                if index not in read.answers and index not in flags.unsaid
+            ),
+            slips=slips,
             keys=keys,
             kinds=tuple(opened.kind for opened in self.truth),
             read_as=read.how,
@@ -236,6 +235,46 @@ class OpenedMarker:
             problems=read.problems,
             flags=flags,
         )
+
+    def _explain(
+        self, answers: dict[int, Answer], keys: KeySheet
+    ) -> tuple[tuple[Explained, ...], dict[int, dict[str, int]]]:
+        """The slips that give what is wrong; and for each entry the fields that are another
+        one's, and whose."""
+        wrong: dict[Part, Any] = {}
+        right: list[Part] = []
+        for index, answer in answers.items():
+            truth, said = _parts(self.truth[index]), _said(answer)
+            state = _state(self.truth[index], answer)
+            right += [(index, p) for p in said if state == "right" or said[p] == truth[p]]
+            if state == "wrong":
+                wrong.update({(index, p): v for p, v in said.items() if v != truth[p]})
+        entries = set(wrong)
+        wrong.update({(KEY, name): value for name, value in keys.wrong.items()})
+        right += [(KEY, mark.name) for mark in keys.marks if mark.state == "right"]
+        invented = {part for part, value in wrong.items() if part[1] == FLAG and value}
+        found = self.table.explain(wrong, right, invented)
+        rest = set(wrong).difference(*(each.parts for each in found))
+        others, borrowed = self._exchanged(answers, rest & entries)
+        at = {index: index for index in answers}
+        slips = [explained(each, entries, at) for each in [*found, *others]]
+        under = self.keys.explain(keys, rest)
+        slips += [explained(each, entries, at)._replace(own=True) for each in under]
+        return tuple(slips), borrowed
+
+    def _following(self, answers: dict[int, Answer], keys: KeySheet) -> dict[int, str]:
+        """The wrong entries that are right under the candidate's own keys, and which."""
+        if keys.ring is None:
+            return {}
+        model = ring_of(self.keys.model)
+        own = opened(self.steps, keys.ring, self.records)
+        return {
+            index: own_keys(self.truth[index].kind, keys.ring, model)
+            for index, answer in answers.items()
+            if own[index] != self.truth[index]
+            and _state(self.truth[index], answer) == "wrong"
+            and _state(own[index], answer) == "right"
+        }
 
     def _exchanged(
         self, answers: dict[int, Answer], rest: set[Part]
@@ -276,34 +315,22 @@ class OpenedMarker:
             tuple(index for index in truth if read.in_bytes),
         )
 
-    def _marked(
-        self, index: int, answer: Answer, own: Opened, slips: list[str], borrowed: dict[str, int]
-    ) -> Marked:
+    def _marked(self, index: int, answer: Answer) -> Marked:
+        """What is right or wrong with an entry."""
         truth, state = self.truth[index], _state(self.truth[index], answer)
-        follows = state == "wrong" and own != truth and _state(own, answer) == "right"
         note, differ = "", ()  # type: tuple[str, tuple[Difference, ...]]
-        if answer.problem and state == "wrong":
-            note = answer.problem
-        elif truth.failed and state == "wrong":
-            checks = failed_checks(truth.kind, _bits(truth.failed))
-            note = f"flag missed: {checks}"
-        elif state == "unsaid":
+        if state == "unsaid":
             note = "the flag is set, which bytes can't say"
-        elif answer.flag and state == "wrong":
+        elif state == "wrong" and answer.problem:
+            note = answer.problem
+        elif state == "wrong" and truth.failed:
+            note = f"flag missed: {failed_checks(truth.kind, _bits(truth.failed))}"
+        elif state == "wrong" and answer.flag:
             note = "flag invented"
-        elif answer.entry and state == "wrong":
+        elif state == "wrong" and answer.entry:
             differ = differences(answer.entry, _entry(truth))
-        return Marked(
-            index,
-            state,
-            index,
-            differences=differ,
-            slip="; ".join(slips) or None,
-            borrowed=tuple(borrowed.items()),
-            note=note,
-            record=answer.entry.data if answer.entry else b"",
-            follows=KINDS[truth.kind].sealing_key.upper() if follows else "",
-        )
+        record = answer.entry.data if answer.entry else b""
+        return Marked(index, state, index, differences=differ, note=note, record=record)
 
 
 def _state(truth: Opened, answer: Answer) -> str:

@@ -24,7 +24,8 @@ def pair(
     alike: Callable[[bytes, int], int],
 ) -> Pairs:
     """Pairs records with the model's, whose places are known: equal ones, then those with
-    signs of an entry, by their weight, then those that are alike, then in order.
+    signs of an entry, by their weight and in its own place first, then those that are
+    alike, then in order.
 
     `attempt` has the entries that a record says it is. If all of those are taken, it is
     a further attempt.
@@ -50,7 +51,7 @@ def pair(
                 again[index] = places[record][0]
     seen = {index: signs(records[index]) for index in others}
     for index in others:
-        if seen[index].get(index):
+        if seen[index] and seen[index].get(index) == max(seen[index].values()):
             take(index, index)
     weighed = [
         (-weight, abs(index - place), index, place)
