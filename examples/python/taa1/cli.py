@@ -18,6 +18,7 @@ from urllib.parse import quote
 
 from . import __version__, candidates, draw, files, handins, keysheet, names, pages, paper
 from . import scheme, texts
+from .argue import argument_sheet
 from .calls import CALLS, Call, Parameter
 from .classpage import class_page
 from .damage import Damage, damaged
@@ -468,6 +469,25 @@ def run_paper(args: argparse.Namespace) -> int:
     return ACCEPTED
 
 
+def run_argue(args: argparse.Namespace) -> int:
+    """The marking aid for the argument: claims, true and false, with instances."""
+    _once(args.sitting, args.book)
+    if args.html is not None and args.output != STANDARD:
+        raise Problem("argue: --html writes the page into its file: no -o")
+    desk = Desk()
+    sitting, heading = texts.read_headed(args.sitting)
+    plain = texts.read_plain(desk, args.book, args.bytes)
+    texts.make_ring(desk, sitting, place(args.sitting))
+    if not plain:
+        raise Problem(f"{place(args.book)}: no entry in it, so there is no instance of a claim")
+    sheet = argument_sheet(desk, sitting, heading, plain)
+    if args.html is not None:
+        files.write_file(args.html, as_page(sheet).encode(), private=True)
+    else:
+        files.write(args.output, as_text(sheet).encode(), private=True)
+    return ACCEPTED
+
+
 def run_mark(args: argparse.Namespace) -> int:
     """The mark sheets of candidates' books."""
     if args.clean and args.html is None:
@@ -778,8 +798,9 @@ def parser() -> Parser:
 
     model = command("model", run_model)
     papers = command("paper", run_paper)
+    arguing = command("argue", run_argue)
     mark = command("mark", run_mark, private=False)
-    for each_ in (model, papers, mark):
+    for each_ in (model, papers, arguing, mark):
         each_.add_argument("sitting", metavar="SITTING", help="names, bytes or hexadecimal")
         each_.add_argument("book", metavar="BOOK", help="a plain book: lines, bytes or hexadecimal")
     model.add_argument("--html", action="store_true", help="write a page of HTML")
@@ -789,6 +810,8 @@ def parser() -> Parser:
         "--html", metavar="FOLDER", help="write paper.html, form.html and solution.html"
     )
     _common(papers, bytes="")
+    arguing.add_argument("--html", metavar="FILE", help="write a page of HTML")
+    _common(arguing, bytes="")
     mark.add_argument(
         "candidate", nargs="+", metavar="CANDIDATE", help="a sealed book, or a folder of such"
     )

@@ -3,12 +3,14 @@
 from __future__ import annotations
 
 import textwrap
+from itertools import zip_longest
 from typing import Any, Iterable, NamedTuple, Sequence, Union
 
 from . import page
 from .page import Row, grouped, tag, text
 
 WIDTH = 96  # of a text's lines
+CELL = 72  # of a cell's words in it
 
 
 class Head(NamedTuple):
@@ -79,37 +81,42 @@ class Document(NamedTuple):
 # ---- as text
 
 
-def _shown(value: Any) -> str:
-    """A cell's text."""
+def _shown(value: Any) -> list[str]:
+    """A cell's lines."""
     if isinstance(value, Boxes):
-        return " ".join(["[ ]" if value.tick else "__"] * value.number)
+        return [" ".join(["[ ]" if value.tick else "__"] * value.number)]
     if isinstance(value, (bytes, tuple)):
-        return grouped(value)
-    return "-" if value is None else str(value)
+        return [grouped(value)]
+    said = "-" if value is None else str(value)
+    return textwrap.wrap(said, CELL, break_on_hyphens=False) or [""]
 
 
 def columns(rows: Iterable[Any], heads: Sequence[str] = ()) -> list[str]:
     """Rows in columns, numbers to the right."""
     cells = [row.cells if isinstance(row, Row) else row for row in rows]
-    right = page.numbers(cells, len(heads or cells[0])) if cells else []
-    shown = [list(heads)] * bool(heads) + [[_shown(value) for value in row] for row in cells]
-    wide = [max(map(len, column)) for column in zip(*shown)]
-    lines = []
+    right = page.numbers(cells, len(heads or cells[0])) if cells else [False] * len(heads)
+    shown = [[[head] for head in heads]] * bool(heads)
+    shown += [[_shown(value) for value in row] for row in cells]
+    wide = [max(len(line) for lines in column for line in lines) for column in zip(*shown)]
+    made = []
     for row in shown:
-        padded = (
-            cell.rjust(width) if number else cell.ljust(width)
-            for cell, width, number in zip(row, wide, right or [False] * len(row))
-        )
-        lines.append("  ".join(padded).rstrip())
-    return lines
+        for parts in zip_longest(*row, fillvalue=""):
+            padded = (
+                part.rjust(width) if number else part.ljust(width)
+                for part, width, number in zip(parts, wide, right)
+            )
+            made.append("  ".join(padded).rstrip())
+    return made
 
 
 def _lines(block: Block) -> list[str]:
     """A block's lines, and a blank one behind it."""
     if isinstance(block, Head):
-        return [block.words, "-" * len(block.words), ""] if block.level < 3 else [block.words]
+        if block.level == 3:
+            return textwrap.wrap(block.words, WIDTH, break_on_hyphens=False)
+        return [block.words, "-" * len(block.words), ""]
     if isinstance(block, Words):
-        return [*textwrap.wrap(block.words, WIDTH), ""]
+        return [*textwrap.wrap(block.words, WIDTH, break_on_hyphens=False), ""]
     if isinstance(block, Pairs):
         return [*(f"  {line}" for line in columns(block.rows)), ""]
     if isinstance(block, Table):

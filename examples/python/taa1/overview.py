@@ -11,6 +11,7 @@ EXAMPLES: dict[str, str] = {
     "model": "taa1 model sitting.txt model.txt",
     "paper": "taa1 paper sitting.txt model.txt --html paper",
     "seal": "taa1 seal sitting.txt model.txt -o sealed.book",
+    "argue": "taa1 argue sitting.txt model.txt --html argue.html",
     "mark": "taa1 mark sitting.txt model.txt class --html pages",
     "scheme": "taa1 scheme -o scheme.txt",
     "slips": "taa1 slips",
