@@ -112,6 +112,13 @@ class Lines(unittest.TestCase):
         self.assertEqual((sheet.right, sheet.missing), (11, (4,)))
         self.assertIn("  line 5: no number behind entry\n", sheet_text(sheet))
 
+    def test_other_lines(self) -> None:
+        """A heading, a count and comments are no answers."""
+        sheet = mark("Candidate 17", "# mine", *TRUE, "entries 12", "the end")
+        self.assertEqual((sheet.right, sheet.extra), (12, 0))
+        lines = [f"line {n}: it is about no entry, and is not read" for n in (1, 16)]
+        self.assertEqual(sheet.problems, tuple(lines))
+
     def test_no_index(self) -> None:
         """A line without entry I is about the next entry."""
         lines = [line.partition(" kind ")[2] for line in TRUE]

@@ -13,12 +13,13 @@ from typing import Collection, Mapping, NamedTuple, Optional
 from .desk import Desk
 from .engine import Sitting
 from .explain import KEY, Found, Part, Table
+from .model import sides_of
 from .names import field
 from .records import KINDS, Ring
 from .slips import SLIPS
 from .texts import lines_of
 from .values import DIGITS, without_0x
-from .working import KEYS, Steps, ring_of
+from .working import KEYS, Keys, Steps, ring_of
 
 LENGTHS = dict(zip(KEYS, (16, 16, 4, 10, 4, 10, 10, 16, 10, 16)))
 # What a value is worked from; of each list, the first one that is handed in.
@@ -107,10 +108,14 @@ class KeyMarker:
     """Marks keys beside one sitting's."""
 
     def __init__(self, desk: Desk, sitting: Sitting) -> None:
-        """Works the model's keys."""
+        """Has the engine's calls make the model's keys."""
         self.desk, self.sitting = desk, sitting
         self.steps = Steps(desk)
-        self.model = self.steps.keys(sitting)
+        one, two = sides_of(desk, sitting)
+        ring = Ring.of(desk.call("ring", *sitting)["ring"])
+        halves = [side[name] for side in (one, two) for name in ("response", "key")]
+        values = (one["session_key"], two["session_key"], *halves, *ring)
+        self.model: Keys = dict(zip(KEYS, values))
 
     def mark(self, file: KeyFile) -> KeySheet:
         """The marks of a candidate's values."""

@@ -30,7 +30,7 @@ from .mark import (
     named,
 )
 from .pairing import pair
-from .records import KINDS, PLAIN, SEALED, Entry, split
+from .records import KINDS, PLAIN, SEALED, Entry, Ring, split, whole
 from .sheets import failed_checks
 from .slips import EXCHANGED, opened, work_opened
 from .working import Opened, Steps, ring_of
@@ -70,7 +70,8 @@ class OpenedMarker:
         self._check(records, where)
         self.records, self.steps = records, Steps(desk)
         self.keys = KeyMarker(desk, sitting)
-        self.truth = opened(self.steps, ring_of(self.keys.model), records)
+        ring = ring_of(self.keys.model)
+        self.truth = [_unsealed(desk, ring, record) for record in records]
         self.table = Table()
         for worked in work_opened(desk, sitting, records):
             altered = {
@@ -85,7 +86,7 @@ class OpenedMarker:
     def _check(self, records: list[bytes], where: str) -> None:
         bad = next((i for i, record in enumerate(records) if record[0] not in KINDS), 0)
         for number, refused in (
-            (Refusal.BOOK_TOO_LONG, len(records) > MOST_RECORDS),
+            (Refusal.BOOK_TOO_LONG, len(self.sealed) > MOST_RECORDS * SEALED),
             (Refusal.BOOK_NOT_WHOLE, len(self.sealed) % SEALED),
             (Refusal.WRONG_KIND, records and records[bad][0] not in KINDS),
         ):
@@ -103,7 +104,7 @@ class OpenedMarker:
         text, code = text_of(data) or (None, "")
         if form == BYTES or text is None:
             return self._plain(data, "")
-        if not form and texts.is_lines(text.lower()):
+        if not form and any(is_answer(line) for _, line in texts.lines_of(text)):
             return self._lines(text, f"lines{code}")
         if form:
             return self._plain(FORMS[form].read(text), FORMS[form].what)
@@ -161,14 +162,16 @@ class OpenedMarker:
         extra, last = 0, -1
         for number, line in texts.lines_of(text):
             words = line.lower().replace(":", " ").replace(",", " ").split()
-            if words[0] == "entries":
-                continue
             index = last + 1
-            if words[0] == "entry":
-                if not (words[1:] and words[1].isdecimal() and len(words[1]) < 10):
-                    problems.append(f"line {number}: no number behind entry")
-                    continue
+            if words[0] == "entry" and words[1:] and words[1].isdecimal() and len(words[1]) < 10:
                 index, words = int(words[1]), words[2:]
+            elif words[0] == "entry":
+                problems.append(f"line {number}: no number behind entry")
+                continue
+            elif not is_answer(line):
+                if words[0] != "entries":
+                    problems.append(f"line {number}: it is about no entry, and is not read")
+                continue
             last = index
             if index in answers:
                 extra += 1
@@ -331,6 +334,22 @@ class OpenedMarker:
             differ = differences(answer.entry, _entry(truth))
         record = answer.entry.data if answer.entry else b""
         return Marked(index, state, index, differences=differ, note=note, record=record)
+
+
+def _unsealed(desk: Desk, ring: Ring, record: bytes) -> Opened:
+    """What a record opens to, by the engine's own calls."""
+    kind, version = KINDS[record[0]], whole(record[4:6])
+    identity = desk.call("ta61_inverse", ring.c, whole(record[1:4]))["identity"]
+    text = desk.call(kind.unseal, record[6:], getattr(ring, kind.sealing_key), version)
+    return Opened(
+        record[0], identity, version, text["key"], text.get("number"), text["failed_checks"]
+    )
+
+
+def is_answer(line: str) -> bool:
+    """Whether a line is about an entry."""
+    words = line.lower().split()
+    return words[0] == "entry" or FLAG in words or words[0] != "entries" and texts.is_lines(line)
 
 
 def _state(truth: Opened, answer: Answer) -> str:
