@@ -2,11 +2,12 @@
 
 from __future__ import annotations
 
+import re
 import stat
 from typing import Any
 from unittest import mock
 
-from common import CLASS, DESK, ENTRIES, PLAIN_BOOK, RING, SITTING, Case, here, seal, taa1
+from common import CLASS, DESK, ENTRIES, PLAIN_BOOK, RING, ROOT, SITTING, Case, here, seal, taa1
 from taa1.argue import argument_sheet
 from taa1.claims import CLAIMS
 from taa1.document import as_page, as_text
@@ -34,6 +35,16 @@ def values(instance: Instance) -> dict[str, Any]:
 
 class Claims(Case):
     """The table of claims."""
+
+    def test_table(self) -> None:
+        """The claims are those of docs/ARGUMENT.md, word for word."""
+        text = (ROOT / "docs" / "ARGUMENT.md").read_text()
+        lines = [line for line in text.splitlines() if re.match(r"\| \d+[a-z]? \|", line)]
+        rows = [[cell.strip(" `") for cell in line.split("|")[1:-1]] for line in lines]
+        have = [
+            [c.label, c.sentence, c.verdict, c.proved, c.why, c.statement, c.theorem] for c in CLAIMS
+        ]
+        self.assertEqual(have, rows)
 
     def test_instances(self) -> None:
         """Every claim has an instance, and every instance a claim."""
