@@ -57,6 +57,8 @@ class Class(Case):
         opens = [row["opens"] for row in rows]
         self.assertEqual(opens, ["yes", "yes", "no", "yes", "yes", "yes", "no", "", "no"])
         self.assertIn("0 of 1 records begin with a kind", rows[7]["problem"])
+        points = [(row["points"], row["of points"]) for row in rows]
+        self.assertEqual(points[3:5] + points[7:], [("9", "12"), ("11", "12"), ("", ""), ("7", "12")])
 
     def test_formulas(self) -> None:
         """What a spreadsheet would work out has an apostrophe in front; commas are quoted."""
@@ -80,6 +82,7 @@ class Class(Case):
             {2: (2, 0, 0), 4: (0, 2, 0), 0: (0, 0, 1), 1: (0, 0, 1), 3: (0, 0, 1), 7: (0, 0, 1),
              9: (0, 0, 1), 10: (0, 0, 1), 11: (0, 0, 1)},
         )  # fmt: skip
+        self.assertEqual(said["class"]["points"], {"mean": "83/8", "median": "11"})
         self.fails(2, "mark: --csv or --json, not both", "mark", *INPUTS, *self.books, "--csv", "--json")
 
     def test_bars(self) -> None:

@@ -98,7 +98,8 @@ class Pages(Case):
         self.assertEqual(names, [*(f"{name}.book.html" for name in CANDIDATES), "index.html"])
         index = Page(pages / "index.html")
         self.assertEqual(index.links, names[:-1])
-        self.assertIn("6 candidates: 1 all right, 3 do not open, 0 not marked.", index.texts)
+        words = "6 candidates: 1 all right, 3 do not open, 0 not marked. Points: mean 11.25, median 10.5"
+        self.assertIn(f"{words} of 12 to 24.", index.texts)
         for word in ("RS for RSO", "kind 2 for kind 5", "kind 1, CCK under D (DCK): redundancy byte 0"):
             self.assertIn(word, index.texts)
         for name in names[:-1]:
@@ -121,8 +122,8 @@ class Pages(Case):
                 "fay · Key management, 3 December",
                 "Key management, 3 December",
                 "fay",
-                "10 of 12 entries right, 2 wrong. One slip explains 1 of the 2 wrong entries: bytes of the "
-                "version exchanged.",
+                "10 of 12 points. 10 of 12 entries right, 2 wrong. One slip explains 1 of the 2 wrong "
+                "entries: bytes of the version exchanged.",
             ],
         )
         for words in (
@@ -140,6 +141,15 @@ class Pages(Case):
         self.assertEqual(said[said.index(last) :][:2], [last, f"{has[5 * SEALED - 1]:02x}"])
         self.assertEqual(page.marked["b"][-1], f"{has[5 * SEALED - 1]:02x}")
         self.assertEqual(page.marked["u"][-1], f"{wanted[4][-1]:02x}")
+
+    def test_keys(self) -> None:
+        """The keys that were handed in, wrong ones over those that are wanted, and the points."""
+        page = Page(self.mark(CLASS / "ben.book") / "ben.book.html")
+        for words in ("D (DCK)", "wrong, but right under the candidate's own key 1 and key 2",
+                      "entries right under own keys", "sum, of 24"):  # fmt: skip
+            self.assertIn(words, page.texts)
+        self.assertEqual(page.texts[page.texts.index("sum, of 24") + 1], "18 1/2")
+        self.assertEqual((page.marked["b"][0], page.marked["u"][0]), ("9742 399d", "3eaf 8e4f"))
 
     def test_opened(self) -> None:
         """A page of what was opened has the plain fields."""

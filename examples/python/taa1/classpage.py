@@ -7,11 +7,11 @@ from typing import Iterable, Sequence
 
 from .mark import Sheet, Wanted
 from .names import sealing
-from .page import Html, page, table, tag, text
+from .page import Html, Number, page, table, tag, text
 from .pages import RESULT, at_step
-from .pictures import STYLE, Part, bar, fillings, legend
+from .pictures import STYLE, Part, bar, decimal, fillings, histogram, legend
 from .records import KINDS
-from .results import COUNTED, FAILS, MISSING, WRONG, counts, wrong_by_entry
+from .results import COUNTED, FAILS, MISSING, WRONG, average, counts, wrong_by_entry
 from .scheme import said as points_said
 from .sheets import Summary, class_numbers, opening, reason, spans
 
@@ -36,9 +36,11 @@ def _candidates(sheets: Sequence[Sheet], links: Sequence[str]) -> Html:
         said = f"not marked: {reason(sheet)}" if sheet.problem else opening(sheet, brief=True)
         slips = "; ".join(slip.name for slip in sheet.slips)
         name = text("a", sheet.candidate, href=link)
-        points = points_said(sheet.points.sum) if sheet.points else None
-        rows.append((name, picture, None if sheet.problem else of.right, points, said, slips))
-    heads = ("candidate", "entries", "right", "points", "book", "slips")
+        right = None if sheet.problem else of.right
+        points = (sheet.points.sum, sheet.points.most) if sheet.points else (None, None)
+        marked = (Number(points_said(each)) if each is not None else None for each in points)
+        rows.append((name, picture, right, *marked, said, slips))
+    heads = ("candidate", "entries", "right", "points", "of", "book", "slips")
     return table(heads, rows, "pictured")
 
 
@@ -93,6 +95,14 @@ def class_page(
     numbers = f"{of.candidates} candidates: {class_numbers(of)}."
     if absent:
         numbers += f" Nothing was handed in by {', '.join(absent)}."
+    points = average(sheets)
+    pictured: list[str] = []
+    if points:
+        means = {"mean": points.mean, "median": points.median}
+        said = ", ".join(f"{name} {decimal(value)}" for name, value in means.items())
+        numbers += f" Points: {said} of {' to '.join(map(decimal, points.most))}."
+        histogram_ = histogram(points.values, points.most[-1], means)
+        pictured = [tag("section", tag("h2", "Points, and how many candidates have them") + histogram_)]
     checks = [(_check(kind, check), count, "") for kind, check, count in of.checks]
     most = max((count for _, _, count in of.checks), default=1)
     steps = {slip.name: at_step(slip) for sheet in sheets for slip in sheet.slips}
@@ -104,6 +114,7 @@ def class_page(
         tag("h2", "Candidates"),
         legend(COUNTED),
         _candidates(sheets, links),
+        *pictured,
         tag("h2", "Entries, by how many candidates got them wrong"),
         legend((WRONG, FAILS, MISSING)),
         *_entries(sheets, wanted),

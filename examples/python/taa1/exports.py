@@ -11,7 +11,7 @@ import io
 from typing import Any, Iterable, Sequence
 
 from .mark import Sheet
-from .results import COUNTED, counts, wrong_by_entry
+from .results import COUNTED, average, counts, wrong_by_entry
 from .scheme import written
 from .sheets import Summary, sheet_json
 from .texts import Heading
@@ -19,7 +19,7 @@ from .texts import Heading
 FORM, VERSION = "taa1 mark", 1
 
 HEADS = (
-    "candidate", "file", "entries", *COUNTED, "points", "opens", "slips", "read as", "problem",
+    "candidate", "file", "entries", *COUNTED, "points", "of points", "opens", "slips", "read as", "problem",
 )  # fmt: skip
 FORMULA = ("=", "+", "-", "@", "\t", "\r")  # what begins a formula in a spreadsheet
 
@@ -33,8 +33,8 @@ def _row(sheet: Sheet) -> Iterable[Any]:
     opens = "" if sheet.problem else "no" if sheet.refused else "yes"
     slips = "; ".join(slip.name for slip in sheet.slips)
     read_as = "" if sheet.problem else sheet.read_as or "bytes"
-    points = written(sheet.points.sum) if sheet.points else ""
-    start = (sheet.candidate, sheet.name, sheet.size, *counts(sheet), points)
+    points = map(written, (sheet.points.sum, sheet.points.most)) if sheet.points else ("", "")
+    start = (sheet.candidate, sheet.name, sheet.size, *counts(sheet), *points)
     return map(_cell, (*start, opens, slips, read_as, sheet.problem or ""))
 
 
@@ -42,7 +42,7 @@ def class_json(
     sheets: Sequence[Sheet], of: Summary, heading: Heading, absent: Sequence[str]
 ) -> dict[str, Any]:
     """The class for programs."""
-    wrong = wrong_by_entry(sheets)
+    wrong, points = wrong_by_entry(sheets), average(sheets)
     entries = sorted({entry for counted in wrong.values() for entry in counted})
     return {
         "form": FORM,
@@ -51,6 +51,7 @@ def class_json(
         "class": {
             **of._asdict(),
             "absent": list(absent),
+            "points": points and {"mean": str(points.mean), "median": str(points.median)},
             "slips": [{"slip": name, "candidates": count} for name, count in of.slips],
             "checks": [
                 {"kind": kind, "check": check, "entries": count} for kind, check, count in of.checks

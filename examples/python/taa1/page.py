@@ -79,6 +79,10 @@ class Code(str):
     """Text with bytes in it, in their font."""
 
 
+class Number(str):
+    """A number in words, such as 13 1/2."""
+
+
 class Row(NamedTuple):
     """A row of a table, and its class."""
 
@@ -125,8 +129,8 @@ def _cell(value: Any, head: str, number: bool) -> Html:
 def numbers(rows: Sequence[Sequence[Any]], count: int) -> list[bool]:
     """Which of so many columns have numbers, and nothing else."""
     return [
-        any(isinstance(row[at], int) for row in rows)
-        and all(row[at] is None or isinstance(row[at], int) for row in rows)
+        any(isinstance(row[at], (int, Number)) for row in rows)
+        and all(row[at] is None or isinstance(row[at], (int, Number)) for row in rows)
         for at in range(count)
     ]
 

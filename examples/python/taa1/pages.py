@@ -3,15 +3,18 @@
 from __future__ import annotations
 
 import os
-from typing import Any, NamedTuple, Sequence
+from typing import Any, Iterable, NamedTuple, Sequence
 
+from .keysheet import KeySheet
 from .mark import Explained, Marked, Sheet, Wanted
 from .model import entry_title, entry_values, sitting_values
 from .names import IN_SITTING, KIND_NAMES, both, sealing
-from .page import Html, Row, fields, page, pairs, table, tag, text
+from .page import Html, Number, Row, fields, page, pairs, table, tag, text
 from .records import KINDS, Entry, whole
-from .results import result
-from .sheets import explains, fault, keys_said, opening, others, sum_said, too_many, was_read
+from .results import key_result, result
+from .scheme import Points
+from .scheme import said as points_said
+from .sheets import explains, fault, opening, others, too_many, was_read
 
 RESULT = """
 .result { font-size: 1.15em; margin: 0 0 .8em; }
@@ -24,13 +27,19 @@ STYLE = RESULT + """
 .beside th, .beside td { padding-right: 1.4em; white-space: nowrap; }
 .beside th { font-weight: normal; }
 .beside td:first-child { width: 6em; }
-.beside b { outline: 1px solid #000; outline-offset: 1px; }
-.beside u { font-weight: bold; text-decoration-thickness: 2px; text-underline-offset: 2px; }
+td b { outline: 1px solid #000; outline-offset: 1px; }
+td u { font-weight: bold; text-decoration-thickness: 2px; text-underline-offset: 2px; }
+td i { display: inline-block; font-style: normal; width: 5.5em; }
+.points, .points .number { width: auto; }
+.keys td { padding-right: 1.2em; }
+.points tr:last-child td { font-weight: bold; }
 section h3 { margin: 1em 0 .2em; }
 section p { margin: 0 0 .2em; }
 .sign { break-inside: avoid; margin-top: 2em; }
 @media print { .link { display: none; } }
 @media screen and (max-width: 40em) {
+  td i { display: block; }
+  .keys td:nth-child(2)::before { content: none; }
   .entries td, .entries td.number { display: inline; padding-right: .5em; }
   .entries td:nth-last-child(-n+2)::before { content: none; }
   .beside { display: flex; flex-direction: column; width: 100%; }
@@ -191,6 +200,29 @@ def at_step(slip: Explained) -> str:
     return f"{step} ({'clause' if '.' in clause else 'document'} {clause})" if clause else step
 
 
+def _points(points: Points) -> Html:
+    """What gave or cost points, and their sum."""
+    rows = [(item.what, Number(points_said(item.points))) for item in points.items]
+    rows.append((f"sum, of {points_said(points.most)}", Number(points_said(points.sum))))
+    return table(("for", "points"), rows, "points")
+
+
+def _keys(keys: KeySheet) -> Iterable[Html]:
+    """The values that were handed in, wrong ones over those that are wanted."""
+    yield from (text("p", line) for line in keys.problems)
+    rows = []
+    for mark in keys.marks:
+        value: Any = mark.has
+        if mark.wants is not None and mark.has != mark.wants:
+            lines = ((HANDED_IN, differing(mark.has, mark.wants, "b")),
+                     (WANTED, differing(mark.wants, mark.has, "u")))  # fmt: skip
+            value = Html("".join(
+                tag("div", text("i", name) + tag("span", said, class_="hex")) for name, said in lines
+            ))
+        rows.append((both(mark.name), value, key_result(mark)))
+    yield table(("value", "bytes", "result"), rows, "keys")
+
+
 def _entry_section(entry: Marked, wanted: Wanted, slips: Sequence[Explained]) -> Html:
     """What is wrong with an entry."""
     kind = None if entry.model is None else wanted.plain[entry.model].kind
@@ -227,12 +259,14 @@ def sheet_page(sheet: Sheet, wanted: Wanted, heading: str, class_page: str) -> s
     facts = [("hand-in", file if sheet.problem else f"{file}, {was_read(sheet)}")]
     facts += [] if sheet.problem else [("flags" if sheet.flags else "book", opening(sheet))]
     facts += [("", line) for line in too_many(sheet) + others(sheet)]
-    facts += [("" if at else "keys", line) for at, line in enumerate(keys_said(sheet.keys))]
-    facts += [("points", sum_said(sheet.points).removeprefix("points "))] if sheet.points else []
     wrong = [entry for entry in sheet.entries if entry.state not in ("right", "doubled")]
     parts = [text("p", result(sheet), class_="result"), pairs(facts)]
     if sheet.slips:
         parts += [tag("h2", "What went wrong, and at which step"), _slips(sheet)]
+    if sheet.points and len(sheet.points.items) > 1:
+        parts += [tag("h2", "Points"), _points(sheet.points)]
+    if sheet.keys.marks or sheet.keys.problems:
+        parts += [tag("h2", "Keys of the first two generations"), *_keys(sheet.keys)]
     if sheet.entries:
         parts += [tag("h2", "Entry by entry"), _entries(sheet, wanted)]
     if wrong:

@@ -3,10 +3,15 @@
 from __future__ import annotations
 
 from collections import Counter
-from typing import Iterable, NamedTuple
+from fractions import Fraction
+from statistics import mean, median
+from typing import Iterable, NamedTuple, Optional
 
+from .keysheet import KeyMark
 from .mark import Marked, Sheet
-from .sheets import reason
+from .names import both
+from .scheme import Points, said
+from .sheets import listed, reason
 
 WORDS = {1: "One", 2: "Two", 3: "Three", 4: "Four", 5: "Five"}
 
@@ -64,15 +69,54 @@ def result(sheet: Sheet) -> str:
         return f"Not marked: {reason(sheet)}."
     of = counts(sheet)
     wrong = of.wrong + of.failing
-    said = [f"{of.right} of {sheet.size} entries right"]
+    parts = [f"{of.right} of {sheet.size} entries right"]
     if of.right == sheet.size:
-        said = [f"All {sheet.size} entries right" if sheet.size > 1 else "The entry is right"]
+        parts = [f"All {sheet.size} entries right" if sheet.size > 1 else "The entry is right"]
     for count, what in (
         (wrong, "wrong"), (of.missing, "missing"), (of.unmarked, "not marked"), (of.extra, "extra")
     ):  # fmt: skip
-        said += [f"{count} {what}"] if count else []
+        parts += [f"{count} {what}"] if count else []
     own = f"; {sheet.following} of the wrong are right under own keys" if sheet.following else ""
-    return f"{', '.join(said)}{own}.{_explained(sheet, wrong)}"
+    points = f"{sum_of(sheet.points)}. " if sheet.points else ""
+    return f"{points}{', '.join(parts)}{own}.{_explained(sheet, wrong)}"
+
+
+def sum_of(points: Points) -> str:
+    """A sum of points, and of how many."""
+    return f"{said(points.sum)} of {said(points.most)} points"
+
+
+def key_result(mark: KeyMark) -> str:
+    """What a key that was handed in is."""
+    if mark.state == "follows":
+        return f"wrong, but right under the candidate's own {listed(mark.under)}"
+    if mark.state == "idle" or mark.wants is None:
+        return "not asked for: this side does not run"
+    if mark.state == "right":
+        return "right"
+    length = f": {len(mark.has)} bytes, not {len(mark.wants)}" * (len(mark.has) != len(mark.wants))
+    return f"wrong{length}{f': it is {both(mark.also)}' * bool(mark.also)}"
+
+
+class Average(NamedTuple):
+    """The points of a class: those of each candidate, the means, and the most that there
+    are, or the least and the greatest of that, which depends on what was handed in."""
+
+    values: list[Fraction]
+    most: list[Fraction]
+    mean: Fraction
+    median: Fraction
+
+
+def average(sheets: Iterable[Sheet]) -> Optional[Average]:
+    """The points of a class, if any hand-in is marked."""
+    points = [sheet.points for sheet in sheets if sheet.points]
+    if not points:
+        return None
+    values = [each.sum for each in points]
+    most = sorted({each.most for each in points})
+    most = [most[0], most[-1]] if len(most) > 1 else most
+    return Average(values, most, mean(values), Fraction(median(values)))
 
 
 def _explained(sheet: Sheet, wrong: int) -> str:
