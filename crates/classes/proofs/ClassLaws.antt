@@ -13,14 +13,14 @@ use Rattle.standard.proofs.FirstLaws.{all-pass, first-append}
 use Rattle.standard.specs.Bytes.{part}
 use Rattle.standard.specs.Classes.{classRecord, ta12ClassCall}
 use Rattle.standard.specs.Cores.{bl1With, bl1}
-use Rattle.standard.specs.Derivation.{ta12Call}
+use Rattle.standard.specs.Derivation.{chosen, ta12Call}
 use Rattle.standard.specs.Expansions.{exp2}
 use Rattle.standard.specs.Hurdle.{schedule}
 use Rattle.standard.specs.Lists.{recordAt, each, listTests, refused}
 use Rattle.standard.specs.Refusals.{wrongLength, maskTests, first}
 use Rattle.standard.specs.Sizes.{challengeSize, authenticationSize}
 use Rattle.standard.specs.declared.Authentication.{Authentication}
-use Rattle.classes.specs.Steps.{answerOf, recordFrom, recordWith}
+use Rattle.classes.specs.Steps.{recordFrom, recordWith}
 
 from-length : (rm km : ℕ) (o : List ℕ) → length (recordFrom rm km o) ≡ authenticationSize
 unfolding recordFrom
@@ -31,7 +31,8 @@ unfolding recordWith
 record-length keys rm km x = from-length rm km (bl1With keys (exp2 x))
 
 -- the response and the key, one after the other
-pub record-made : (rm km : ℕ) (o : List ℕ) {a : Authentication} → a ≡ answerOf rm km o → part 0 4 (a .response) ++ part 0 10 (a .key) ≡ recordFrom rm km o
+pub record-made : (rm km : ℕ) (o : List ℕ) {a : Authentication} → a ≡ record { refusal = 0; response = part 0 4 (chosen rm o); key = part 0 10 (chosen km o) }
+    → part 0 4 (a .response) ++ part 0 10 (a .key) ≡ recordFrom rm km o
 unfolding recordFrom
 record-made rm km o e = rw e
 
@@ -40,11 +41,11 @@ pub record-by : (keys : List ℕ) (rm km : ℕ) (x : List ℕ) {y o : List ℕ} 
 unfolding recordWith
 record-by keys rm km x ey eo = ap (recordFrom rm km) (eo ∙ ap (bl1With keys) ey)
 
-module _ (ks xs : List ℕ) (rm km : ℕ) (h : length ks ≡ 16) where
-  -- under the session key's round keys the record of a challenge is what TA12 answers
+module _ (ks xs : List ℕ) (rm km : ℕ) (h : length ks ≡ 16) (m : first (maskTests rm km) ≡ 0) where
+  -- under the session key's round keys, and masks that no test refuses, the record of a challenge is what TA12 answers
   same-record : (x : List ℕ) → length x ≡ 10 → recordWith (schedule ks) rm km x ≡ classRecord ks rm km x
   unfolding recordWith recordFrom classRecord ta12Call bl1
-  same-record x l = rw (eq-eqb _ _ h, eq-eqb _ _ l)
+  same-record x l = rw (eq-eqb _ _ h, eq-eqb _ _ l, m)
 
   pub same-records : (n : ℕ) → each n challengeSize (recordWith (schedule ks) rm km) xs ≡ each n challengeSize (classRecord ks rm km) xs
   same-records n =

@@ -6,17 +6,10 @@ use Rattle.standard.specs.Bytes.{part}
 use Rattle.standard.specs.Cores.{bl1With}
 use Rattle.standard.specs.Derivation.{chosen}
 use Rattle.standard.specs.Expansions.{exp2}
-use Rattle.standard.specs.Refusals.{maskTests, first, authentication}
-use Rattle.standard.specs.declared.Authentication.{Authentication}
 
--- of an output of the core: the answer, and the record
-abbrev pub answerOf : (rm km : ℕ) → List ℕ → Authentication
-answerOf rm km o = authentication (first (maskTests rm km)) (chosen rm o) (chosen km o)
-
+-- of an output of the core: the response and the key that the masks choose
 unfoldable pub recordFrom : (rm km : ℕ) → List ℕ → List ℕ
-recordFrom rm km o =
-    let a : Authentication = answerOf rm km o in
-    part 0 4 (a .response) ++ part 0 10 (a .key)
+recordFrom rm km o = part 0 4 (chosen rm o) ++ part 0 10 (chosen km o)
 
 -- of a challenge
 unfoldable pub recordWith : (keys : List ℕ) (rm km : ℕ) → List ℕ → List ℕ

@@ -1,5 +1,5 @@
-// A whole class of challenges under one session key: for each the response and the key that TA12 answers. The round keys are made once,
-// and four challenges go side by side.
+// A whole class of challenges under one session key: for each the response and the key that TA12 answers. The masks are tested and the
+// round keys made once, and four challenges go side by side.
 use arrays::array10;
 use arrays::array16;
 use arrays::copy;
@@ -8,8 +8,8 @@ use cores::exp2;
 use cores_four::Strings16;
 use cores_four::bl1_four_with;
 use hurdle::schedule;
-use keys::authenticate;
 use keys::mask_refusal;
+use keys::split;
 use lists::lengths_and_output;
 use lists::refused;
 use standard::AUTHENTICATION;
@@ -54,7 +54,7 @@ fn put_at(o: [u8; 16], response_mask: u16, key_mask: u16, n: usize, i: usize, ou
     requires { ⌜ (i < n) × (authenticationSize * n ≤ length (now out)) ⌝ }
     ensures { λ _. ⌜ now (out .exit) ≡ putAt authenticationSize i (recordFrom «response_mask» «key_mask» o) (now (out .entry)) ⌝ }
 {
-    let a = authenticate(o, response_mask, key_mask);
+    let a = split(o, response_mask, key_mask);
     let response = a.response;
     let key = a.key;
     let b = AUTHENTICATION * i;

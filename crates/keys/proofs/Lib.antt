@@ -1,2 +1,2 @@
-pub mod GatherLaws
+pub mod MaskLaws
 pub mod RecipeLaws

@@ -5,7 +5,6 @@ mod recipe;
 
 use crate::derivation::int;
 use crate::masks::refused_split;
-use crate::masks::split;
 use crate::recipe::make;
 use arrays::array10;
 use arrays::array12;
@@ -14,8 +13,8 @@ use arrays::both_long;
 pub use derivation::combined;
 pub use derivation::core;
 pub use derivation::reversed;
-pub use masks::authenticate;
 pub use masks::mask_refusal;
+pub use masks::split;
 use standard::Authentication;
 use standard::Bytes10;
 use standard::Bytes16;

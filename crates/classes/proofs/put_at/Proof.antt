@@ -14,8 +14,8 @@ use Rattle.classes.specs.Steps.{recordFrom}
 use Rattle.classes.proofs.put_at.Statement.{statement}
 use Rattle.classes.proofs.put_at.Tie as tie
 
-authenticate-requires : tie.Need-authenticate-requires
-authenticate-requires c κs = search needs
+split-requires : tie.Need-split-requires
+split-requires c κs = search needs
 
 mul-b : tie.Need-mul-b
 mul-b c = search needs
@@ -46,7 +46,7 @@ same-length c = search needs
 
 returns : tie.Need-returns
 returns c =
-    let made = c .before .before .before .before .before .before .before .before .authenticate .ensures in
+    let made = c .before .before .before .before .before .before .before .before .split .ensures in
     let x = c .before .before .before .before .before .before .before .before .before .before .args in
     let laid : c .before .before .before .before .before .joined .result ≡ recordFrom (x .response-mask) (x .key-mask) (x .o) = c .before .before .before .before .before .joined .ensures ∙ record-made (x .response-mask) (x .key-mask) (x .o) made in
     let long : length (c .before .before .before .before .before .joined .result) ≡ authenticationSize = search needs in
@@ -57,7 +57,7 @@ pub put-at-spec : {M : Type 1} → statement M
 put-at-spec =
     tie.close
     (tie.spec
-    authenticate-requires
+    split-requires
     mul-b
     joined-requires
     slice-aggregate-copy

@@ -81,10 +81,11 @@ returns-4 c =
     let x = lens .before .before .before .before .before .args in
     let h : length (now (x .session-key)) ≡ 16 = lens .before .if1 .left in
     let n = length (now (x .challenges)) / challengeSize in
+    let none : masks .mask-refusal .result ≡ 0 = made .before .before .before .before .before .if3 .left in
     let keys = made .before .before .before .schedule .ensures ∙ ap schedule (made .before .before .before .before .array16 .ensures ∙ spelled 16 (now (x .session-key)) h) in
     let written = rw keys at (made .write .ensures) in
-    all-written (now (x .session-key)) (now (x .challenges)) (x .response-mask) (x .key-mask) (now (x .out)) h _ (lens .lengths-and-output .ensures) (masks .before .if2 .left) _ (masks .mask-refusal .ensures) (made .before .before .before .before .before .if3 .left) _
-    (written ∙ ap (λ (l : List ℕ). l ++ drop (authenticationSize * n) (now (x .out))) (same-records (now (x .session-key)) (now (x .challenges)) (x .response-mask) (x .key-mask) h n))
+    all-written (now (x .session-key)) (now (x .challenges)) (x .response-mask) (x .key-mask) (now (x .out)) h _ (lens .lengths-and-output .ensures) (masks .before .if2 .left) _ (masks .mask-refusal .ensures) none _
+    (written ∙ ap (λ (l : List ℕ). l ++ drop (authenticationSize * n) (now (x .out))) (same-records (now (x .session-key)) (now (x .challenges)) (x .response-mask) (x .key-mask) h (sym (masks .mask-refusal .ensures) ∙ none) n))
 
 pub ta12-class-spec : {M : Type 1} → statement M
 ta12-class-spec =

@@ -8,6 +8,7 @@ use Rattle.standard.proofs.BytesLaws.{failed, passed, both-spelled}
 use Rattle.standard.proofs.DerivationLaws.{masks-ones}
 use Rattle.standard.specs.Derivation.{ta12Call}
 use Rattle.standard.specs.Refusals.{maskTests, first}
+use Rattle.keys.proofs.MaskLaws.{whole-split}
 use Rattle.keys.proofs.ta12.Statement.{statement}
 use Rattle.keys.proofs.ta12.Tie as tie
 
@@ -44,9 +45,7 @@ core-requires : tie.Need-core-requires
 core-requires c κs = search needs
 
 split-requires : tie.Need-split-requires
-split-requires c κs =
-    let accepted = c .before .before .before in
-    masks-ones _ _ (sym (accepted .before .mask-refusal .ensures) ∙ accepted .if2 .left)
+split-requires c κs = search needs
 
 returns-3 : tie.Need-returns-3
 unfolding ta12Call
@@ -57,7 +56,7 @@ returns-3 c =
     let t = passed (tested .both-long .ensures) (accepted .before .before .if1 .left) in
     let s = both-spelled 16 10 (now (x .session-key)) (now (x .challenge)) t in
     let m : first (maskTests (x .response-mask) (x .key-mask)) ≡ 0 = sym (accepted .before .mask-refusal .ensures) ∙ accepted .if2 .left in
-    rw (c .split .ensures, c .before .core .ensures, c .before .before .array10 .ensures, c .before .before .before .array16 .ensures, s .0, s .1, t, m)
+    rw (c .split .ensures, whole-split (x .response-mask) (x .key-mask) _ (search needs) (search needs) (masks-ones _ _ m), c .before .core .ensures, c .before .before .array10 .ensures, c .before .before .before .array16 .ensures, s .0, s .1, t, m)
 
 pub ta12-spec : {M : Type 1} → statement M
 ta12-spec =

@@ -4,14 +4,13 @@ use borrow.Author.Needs.{needs}
 use Rattle.keys.proofs.masks.split.Statement.{statement}
 use Rattle.keys.proofs.masks.split.Tie as tie
 
-chosen4-requires : tie.Need-chosen4-requires
-chosen4-requires c κs = search needs
-
-chosen10-requires : tie.Need-chosen10-requires
-chosen10-requires c κs = search needs
-
 returns : tie.Need-returns
-returns c = rw (c .chosen10 .ensures, c .before .chosen4 .ensures)
+returns c =
+    let key = c .before in
+    let response = key .before in
+    rw (c .first10 .ensures, key .gathered2 .ensures, response .first4 .ensures, response .before .gathered .ensures)
 
 pub split-spec : {M : Type 1} → statement M
-split-spec = tie.close (tie.spec chosen4-requires chosen10-requires returns)
+split-spec =
+    tie.close
+    (tie.spec (λ c κs. search needs) (λ c κs. search needs) (λ c κs. search needs) (λ c κs. search needs) returns)

@@ -4,6 +4,7 @@ use mathlib.Core.Bool.{true, false}
 use mathlib.Core.Path.{_≡_}
 use borrow.Author.Needs.{needs}
 use borrow.Author.Tests.{not-true, not-false}
+use Rattle.keys.proofs.MaskLaws.{whole-split}
 use Rattle.keys.proofs.recipe.half.Statement.{statement}
 use Rattle.keys.proofs.recipe.half.Tie as tie
 
@@ -22,8 +23,9 @@ split-requires c κs = search needs
 returns-2 : tie.Need-returns-2
 returns-2 c =
     let start = c .before .before .before in
-    let t : start .before .args .runs ≡ true = not-false _ (start .if1 .left) in
-    rw (c .split .ensures, c .before .core2 .ensures, c .before .before .core .ensures, t)
+    let x = start .before .args in
+    let t : x .runs ≡ true = not-false _ (start .if1 .left) in
+    rw (c .split .ensures, whole-split (x .response-mask) (x .key-mask) _ (search needs) (search needs) (start .before .pre), c .before .core2 .ensures, c .before .before .core .ensures, t)
 
 pub half-spec : {M : Type 1} → statement M
 half-spec = tie.close (tie.spec returns core-requires core-requires-2 split-requires returns-2)

@@ -1,0 +1,80 @@
+-- `keys::masks::gathered` meets its contract.
+-- Assumes nothing.
+use mathlib.Core.Path.{_≡_, refl, _∙_}
+use native.Mathlib.Omega.{arith}
+use lib.ListN.{length, length-set}
+use Rattle.keys.proofs.MaskLaws.{Gathered, gather-none, gather-more, gather-past, gather-all}
+use Rattle.standard.specs.Bytes.{bit}
+use Rattle.keys.proofs.masks.gathered.Statement.{statement}
+use Rattle.keys.proofs.masks.gathered.Tie as tie
+
+abbrev Inv-loop : tie.InvT-loop
+Inv-loop mask output out₀ i₀ k₀ out i k = (length out ≡ 16) × Gathered mask output i k out
+
+abbrev μ-loop : tie.MeasureT-loop
+μ-loop mask output out₀ i₀ k₀ out i k = i
+
+loop-holds : tie.Need-loop-holds Inv-loop μ-loop
+loop-holds c = (refl, gather-none (c .args .mask) (c .args .t2))
+
+sub-i : tie.Need-sub-i Inv-loop μ-loop
+sub-i c = omega arith
+
+cast-if1 : tie.Need-cast-if1 Inv-loop μ-loop
+cast-if1 c = omega (arith, c .before .loop .inv .1 .few)
+
+shr-if1 : tie.Need-shr-if1 Inv-loop μ-loop
+shr-if1 c = omega (arith, c .before .loop .inv .1 .few)
+
+sub-out : tie.Need-sub-out Inv-loop μ-loop
+sub-out c = omega (arith, c .before .before .loop .inv .1 .few)
+
+array-read-out : tie.Need-array-read-out Inv-loop μ-loop
+array-read-out c = omega arith
+
+array-write-out : tie.Need-array-write-out Inv-loop μ-loop
+array-write-out c = omega (arith, c .before .before .loop .inv .1 .few)
+
+add-k : tie.Need-add-k Inv-loop μ-loop
+add-k c = omega (arith, c .before .before .loop .inv .1 .few)
+
+loop-less : tie.Need-loop-less Inv-loop μ-loop
+loop-less c = omega arith
+
+loop-again : tie.Need-loop-again Inv-loop μ-loop
+unfolding bit
+loop-again c =
+    let at = c .before .before .loop in
+    (length-set (at .out) _ _ ∙ at .inv .0, gather-more (at .inv .1) (omega arith) (c .if1 .taken))
+
+loop-less-2 : tie.Need-loop-less-2 Inv-loop μ-loop
+loop-less-2 c = omega arith
+
+loop-again-2 : tie.Need-loop-again-2 Inv-loop μ-loop
+unfolding bit
+loop-again-2 c =
+    let at = c .before .before .loop in
+    (at .inv .0, gather-past (at .inv .1) (omega arith) (c .if1 .left))
+
+returns : tie.Need-returns Inv-loop μ-loop
+returns c = gather-all (c .before .loop .inv .1) (omega arith)
+
+pub gathered-spec : {M : Type 1} → statement M
+gathered-spec =
+    tie.close
+    (tie.spec
+    Inv-loop
+    μ-loop
+    loop-holds
+    sub-i
+    cast-if1
+    shr-if1
+    sub-out
+    array-read-out
+    array-write-out
+    add-k
+    loop-less
+    loop-again
+    loop-less-2
+    loop-again-2
+    returns)
