@@ -2,6 +2,8 @@
 -- Assumes nothing.
 use mathlib.Core.List.{List}
 use Prim.Native.Nat.{ℕ}
+use Rattle.cores.specs.declared.CoreOutput15.{CoreOutput15}
+use Rattle.cores.specs.declared.CoreOutput16.{CoreOutput16}
 use Rattle.records.specs.Steps.{coreKey, plainInput, sealedWith, openedWith}
 use Rattle.standard.specs.Books.{plainFault, sealRecord, openFault, openLook, openRecord, Way as WayOf}
 use Rattle.standard.specs.Bytes.{part}
@@ -59,3 +61,7 @@ madeOf Opening = openedWith
 
 abbrev pub convertOf : List ℕ → List ℕ → Way → List ℕ → List ℕ
 convertOf r b w x = madeOf w b x (coreOf w (coreKey r x) (inputOf w x))
+
+-- BL1's output made a sealed text, its cipher runs kept
+abbrev pub shortened : CoreOutput16 → CoreOutput15
+shortened o = record { output = without8 (o .output); runs = o .runs }

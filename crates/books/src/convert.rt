@@ -1,9 +1,10 @@
 // What a record becomes: what the core takes of it, the core, and what is made of the core's output. For one record, and for four whose
 // cores run side by side.
 use crate::walk::Way;
+use cores::CoreOutput15;
+use cores::CoreOutput16;
 use cores::bl1;
 use cores::bl2;
-use cores_four::Strings15;
 use cores_four::Strings16;
 use cores_four::bl1_four;
 use cores_four::bl2_four;
@@ -14,15 +15,17 @@ use records::put_sealed;
 use records::seal_task;
 use standard::RingBytes;
 use texts::without8;
-ghost use mathlib.Core.List.{_++_};
+ghost use mathlib.Core.List.{[], _∷_, _++_};
 ghost use mathlib.Core.Path.{_≡_};
 ghost use Prim.Native.Nat.{_+_, _*_, _<_, _≤_};
 ghost use lib.ListN.{length, take, drop};
+ghost use Rattle.cores.specs.Steps.{counted15};
+ghost use Rattle.cores_four.specs.Lanes.{lane16, lane15};
 ghost use Rattle.lists.specs.Walks.{putAt, putFour};
 ghost use Rattle.records.specs.Steps.{coreKey};
 ghost use Rattle.standard.specs.Lists.{recordAt};
-ghost use Rattle.standard.specs.Seals.{without8 as without8Of};
-ghost use Rattle.books.specs.Steps.{sizeOf, toOf, inputOf, coreOf, madeOf, convertOf};
+ghost use Rattle.standard.specs.Runs.{textRuns};
+ghost use Rattle.books.specs.Steps.{sizeOf, toOf, inputOf, coreOf, madeOf, convertOf, shortened};
 
 // What the core takes of a record.
 fn task(way: Way, ring: &RingBytes, rec: &[u8]) -> Task
@@ -44,9 +47,9 @@ fn task_at(way: Way, ring: &RingBytes, book: &[u8], n: usize, i: usize) -> Task
     task(way, ring, &book[a..a + size])
 }
 
-// The core's output.
-fn core(way: Way, key: [u8; 16], input: [u8; 16]) -> [u8; 15]
-    ensures { λ o. ⌜ o ≡ coreOf way key input ⌝ }
+// The core's output, and its cipher runs.
+fn core(way: Way, key: [u8; 16], input: [u8; 16]) -> CoreOutput15
+    ensures { λ o. ⌜ o ≡ counted15 (coreOf way key input) ⌝ }
 {
     match way {
         Way::Sealing => without8(bl1(key, input)),
@@ -65,18 +68,33 @@ fn put(way: Way, strings: [u8; 8], rec: &[u8], o: [u8; 15], out: &mut [u8])
 }
 
 // The same for record i of n, at its place.
-fn put_at(way: Way, strings: [u8; 8], book: &[u8], n: usize, i: usize, o: [u8; 15], out: &mut [u8])
+fn put_at(
+    way: Way,
+    strings: [u8; 8],
+    book: &[u8],
+    n: usize,
+    i: usize,
+    o: CoreOutput15,
+    out: &mut [u8],
+)
     requires { ⌜ (i < n) × (sizeOf way * n ≤ length (now book)) × (toOf way * n ≤ length (now out)) ⌝ }
-    ensures { λ _. ⌜ now (out .exit) ≡ putAt (toOf way) i (madeOf way strings (recordAt (sizeOf way) (now (book .entry)) i) o) (now (out .entry)) ⌝ }
+    ensures { λ _. ⌜ now (out .exit) ≡ putAt (toOf way) i (madeOf way strings (recordAt (sizeOf way) (now (book .entry)) i) (o .output)) (now (out .entry)) ⌝ }
 {
     let size = way.size() as usize;
     let to = way.to() as usize;
     let a = size * i;
     let b = to * i;
-    put(way, strings, &book[a..a + size], o, &mut out[b..b + to]);
+    let output = o.output;
+    put(
+        way,
+        strings,
+        &book[a..a + size],
+        output,
+        &mut out[b..b + to],
+    );
 }
 
-// Record i of n, converted.
+// Record i of n, converted; the block cipher runs that it took.
 pub(crate) fn convert_one(
     way: Way,
     ring: &RingBytes,
@@ -85,14 +103,17 @@ pub(crate) fn convert_one(
     n: usize,
     i: usize,
     out: &mut [u8],
-)
+) -> usize
     requires { ⌜ (i < n) × (sizeOf way * n ≤ length (now book)) × (toOf way * n ≤ length (now out)) ⌝ }
-    ensures { λ _. ⌜ now (out .exit) ≡ putAt (toOf way) i (convertOf (now (ring .entry)) strings way (recordAt (sizeOf way) (now (book .entry)) i)) (now (out .entry)) ⌝ }
+    ensures { λ r. ⌜ (now (out .exit) ≡ putAt (toOf way) i (convertOf (now (ring .entry)) strings way (recordAt (sizeOf way) (now (book .entry)) i)) (now (out .entry)))
+        × (r ≡ textRuns) ⌝ }
 {
     let t = task_at(way, ring, book, n, i);
     let key = t.key;
     let input = t.input;
-    put_at(way, strings, book, n, i, core(way, key, input), out);
+    let o = core(way, key, input);
+    put_at(way, strings, book, n, i, o, out);
+    o.runs
 }
 
 // What the cores of four records take.
@@ -136,29 +157,33 @@ fn tasks_at(way: Way, ring: &RingBytes, book: &[u8], n: usize, i: usize) -> Task
     }
 }
 
-fn without8_each(o: Strings16) -> Strings15
-    ensures { λ r. ⌜ (r .a ≡ without8Of (o .a)) × (r .b ≡ without8Of (o .b)) × (r .c ≡ without8Of (o .c)) × (r .d ≡ without8Of (o .d)) ⌝ }
+fn without8_each(o: [CoreOutput16; 4]) -> [CoreOutput15; 4]
+    ensures { λ r. ⌜ r ≡ shortened (lane16 o 0) ∷ shortened (lane16 o 1) ∷ shortened (lane16 o 2) ∷ shortened (lane16 o 3) ∷ [] ⌝ }
 {
-    let oa = o.a;
-    let ob = o.b;
-    let oc = o.c;
-    let od = o.d;
-    Strings15 {
-        a: without8(oa),
-        b: without8(ob),
-        c: without8(oc),
-        d: without8(od),
-    }
+    [
+        without8(o[0]),
+        without8(o[1]),
+        without8(o[2]),
+        without8(o[3]),
+    ]
 }
 
-// The cores' outputs.
-fn cores(way: Way, k: Strings16, x: Strings16) -> Strings15
-    ensures { λ o. ⌜ (o .a ≡ coreOf way (k .a) (x .a)) × (o .b ≡ coreOf way (k .b) (x .b)) × (o .c ≡ coreOf way (k .c) (x .c)) × (o .d ≡ coreOf way (k .d) (x .d)) ⌝ }
+// The outputs of four cores, and the cipher runs of each.
+fn cores(way: Way, k: Strings16, x: Strings16) -> [CoreOutput15; 4]
+    ensures { λ o. ⌜ o ≡ counted15 (coreOf way (k .a) (x .a)) ∷ counted15 (coreOf way (k .b) (x .b)) ∷ counted15 (coreOf way (k .c) (x .c)) ∷ counted15 (coreOf way (k .d) (x .d)) ∷ [] ⌝ }
 {
     match way {
         Way::Sealing => without8_each(bl1_four(k, x)),
         Way::Opening => bl2_four(k, x),
     }
+}
+
+// The cipher runs of four cores.
+fn runs_of(o: [CoreOutput15; 4]) -> usize
+    requires { ⌜ (lane15 o 0 .runs ≡ textRuns) × (lane15 o 1 .runs ≡ textRuns) × (lane15 o 2 .runs ≡ textRuns) × (lane15 o 3 .runs ≡ textRuns) ⌝ }
+    ensures { λ r. ⌜ r ≡ 4 * textRuns ⌝ }
+{
+    o[0].runs + o[1].runs + o[2].runs + o[3].runs
 }
 
 fn put_four(
@@ -167,26 +192,22 @@ fn put_four(
     book: &[u8],
     n: usize,
     i: usize,
-    o: Strings15,
+    o: [CoreOutput15; 4],
     out: &mut [u8],
 )
     requires { ⌜ (i + 4 ≤ n) × (sizeOf way * n ≤ length (now book)) × (toOf way * n ≤ length (now out)) ⌝ }
-    ensures { λ _. ⌜ now (out .exit) ≡ putAt (toOf way) (i + 3) (madeOf way strings (recordAt (sizeOf way) (now (book .entry)) (i + 3)) (o .d))
-        (putAt (toOf way) (i + 2) (madeOf way strings (recordAt (sizeOf way) (now (book .entry)) (i + 2)) (o .c))
-        (putAt (toOf way) (i + 1) (madeOf way strings (recordAt (sizeOf way) (now (book .entry)) (i + 1)) (o .b))
-        (putAt (toOf way) i (madeOf way strings (recordAt (sizeOf way) (now (book .entry)) i) (o .a)) (now (out .entry))))) ⌝ }
+    ensures { λ _. ⌜ now (out .exit) ≡ putAt (toOf way) (i + 3) (madeOf way strings (recordAt (sizeOf way) (now (book .entry)) (i + 3)) (lane15 o 3 .output))
+        (putAt (toOf way) (i + 2) (madeOf way strings (recordAt (sizeOf way) (now (book .entry)) (i + 2)) (lane15 o 2 .output))
+        (putAt (toOf way) (i + 1) (madeOf way strings (recordAt (sizeOf way) (now (book .entry)) (i + 1)) (lane15 o 1 .output))
+        (putAt (toOf way) i (madeOf way strings (recordAt (sizeOf way) (now (book .entry)) i) (lane15 o 0 .output)) (now (out .entry))))) ⌝ }
 {
-    let oa = o.a;
-    let ob = o.b;
-    let oc = o.c;
-    let od = o.d;
-    put_at(way, strings, book, n, i, oa, out);
-    put_at(way, strings, book, n, i + 1, ob, out);
-    put_at(way, strings, book, n, i + 2, oc, out);
-    put_at(way, strings, book, n, i + 3, od, out);
+    put_at(way, strings, book, n, i, o[0], out);
+    put_at(way, strings, book, n, i + 1, o[1], out);
+    put_at(way, strings, book, n, i + 2, o[2], out);
+    put_at(way, strings, book, n, i + 3, o[3], out);
 }
 
-// Records i to i + 3 of n, converted.
+// Records i to i + 3 of n, converted; the block cipher runs that they took.
 pub(crate) fn convert_four(
     way: Way,
     ring: &RingBytes,
@@ -195,12 +216,15 @@ pub(crate) fn convert_four(
     n: usize,
     i: usize,
     out: &mut [u8],
-)
+) -> usize
     requires { ⌜ (i + 4 ≤ n) × (sizeOf way * n ≤ length (now book)) × (toOf way * n ≤ length (now out)) ⌝ }
-    ensures { λ _. ⌜ now (out .exit) ≡ putFour (toOf way) i (λ j. convertOf (now (ring .entry)) strings way (recordAt (sizeOf way) (now (book .entry)) j)) (now (out .entry)) ⌝ }
+    ensures { λ r. ⌜ (now (out .exit) ≡ putFour (toOf way) i (λ j. convertOf (now (ring .entry)) strings way (recordAt (sizeOf way) (now (book .entry)) j)) (now (out .entry)))
+        × (r ≡ 4 * textRuns) ⌝ }
 {
     let t = tasks_at(way, ring, book, n, i);
     let keys = t.keys;
     let inputs = t.inputs;
-    put_four(way, strings, book, n, i, cores(way, keys, inputs), out);
+    let o = cores(way, keys, inputs);
+    put_four(way, strings, book, n, i, o, out);
+    runs_of(o)
 }

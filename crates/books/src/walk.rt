@@ -5,11 +5,9 @@ use crate::convert::convert_one;
 use records::open_fault;
 use records::plain_fault;
 use records::strings_of;
-use standard::IDENTITY_RUNS;
 use standard::PLAIN_RECORD;
 use standard::RingBytes;
 use standard::SEALED_RECORD;
-use standard::TEXT_RUNS;
 ghost use mathlib.Core.List.{_++_};
 ghost use mathlib.Core.Path.{_≡_};
 ghost use Prim.Native.Nat.{_*_, _≤_};
@@ -134,13 +132,13 @@ fn write_with(
     let mut runs = 0;
     let mut i = 0;
     while n - i >= 4 {
-        convert_four(way, ring, strings, book, n, i, out);
-        runs += 4 * TEXT_RUNS;
+        let four = convert_four(way, ring, strings, book, n, i, out);
+        runs += four;
         i += 4;
     }
     while i < n {
-        convert_one(way, ring, strings, book, n, i, out);
-        runs += TEXT_RUNS;
+        let one = convert_one(way, ring, strings, book, n, i, out);
+        runs += one;
         i += 1;
     }
     runs
@@ -156,5 +154,7 @@ pub(crate) fn write(way: Way, ring: &RingBytes, book: &[u8], n: usize, out: &mut
         return 0;
     }
     let strings = strings_of(ring);
-    IDENTITY_RUNS + write_with(way, ring, strings, book, n, out)
+    let b = strings.bytes;
+    let runs = write_with(way, ring, b, book, n, out);
+    strings.runs + runs
 }

@@ -3,6 +3,7 @@
 use arrays::array10;
 use arrays::array16;
 use arrays::copy;
+use cores::CoreOutput16;
 use cores::bl1_with;
 use cores::exp2;
 use cores_four::Strings16;
@@ -20,6 +21,7 @@ ghost use mathlib.Core.List.{_++_};
 ghost use mathlib.Core.Path.{_≡_};
 ghost use Prim.Native.Nat.{_+_, _*_, _<_, _≤_};
 ghost use lib.ListN.{length, drop};
+ghost use Rattle.cores_four.specs.Lanes.{lane16};
 ghost use Rattle.lists.specs.Walks.{putAt, putFour};
 ghost use Rattle.standard.specs.Bytes.{part};
 ghost use Rattle.standard.specs.Classes.{ta12ClassCall};
@@ -50,11 +52,12 @@ fn joined(response: [u8; 4], key: [u8; 10]) -> [u8; AUTHENTICATION]
 }
 
 // The record of an output of the core, at place i of n.
-fn put_at(o: [u8; 16], response_mask: u16, key_mask: u16, n: usize, i: usize, out: &mut [u8])
+fn put_at(o: CoreOutput16, response_mask: u16, key_mask: u16, n: usize, i: usize, out: &mut [u8])
     requires { ⌜ (i < n) × (authenticationSize * n ≤ length (now out)) ⌝ }
-    ensures { λ _. ⌜ now (out .exit) ≡ putAt authenticationSize i (recordFrom «response_mask» «key_mask» o) (now (out .entry)) ⌝ }
+    ensures { λ _. ⌜ now (out .exit) ≡ putAt authenticationSize i (recordFrom «response_mask» «key_mask» (o .output)) (now (out .entry)) ⌝ }
 {
-    let a = split(o, response_mask, key_mask);
+    let output = o.output;
+    let a = split(output, response_mask, key_mask);
     let response = a.response;
     let key = a.key;
     let b = AUTHENTICATION * i;
@@ -100,21 +103,24 @@ fn inputs_at(challenges: &[u8], n: usize, i: usize) -> Strings16
     }
 }
 
-fn put_four(o: Strings16, response_mask: u16, key_mask: u16, n: usize, i: usize, out: &mut [u8])
+fn put_four(
+    o: [CoreOutput16; 4],
+    response_mask: u16,
+    key_mask: u16,
+    n: usize,
+    i: usize,
+    out: &mut [u8],
+)
     requires { ⌜ (i + 4 ≤ n) × (authenticationSize * n ≤ length (now out)) ⌝ }
-    ensures { λ _. ⌜ now (out .exit) ≡ putAt authenticationSize (i + 3) (recordFrom «response_mask» «key_mask» (o .d))
-        (putAt authenticationSize (i + 2) (recordFrom «response_mask» «key_mask» (o .c))
-        (putAt authenticationSize (i + 1) (recordFrom «response_mask» «key_mask» (o .b))
-        (putAt authenticationSize i (recordFrom «response_mask» «key_mask» (o .a)) (now (out .entry))))) ⌝ }
+    ensures { λ _. ⌜ now (out .exit) ≡ putAt authenticationSize (i + 3) (recordFrom «response_mask» «key_mask» (lane16 o 3 .output))
+        (putAt authenticationSize (i + 2) (recordFrom «response_mask» «key_mask» (lane16 o 2 .output))
+        (putAt authenticationSize (i + 1) (recordFrom «response_mask» «key_mask» (lane16 o 1 .output))
+        (putAt authenticationSize i (recordFrom «response_mask» «key_mask» (lane16 o 0 .output)) (now (out .entry))))) ⌝ }
 {
-    let oa = o.a;
-    let ob = o.b;
-    let oc = o.c;
-    let od = o.d;
-    put_at(oa, response_mask, key_mask, n, i, out);
-    put_at(ob, response_mask, key_mask, n, i + 1, out);
-    put_at(oc, response_mask, key_mask, n, i + 2, out);
-    put_at(od, response_mask, key_mask, n, i + 3, out);
+    put_at(o[0], response_mask, key_mask, n, i, out);
+    put_at(o[1], response_mask, key_mask, n, i + 1, out);
+    put_at(o[2], response_mask, key_mask, n, i + 2, out);
+    put_at(o[3], response_mask, key_mask, n, i + 3, out);
 }
 
 // The records of challenges i to i + 3.

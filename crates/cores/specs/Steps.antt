@@ -1,4 +1,4 @@
--- What the steps of EXP4 compute, and BL2 under round keys laid out first.
+-- What the steps of EXP4 compute, BL2 under round keys laid out first, and the cores' outputs with their cipher runs.
 -- Assumes nothing.
 use mathlib.Core.List.{List, [], _∷_, _++_}
 use mathlib.Core.Path.{_≡_}
@@ -6,6 +6,9 @@ use Prim.Native.Nat.{ℕ}
 use Rattle.standard.specs.Bytes.{_!_, _⊕_, part, xors}
 use Rattle.standard.specs.Expansions.{sumAt}
 use Rattle.standard.specs.Hurdle.{decryptWith}
+use Rattle.standard.specs.Runs.{textRuns}
+use Rattle.cores.specs.declared.CoreOutput15.{CoreOutput15}
+use Rattle.cores.specs.declared.CoreOutput16.{CoreOutput16}
 
 -- the byte sums of the five pairs
 pub record Sums (x : List ℕ) (a b c d e : ℕ) : Type 0 where
@@ -26,3 +29,10 @@ bl2With keys y =
     let r : List ℕ = decryptWith keys (part 8 8 y) in
     let w : List ℕ = part 0 7 y ++ (y ! 7 ⊕ r ! 7) ∷ [] in
     part 0 8 (decryptWith keys w) ++ xors 7 r (part 0 7 y)
+
+-- an output of BL1, and of BL2, with the cipher runs that it took
+abbrev pub counted16 : List ℕ → CoreOutput16
+counted16 o = record { output = o; runs = textRuns }
+
+abbrev pub counted15 : List ℕ → CoreOutput15
+counted15 o = record { output = o; runs = textRuns }

@@ -2,13 +2,14 @@
 use hurdle::decrypt_with;
 use hurdle::encrypt_with;
 use hurdle::schedule;
+use standard::TEXT_RUNS;
 use std::num::wrapping_add_u8;
 ghost use mathlib.Core.List.{[], _∷_, _++_};
 ghost use mathlib.Core.Path.{_≡_};
 ghost use Rattle.standard.specs.Bytes.{_!_, _⊕_, _⊞_, part, xors};
 ghost use Rattle.standard.specs.Cores.{bl1With, bl1 as bl1Of, bl2 as bl2Of};
 ghost use Rattle.standard.specs.Expansions.{exp1, exp2 as exp2Of, exp4 as exp4Of, xorOf};
-ghost use Rattle.cores.specs.Steps.{Sums as SumsOf, withSums, bl2With};
+ghost use Rattle.cores.specs.Steps.{Sums as SumsOf, withSums, bl2With, counted16, counted15};
 
 // The byte sum of the ⊕ values of the five pairs.
 fn sum_of_xors(b: [u8; 10]) -> u8
@@ -135,40 +136,55 @@ pub fn chained(x: [u8; 16], l: [u8; 8]) -> [u8; 8]
     xor8(right(x), l)
 }
 
-pub fn joined(l: [u8; 8], r: [u8; 8]) -> [u8; 16]
-    ensures { λ o. ⌜ o ≡ part 0 8 l ++ part 0 8 r ⌝ }
+// What a core gives, BL1 sixteen bytes and BL2 fifteen, and the block cipher runs that it took.
+pub struct CoreOutput16 {
+    pub output: [u8; 16],
+    pub runs: usize,
+}
+
+pub struct CoreOutput15 {
+    pub output: [u8; 15],
+    pub runs: usize,
+}
+
+// BL1's output: what its two cipher runs gave, one behind the other.
+pub fn joined(l: [u8; 8], r: [u8; 8]) -> CoreOutput16
+    ensures { λ o. ⌜ o ≡ counted16 (part 0 8 l ++ part 0 8 r) ⌝ }
 {
-    [
-        l[0],
-        l[1],
-        l[2],
-        l[3],
-        l[4],
-        l[5],
-        l[6],
-        l[7],
-        r[0],
-        r[1],
-        r[2],
-        r[3],
-        r[4],
-        r[5],
-        r[6],
-        r[7],
-    ]
+    CoreOutput16 {
+        output: [
+            l[0],
+            l[1],
+            l[2],
+            l[3],
+            l[4],
+            l[5],
+            l[6],
+            l[7],
+            r[0],
+            r[1],
+            r[2],
+            r[3],
+            r[4],
+            r[5],
+            r[6],
+            r[7],
+        ],
+        runs: TEXT_RUNS,
+    }
 }
 
 // BL1 under round keys that were laid out before.
-pub fn bl1_with(keys: &[u8; 192], x: [u8; 16]) -> [u8; 16]
-    ensures { λ r. ⌜ r ≡ bl1With (now (keys .entry)) x ⌝ }
+pub fn bl1_with(keys: &[u8; 192], x: [u8; 16]) -> CoreOutput16
+    ensures { λ o. ⌜ o ≡ counted16 (bl1With (now (keys .entry)) x) ⌝ }
 {
     let l = encrypt_with(keys, left(x));
     let r = encrypt_with(keys, chained(x, l));
     joined(l, r)
 }
 
-pub fn bl1(key: [u8; 16], x: [u8; 16]) -> [u8; 16]
-    ensures { λ r. ⌜ r ≡ bl1Of key x ⌝ }
+pub fn bl1(key: [u8; 16], x: [u8; 16]) -> CoreOutput16
+    ensures { λ o. ⌜ o ≡ counted16 (bl1Of key x) ⌝ }
 {
     let keys = schedule(key);
     bl1_with(&keys, x)
@@ -181,39 +197,42 @@ pub fn mended(y: [u8; 16], r: [u8; 8]) -> [u8; 8]
     [y[0], y[1], y[2], y[3], y[4], y[5], y[6], y[7] ^ r[7]]
 }
 
-// The left output, and the first seven bytes of r ⊕ those of y.
-pub fn joined7(l: [u8; 8], r: [u8; 8], y: [u8; 16]) -> [u8; 15]
-    ensures { λ o. ⌜ o ≡ part 0 8 l ++ xors 7 r (part 0 7 y) ⌝ }
+// BL2's output: what its two cipher runs gave, the left one whole, and the first seven bytes of the right one ⊕ those of y.
+pub fn joined7(l: [u8; 8], r: [u8; 8], y: [u8; 16]) -> CoreOutput15
+    ensures { λ o. ⌜ o ≡ counted15 (part 0 8 l ++ xors 7 r (part 0 7 y)) ⌝ }
 {
-    [
-        l[0],
-        l[1],
-        l[2],
-        l[3],
-        l[4],
-        l[5],
-        l[6],
-        l[7],
-        r[0] ^ y[0],
-        r[1] ^ y[1],
-        r[2] ^ y[2],
-        r[3] ^ y[3],
-        r[4] ^ y[4],
-        r[5] ^ y[5],
-        r[6] ^ y[6],
-    ]
+    CoreOutput15 {
+        output: [
+            l[0],
+            l[1],
+            l[2],
+            l[3],
+            l[4],
+            l[5],
+            l[6],
+            l[7],
+            r[0] ^ y[0],
+            r[1] ^ y[1],
+            r[2] ^ y[2],
+            r[3] ^ y[3],
+            r[4] ^ y[4],
+            r[5] ^ y[5],
+            r[6] ^ y[6],
+        ],
+        runs: TEXT_RUNS,
+    }
 }
 
-fn bl2_with(keys: &[u8; 192], y: [u8; 16]) -> [u8; 15]
-    ensures { λ r. ⌜ r ≡ bl2With (now (keys .entry)) y ⌝ }
+fn bl2_with(keys: &[u8; 192], y: [u8; 16]) -> CoreOutput15
+    ensures { λ o. ⌜ o ≡ counted15 (bl2With (now (keys .entry)) y) ⌝ }
 {
     let r = decrypt_with(keys, right(y));
     let l = decrypt_with(keys, mended(y, r));
     joined7(l, r, y)
 }
 
-pub fn bl2(key: [u8; 16], y: [u8; 16]) -> [u8; 15]
-    ensures { λ r. ⌜ r ≡ bl2Of key y ⌝ }
+pub fn bl2(key: [u8; 16], y: [u8; 16]) -> CoreOutput15
+    ensures { λ o. ⌜ o ≡ counted15 (bl2Of key y) ⌝ }
 {
     let keys = schedule(key);
     bl2_with(&keys, y)

@@ -1,4 +1,6 @@
 // BL1 and BL2 of four strings side by side, one to a lane, each lane under a key of its own.
+use cores::CoreOutput15;
+use cores::CoreOutput16;
 use cores::chained;
 use cores::joined;
 use cores::joined7;
@@ -11,24 +13,16 @@ use hurdle::encrypt4_with;
 use hurdle::schedule;
 ghost use mathlib.Core.List.{[], _∷_, _++_};
 ghost use mathlib.Core.Path.{_≡_};
-ghost use Rattle.cores.specs.Steps.{bl2With};
+ghost use Rattle.cores.specs.Steps.{bl2With, counted16, counted15};
 ghost use Rattle.standard.specs.Bytes.{_!_, _⊕_, part, xors};
 ghost use Rattle.standard.specs.Cores.{bl1With, bl1, bl2};
 
-// A string of sixteen bytes for each lane: keys, or the cores' inputs and outputs.
+// A string of sixteen bytes for each lane: keys, or the cores' inputs.
 pub struct Strings16 {
     pub a: [u8; 16],
     pub b: [u8; 16],
     pub c: [u8; 16],
     pub d: [u8; 16],
-}
-
-// What BL2 gives in each lane.
-pub struct Strings15 {
-    pub a: [u8; 15],
-    pub b: [u8; 15],
-    pub c: [u8; 15],
-    pub d: [u8; 15],
 }
 
 fn lefts(x: Strings16) -> Blocks
@@ -65,8 +59,9 @@ fn chains(x: Strings16, l: Blocks) -> Blocks
     }
 }
 
-fn joins(l: Blocks, r: Blocks) -> Strings16
-    ensures { λ o. ⌜ (o .a ≡ part 0 8 (l .a) ++ part 0 8 (r .a)) × (o .b ≡ part 0 8 (l .b) ++ part 0 8 (r .b)) × (o .c ≡ part 0 8 (l .c) ++ part 0 8 (r .c)) × (o .d ≡ part 0 8 (l .d) ++ part 0 8 (r .d)) ⌝ }
+fn joins(l: Blocks, r: Blocks) -> [CoreOutput16; 4]
+    ensures { λ o. ⌜ o ≡ counted16 (part 0 8 (l .a) ++ part 0 8 (r .a)) ∷ counted16 (part 0 8 (l .b) ++ part 0 8 (r .b))
+        ∷ counted16 (part 0 8 (l .c) ++ part 0 8 (r .c)) ∷ counted16 (part 0 8 (l .d) ++ part 0 8 (r .d)) ∷ [] ⌝ }
 {
     let la = l.a;
     let lb = l.b;
@@ -76,12 +71,12 @@ fn joins(l: Blocks, r: Blocks) -> Strings16
     let rb = r.b;
     let rc = r.c;
     let rd = r.d;
-    Strings16 {
-        a: joined(la, ra),
-        b: joined(lb, rb),
-        c: joined(lc, rc),
-        d: joined(ld, rd),
-    }
+    [
+        joined(la, ra),
+        joined(lb, rb),
+        joined(lc, rc),
+        joined(ld, rd),
+    ]
 }
 
 // BL1 in each lane, under round keys that were laid out before.
@@ -91,16 +86,17 @@ pub fn bl1_four_with(
     kc: &[u8; 192],
     kd: &[u8; 192],
     x: Strings16,
-) -> Strings16
-    ensures { λ r. ⌜ (r .a ≡ bl1With (now (ka .entry)) (x .a)) × (r .b ≡ bl1With (now (kb .entry)) (x .b)) × (r .c ≡ bl1With (now (kc .entry)) (x .c)) × (r .d ≡ bl1With (now (kd .entry)) (x .d)) ⌝ }
+) -> [CoreOutput16; 4]
+    ensures { λ o. ⌜ o ≡ counted16 (bl1With (now (ka .entry)) (x .a)) ∷ counted16 (bl1With (now (kb .entry)) (x .b))
+        ∷ counted16 (bl1With (now (kc .entry)) (x .c)) ∷ counted16 (bl1With (now (kd .entry)) (x .d)) ∷ [] ⌝ }
 {
     let l = encrypt4_with(ka, kb, kc, kd, lefts(x));
     let r = encrypt4_with(ka, kb, kc, kd, chains(x, l));
     joins(l, r)
 }
 
-pub fn bl1_four(k: Strings16, x: Strings16) -> Strings16
-    ensures { λ r. ⌜ (r .a ≡ bl1 (k .a) (x .a)) × (r .b ≡ bl1 (k .b) (x .b)) × (r .c ≡ bl1 (k .c) (x .c)) × (r .d ≡ bl1 (k .d) (x .d)) ⌝ }
+pub fn bl1_four(k: Strings16, x: Strings16) -> [CoreOutput16; 4]
+    ensures { λ o. ⌜ o ≡ counted16 (bl1 (k .a) (x .a)) ∷ counted16 (bl1 (k .b) (x .b)) ∷ counted16 (bl1 (k .c) (x .c)) ∷ counted16 (bl1 (k .d) (x .d)) ∷ [] ⌝ }
 {
     let a = k.a;
     let b = k.b;
@@ -147,8 +143,9 @@ fn mends(y: Strings16, r: Blocks) -> Blocks
     }
 }
 
-fn joins7(l: Blocks, r: Blocks, y: Strings16) -> Strings15
-    ensures { λ o. ⌜ (o .a ≡ part 0 8 (l .a) ++ xors 7 (r .a) (part 0 7 (y .a))) × (o .b ≡ part 0 8 (l .b) ++ xors 7 (r .b) (part 0 7 (y .b))) × (o .c ≡ part 0 8 (l .c) ++ xors 7 (r .c) (part 0 7 (y .c))) × (o .d ≡ part 0 8 (l .d) ++ xors 7 (r .d) (part 0 7 (y .d))) ⌝ }
+fn joins7(l: Blocks, r: Blocks, y: Strings16) -> [CoreOutput15; 4]
+    ensures { λ o. ⌜ o ≡ counted15 (part 0 8 (l .a) ++ xors 7 (r .a) (part 0 7 (y .a))) ∷ counted15 (part 0 8 (l .b) ++ xors 7 (r .b) (part 0 7 (y .b)))
+        ∷ counted15 (part 0 8 (l .c) ++ xors 7 (r .c) (part 0 7 (y .c))) ∷ counted15 (part 0 8 (l .d) ++ xors 7 (r .d) (part 0 7 (y .d))) ∷ [] ⌝ }
 {
     let la = l.a;
     let lb = l.b;
@@ -162,12 +159,12 @@ fn joins7(l: Blocks, r: Blocks, y: Strings16) -> Strings15
     let yb = y.b;
     let yc = y.c;
     let yd = y.d;
-    Strings15 {
-        a: joined7(la, ra, ya),
-        b: joined7(lb, rb, yb),
-        c: joined7(lc, rc, yc),
-        d: joined7(ld, rd, yd),
-    }
+    [
+        joined7(la, ra, ya),
+        joined7(lb, rb, yb),
+        joined7(lc, rc, yc),
+        joined7(ld, rd, yd),
+    ]
 }
 
 fn bl2_four_with(
@@ -176,16 +173,17 @@ fn bl2_four_with(
     kc: &[u8; 192],
     kd: &[u8; 192],
     y: Strings16,
-) -> Strings15
-    ensures { λ r. ⌜ (r .a ≡ bl2With (now (ka .entry)) (y .a)) × (r .b ≡ bl2With (now (kb .entry)) (y .b)) × (r .c ≡ bl2With (now (kc .entry)) (y .c)) × (r .d ≡ bl2With (now (kd .entry)) (y .d)) ⌝ }
+) -> [CoreOutput15; 4]
+    ensures { λ o. ⌜ o ≡ counted15 (bl2With (now (ka .entry)) (y .a)) ∷ counted15 (bl2With (now (kb .entry)) (y .b))
+        ∷ counted15 (bl2With (now (kc .entry)) (y .c)) ∷ counted15 (bl2With (now (kd .entry)) (y .d)) ∷ [] ⌝ }
 {
     let r = decrypt4_with(ka, kb, kc, kd, rights(y));
     let l = decrypt4_with(ka, kb, kc, kd, mends(y, r));
     joins7(l, r, y)
 }
 
-pub fn bl2_four(k: Strings16, y: Strings16) -> Strings15
-    ensures { λ r. ⌜ (r .a ≡ bl2 (k .a) (y .a)) × (r .b ≡ bl2 (k .b) (y .b)) × (r .c ≡ bl2 (k .c) (y .c)) × (r .d ≡ bl2 (k .d) (y .d)) ⌝ }
+pub fn bl2_four(k: Strings16, y: Strings16) -> [CoreOutput15; 4]
+    ensures { λ o. ⌜ o ≡ counted15 (bl2 (k .a) (y .a)) ∷ counted15 (bl2 (k .b) (y .b)) ∷ counted15 (bl2 (k .c) (y .c)) ∷ counted15 (bl2 (k .d) (y .d)) ∷ [] ⌝ }
 {
     let a = k.a;
     let b = k.b;

@@ -4,6 +4,7 @@ use cores::exp4;
 use hurdle::encrypt_block;
 use hurdle::substitute;
 use hurdle::substitute_back;
+use standard::IDENTITY_RUNS;
 use standard::Identity;
 use standard::VALUE_WIDE;
 use standard::WRONG_LENGTH;
@@ -14,6 +15,7 @@ ghost use mathlib.Core.Path.{_≡_};
 ghost use Prim.Native.Nat.{_+_, _-_, _*_, _%_};
 ghost use Rattle.standard.specs.Bytes.{_!_, _⊕_, table, xors, bytesOf, number3 as number3Of};
 ghost use Rattle.standard.specs.Identity.{mix as mixOf, unmix as unmixOf, P, P⁻¹, bc as bcOf, K1, K2, K3, hide as hideOf, reveal as revealOf, ta61Call, ta61⁻¹Call};
+ghost use Rattle.standard.specs.Runs.{identityRuns};
 
 fn difference(a: u8, b: u8) -> u8
     ensures { λ r. ⌜ r ≡ (a + 256 - b) % 256 ⌝ }
@@ -105,11 +107,20 @@ fn shrunk(a: [u8; 10]) -> [u8; 8]
     ]
 }
 
-// The one cipher run under a common key, from which the K strings come.
-pub fn bc(common_key: [u8; 10]) -> [u8; 8]
-    ensures { λ r. ⌜ r ≡ bcOf «common_key» ⌝ }
+// The bytes from which the K strings come, and the block cipher runs that they took.
+pub struct IdentityStrings {
+    pub bytes: [u8; 8],
+    pub runs: usize,
+}
+
+// The one cipher run under a common key.
+pub fn bc(common_key: [u8; 10]) -> IdentityStrings
+    ensures { λ b. ⌜ b ≡ record { bytes = bcOf «common_key»; runs = identityRuns } ⌝ }
 {
-    encrypt_block(exp4(common_key), shrunk(common_key))
+    IdentityStrings {
+        bytes: encrypt_block(exp4(common_key), shrunk(common_key)),
+        runs: IDENTITY_RUNS,
+    }
 }
 
 // Three bytes of identity, encrypted, from the cipher run's output.
@@ -170,9 +181,11 @@ pub fn ta61(common_key: &[u8], identity: u64) -> Identity
     if identity >= 16777216 {
         return refused_identity(VALUE_WIDE);
     }
+    let strings = bc(array10(common_key));
+    let b = strings.bytes;
     Identity {
         refusal: 0,
-        identity: number3(hide(bc(array10(common_key)), bytes3(identity))),
+        identity: number3(hide(b, bytes3(identity))),
     }
 }
 
@@ -185,8 +198,10 @@ pub fn ta61_inverse(common_key: &[u8], encrypted_identity: u64) -> Identity
     if encrypted_identity >= 16777216 {
         return refused_identity(VALUE_WIDE);
     }
+    let strings = bc(array10(common_key));
+    let b = strings.bytes;
     Identity {
         refusal: 0,
-        identity: number3(reveal(bc(array10(common_key)), bytes3(encrypted_identity))),
+        identity: number3(reveal(b, bytes3(encrypted_identity))),
     }
 }

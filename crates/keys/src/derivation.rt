@@ -12,7 +12,9 @@ ghost use Rattle.standard.specs.Derivation.{core as coreOf, ta71 as ta71Of, int
 pub fn core(key: [u8; 16], seed: [u8; 10]) -> [u8; 16]
     ensures { λ r. ⌜ r ≡ coreOf key seed ⌝ }
 {
-    bl1(key, exp2(seed))
+    let o = bl1(key, exp2(seed));
+    let output = o.output;
+    output
 }
 
 // TA21's seed, its ten bytes from right to left.

@@ -16,6 +16,7 @@ use crate::parts::with_identity;
 use arrays::array18;
 use arrays::array21;
 use arrays::copy;
+use identity::IdentityStrings;
 use identity::bc;
 use identity::hide;
 use identity::reveal;
@@ -27,7 +28,6 @@ use standard::NOT_ZERO;
 use standard::Named;
 use standard::RingBytes;
 use standard::RingKey;
-use standard::TEXT_RUNS;
 use standard::WRONG_KIND;
 use standard::WRONG_NUMBER;
 use texts::body_of;
@@ -42,13 +42,14 @@ ghost use Rattle.standard.specs.Books.{commonKey, named, plainFault, openFault,
 ghost use Rattle.standard.specs.Bytes.{_!_, part};
 ghost use Rattle.standard.specs.Identity.{bc as bcOf};
 ghost use Rattle.standard.specs.Refusals.{notZero, wrongNumber, first};
+ghost use Rattle.standard.specs.Runs.{identityRuns};
 ghost use Rattle.standard.specs.Seals.{form, form31, kindOf, with8 as with8Of};
 ghost use Rattle.standard.specs.Sizes.{plainSize, sealedSize};
 ghost use Rattle.records.specs.Steps.{coreKey, plainInput, sealedWith, openedWith};
 
-// The cipher run from which a ring's identity strings come.
-pub fn strings_of(ring: &RingBytes) -> [u8; 8]
-    ensures { λ b. ⌜ b ≡ bcOf (commonKey (now (ring .entry))) ⌝ }
+// A ring's identity strings, and the cipher run that they took.
+pub fn strings_of(ring: &RingBytes) -> IdentityStrings
+    ensures { λ b. ⌜ b ≡ record { bytes = bcOf (commonKey (now (ring .entry))); runs = identityRuns } ⌝ }
 {
     bc(ring_c(ring))
 }
@@ -127,15 +128,16 @@ pub fn open_fault(ring: &RingBytes, rec: &[u8]) -> Look
     };
     let algorithm = kind.algorithm;
     let key = core_key(kind, ring, version_of(sealed_head(t)));
-    if flag_of(algorithm, key, text_part(t)) {
+    let flag = flag_of(algorithm, key, text_part(t));
+    if flag.set {
         return Look {
             number: FLAG_SET,
-            runs: TEXT_RUNS,
+            runs: flag.runs,
         };
     }
     Look {
         number: 0,
-        runs: TEXT_RUNS,
+        runs: flag.runs,
     }
 }
 

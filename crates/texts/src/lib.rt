@@ -4,6 +4,7 @@ mod text;
 
 pub use forms::body_of;
 pub use forms::input_of;
+pub use text::Flag;
 pub use text::Opened;
 pub use text::flag_of;
 pub use text::key10;

@@ -3,6 +3,8 @@ use crate::forms::body_of;
 use crate::forms::failed_of;
 use crate::forms::input_of;
 use crate::forms::or_of;
+use cores::CoreOutput15;
+use cores::CoreOutput16;
 use cores::bl1;
 use cores::bl2;
 use cores::exp4;
@@ -11,6 +13,7 @@ use standard::Version;
 ghost use mathlib.Core.Bool.{not};
 ghost use mathlib.Core.Path.{_≡_};
 ghost use Rattle.standard.specs.Bytes.{bytesOf, xors};
+ghost use Rattle.standard.specs.Runs.{textRuns};
 ghost use Rattle.standard.specs.Seals.{clear, formOf, sealed as sealedOf, opened as openedOf, key10 as key10Of, key16 as key16Of, repeated, without8 as without8Of, with8 as with8Of};
 ghost use Rattle.texts.specs.Steps.{Opened as OpenedOf};
 
@@ -76,27 +79,31 @@ pub fn key16(sealing_key: [u8; 16], version: Version) -> [u8; 16]
     mixed16(sealing_key, bytes_of(version))
 }
 
-// The core's output without its eighth byte: the sealed text.
-pub fn without8(o: [u8; 16]) -> [u8; 15]
-    ensures { λ r. ⌜ r ≡ without8Of o ⌝ }
+// BL1's output without its eighth byte: the sealed text.
+pub fn without8(o: CoreOutput16) -> CoreOutput15
+    ensures { λ r. ⌜ r ≡ record { output = without8Of (o .output); runs = o .runs } ⌝ }
 {
-    [
-        o[0],
-        o[1],
-        o[2],
-        o[3],
-        o[4],
-        o[5],
-        o[6],
-        o[8],
-        o[9],
-        o[10],
-        o[11],
-        o[12],
-        o[13],
-        o[14],
-        o[15],
-    ]
+    let x = o.output;
+    CoreOutput15 {
+        output: [
+            x[0],
+            x[1],
+            x[2],
+            x[3],
+            x[4],
+            x[5],
+            x[6],
+            x[8],
+            x[9],
+            x[10],
+            x[11],
+            x[12],
+            x[13],
+            x[14],
+            x[15],
+        ],
+        runs: o.runs,
+    }
 }
 
 // A sealed text with a zero byte in the eighth place, as BL2 takes it.
@@ -127,7 +134,9 @@ pub fn with8(t: [u8; 15]) -> [u8; 16]
 pub fn seal_body(algorithm: Algorithm, key: [u8; 16], body: [u8; 12]) -> [u8; 15]
     ensures { λ r. ⌜ r ≡ sealedOf (formOf algorithm) key body ⌝ }
 {
-    without8(bl1(key, input_of(algorithm, body)))
+    let o = without8(bl1(key, input_of(algorithm, body)));
+    let text = o.output;
+    text
 }
 
 // The body of a sealed text, and a bit for each of its checks that fails.
@@ -139,16 +148,27 @@ pub struct Opened {
 pub fn open_text(algorithm: Algorithm, key: [u8; 16], text: [u8; 15]) -> Opened
     ensures { λ r. ⌜ OpenedOf (formOf algorithm) (openedOf key text) (r .body) (r .failed) ⌝ }
 {
-    let u = bl2(key, with8(text));
+    let o = bl2(key, with8(text));
+    let u = o.output;
     Opened {
         body: body_of(algorithm, u),
         failed: failed_of(algorithm, u),
     }
 }
 
-// The flag alone.
-pub fn flag_of(algorithm: Algorithm, key: [u8; 16], text: [u8; 15]) -> bool
-    ensures { λ r. ⌜ r ≡ not (clear (formOf algorithm) (openedOf key text)) ⌝ }
+// The flag alone, and the block cipher runs that the unsealing took.
+pub struct Flag {
+    pub set: bool,
+    pub runs: usize,
+}
+
+pub fn flag_of(algorithm: Algorithm, key: [u8; 16], text: [u8; 15]) -> Flag
+    ensures { λ f. ⌜ (f .set ≡ not (clear (formOf algorithm) (openedOf key text))) × (f .runs ≡ textRuns) ⌝ }
 {
-    or_of(algorithm, bl2(key, with8(text))) != 0
+    let o = bl2(key, with8(text));
+    let u = o.output;
+    Flag {
+        set: or_of(algorithm, u) != 0,
+        runs: o.runs,
+    }
 }

@@ -47,8 +47,8 @@ same-length c = search needs
 returns : tie.Need-returns
 returns c =
     let made = c .before .before .before .before .before .before .before .before .split .ensures in
-    let x = c .before .before .before .before .before .before .before .before .before .before .args in
-    let laid : c .before .before .before .before .before .joined .result ≡ recordFrom (x .response-mask) (x .key-mask) (x .o) = c .before .before .before .before .before .joined .ensures ∙ record-made (x .response-mask) (x .key-mask) (x .o) made in
+    let x = c .before .before .before .before .before .before .before .before .before .before .before .args in
+    let laid : c .before .before .before .before .before .joined .result ≡ recordFrom (x .response-mask) (x .key-mask) (x .o .output) = c .before .before .before .before .before .joined .ensures ∙ record-made (x .response-mask) (x .key-mask) (x .o .output) made in
     let long : length (c .before .before .before .before .before .joined .result) ≡ authenticationSize = search needs in
     put-lent authenticationSize (x .i) (now (x .out)) (c .before .before .before .before .before .joined .result) _ (search needs) long (rw long at (c .before .before .copy .ensures))
     ∙ ap (λ (y : List ℕ). putAt authenticationSize (x .i) y (now (x .out))) laid

@@ -1,8 +1,11 @@
 -- `classes::write_four` meets its contract.
 -- Assumes nothing.
-use mathlib.Core.Path.{_∙_}
+use mathlib.Core.List.{List}
+use mathlib.Core.Path.{ap, _∙_}
 use denote.Ref.{now}
 use borrow.Author.Needs.{needs}
+use Rattle.cores.specs.declared.CoreOutput16.{CoreOutput16}
+use Rattle.cores_four.specs.Lanes.{lane16}
 use Rattle.lists.proofs.WalkLaws.{four-put}
 use Rattle.standard.specs.Lists.{recordAt}
 use Rattle.standard.specs.Sizes.{challengeSize, authenticationSize}
@@ -33,7 +36,8 @@ returns c =
     let o = c .before .before .before .before .bl1-four-with .ensures in
     c .before .before .put-four .ensures
     ∙ four-put authenticationSize (x .i) (λ j. recordWith keys rm km (recordAt challengeSize (now (x .challenges)) j)) (now (x .out))
-    (record-by keys rm km _ (y .0) (o .0)) (record-by keys rm km _ (y .1) (o .1)) (record-by keys rm km _ (y .2) (o .2)) (record-by keys rm km _ (y .3) (o .3))
+    (record-by keys rm km _ (y .0) (ap (λ (l : List CoreOutput16). lane16 l 0 .output) o)) (record-by keys rm km _ (y .1) (ap (λ (l : List CoreOutput16). lane16 l 1 .output) o))
+    (record-by keys rm km _ (y .2) (ap (λ (l : List CoreOutput16). lane16 l 2 .output) o)) (record-by keys rm km _ (y .3) (ap (λ (l : List CoreOutput16). lane16 l 3 .output) o))
 
 pub write-four-spec : {M : Type 1} → statement M
 write-four-spec =

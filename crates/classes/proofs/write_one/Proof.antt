@@ -5,6 +5,7 @@ use mathlib.Core.Path.{ap, _∙_}
 use Prim.Native.Nat.{ℕ}
 use denote.Ref.{now}
 use borrow.Author.Needs.{needs}
+use Rattle.cores.specs.declared.CoreOutput16.{CoreOutput16}
 use Rattle.lists.specs.Walks.{putAt}
 use Rattle.standard.specs.Sizes.{authenticationSize}
 use Rattle.classes.proofs.ClassLaws.{record-by}
@@ -28,7 +29,7 @@ returns c =
     let x = c .before .before .before .before .before .before .before .before .args in
     c .before .before .put-at .ensures
     ∙ ap (λ (y : List ℕ). putAt authenticationSize (x .i) y (now (x .out)))
-    (record-by (now (x .keys)) (x .response-mask) (x .key-mask) _ (c .before .before .before .before .before .input-at .ensures) (c .before .before .before .before .bl1-with .ensures))
+    (record-by (now (x .keys)) (x .response-mask) (x .key-mask) _ (c .before .before .before .before .before .input-at .ensures) (ap (λ (o : CoreOutput16). o .output) (c .before .before .before .before .bl1-with .ensures)))
 
 pub write-one-spec : {M : Type 1} → statement M
 write-one-spec =

@@ -1,7 +1,9 @@
 -- `cores::bl1` meets its contract.
 -- Assumes nothing.
+use mathlib.Core.Path.{ap, _∙_}
 use borrow.Author.Needs.{needs}
 use Rattle.cores.proofs.CoreSteps.{bl1-under}
+use Rattle.cores.specs.Steps.{counted16}
 use Rattle.cores.proofs.bl1.Statement.{statement}
 use Rattle.cores.proofs.bl1.Tie as tie
 
@@ -14,7 +16,7 @@ bl1-with-requires c κs = search needs
 returns : tie.Need-returns
 returns c =
     let x = c .before .before .before .args in
-    bl1-under (x .key) (x .x) (c .before .before .schedule .ensures) (c .bl1-with .ensures)
+    c .bl1-with .ensures ∙ ap counted16 (bl1-under (x .key) (x .x) (c .before .before .schedule .ensures))
 
 pub bl1-spec : {M : Type 1} → statement M
 bl1-spec = tie.close (tie.spec schedule-requires bl1-with-requires returns)

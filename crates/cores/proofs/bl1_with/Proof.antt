@@ -1,8 +1,10 @@
 -- `cores::bl1_with` meets its contract.
 -- Assumes nothing.
+use mathlib.Core.Path.{ap, _∙_}
 use denote.Ref.{now}
 use borrow.Author.Needs.{needs}
 use Rattle.cores.proofs.CoreSteps.{bl1-steps}
+use Rattle.cores.specs.Steps.{counted16}
 use Rattle.cores.proofs.bl1_with.Statement.{statement}
 use Rattle.cores.proofs.bl1_with.Tie as tie
 
@@ -26,7 +28,7 @@ returns c =
     let second = c .before in
     let first = second .before .before in
     let x = first .before .before .args in
-    bl1-steps (now (x .keys)) (x .x) (first .before .left .ensures) (first .encrypt-with .ensures) (second .before .chained .ensures) (second .encrypt-with2 .ensures) (c .joined .ensures)
+    c .joined .ensures ∙ ap counted16 (bl1-steps (now (x .keys)) (x .x) (first .before .left .ensures) (first .encrypt-with .ensures) (second .before .chained .ensures) (second .encrypt-with2 .ensures))
 
 pub bl1-with-spec : {M : Type 1} → statement M
 bl1-with-spec =

@@ -1,7 +1,9 @@
 -- `cores::bl2` meets its contract.
 -- Assumes nothing.
+use mathlib.Core.Path.{ap, _∙_}
 use borrow.Author.Needs.{needs}
 use Rattle.cores.proofs.CoreSteps.{bl2-under}
+use Rattle.cores.specs.Steps.{counted15}
 use Rattle.cores.proofs.bl2.Statement.{statement}
 use Rattle.cores.proofs.bl2.Tie as tie
 
@@ -14,7 +16,7 @@ bl2-with-requires c κs = search needs
 returns : tie.Need-returns
 returns c =
     let x = c .before .before .before .args in
-    bl2-under (x .key) (x .y) (c .before .before .schedule .ensures) (c .bl2-with .ensures)
+    c .bl2-with .ensures ∙ ap counted15 (bl2-under (x .key) (x .y) (c .before .before .schedule .ensures))
 
 pub bl2-spec : {M : Type 1} → statement M
 bl2-spec = tie.close (tie.spec schedule-requires bl2-with-requires returns)

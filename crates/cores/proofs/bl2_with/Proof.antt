@@ -1,8 +1,10 @@
 -- `cores::bl2_with` meets its contract.
 -- Assumes nothing.
+use mathlib.Core.Path.{ap, _∙_}
 use denote.Ref.{now}
 use borrow.Author.Needs.{needs}
 use Rattle.cores.proofs.CoreSteps.{bl2-steps}
+use Rattle.cores.specs.Steps.{counted15}
 use Rattle.cores.proofs.bl2_with.Statement.{statement}
 use Rattle.cores.proofs.bl2_with.Tie as tie
 
@@ -26,7 +28,7 @@ returns c =
     let second = c .before in
     let first = second .before .before in
     let x = first .before .before .args in
-    bl2-steps (now (x .keys)) (x .y) (first .before .right .ensures) (first .decrypt-with .ensures) (second .before .mended .ensures) (second .decrypt-with2 .ensures) (c .joined7 .ensures)
+    c .joined7 .ensures ∙ ap counted15 (bl2-steps (now (x .keys)) (x .y) (first .before .right .ensures) (first .decrypt-with .ensures) (second .before .mended .ensures) (second .decrypt-with2 .ensures))
 
 pub bl2-with-spec : {M : Type 1} → statement M
 bl2-with-spec =

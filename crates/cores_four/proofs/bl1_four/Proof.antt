@@ -26,13 +26,8 @@ returns c =
     let third = fourth .before in
     let second = third .before in
     let first = second .before in
-    let out = c .bl1-four-with .ensures in
-    let x = first .before .before .before .before .before .args in (
-      bl1-under (x .k .a) (x .x .a) (first .schedule .ensures) (out .0),
-      bl1-under (x .k .b) (x .x .b) (second .schedule2 .ensures) (out .1),
-      bl1-under (x .k .c) (x .x .c) (third .schedule3 .ensures) (out .2),
-      bl1-under (x .k .d) (x .x .d) (fourth .schedule4 .ensures) (out .3),
-    )
+    let x = first .before .before .before .before .before .args in
+    rw (c .bl1-four-with .ensures, bl1-under (x .k .a) (x .x .a) (first .schedule .ensures), bl1-under (x .k .b) (x .x .b) (second .schedule2 .ensures), bl1-under (x .k .c) (x .x .c) (third .schedule3 .ensures), bl1-under (x .k .d) (x .x .d) (fourth .schedule4 .ensures))
 
 pub bl1-four-spec : {M : Type 1} → statement M
 bl1-four-spec =

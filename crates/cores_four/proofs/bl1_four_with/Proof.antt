@@ -1,8 +1,11 @@
 -- `cores_four::bl1_four_with` meets its contract.
 -- Assumes nothing.
+use mathlib.Core.Path.{_∙_}
 use denote.Ref.{now}
 use borrow.Author.Needs.{needs}
 use Rattle.cores.proofs.CoreSteps.{bl1-steps}
+use Rattle.cores.specs.Steps.{counted16}
+use Rattle.cores_four.proofs.LaneLaws.{four-same}
 use Rattle.cores_four.proofs.bl1_four_with.Statement.{statement}
 use Rattle.cores_four.proofs.bl1_four_with.Tie as tie
 
@@ -29,13 +32,10 @@ returns c =
     let p = first .encrypt4-with .ensures in
     let z = second .before .chains .ensures in
     let q = second .encrypt4-with2 .ensures in
-    let out = c .joins .ensures in
-    let x = first .before .before .args in (
-      bl1-steps (now (x .ka)) (x .x .a) (w .0) (p .0) (z .0) (q .0) (out .0),
-      bl1-steps (now (x .kb)) (x .x .b) (w .1) (p .1) (z .1) (q .1) (out .1),
-      bl1-steps (now (x .kc)) (x .x .c) (w .2) (p .2) (z .2) (q .2) (out .2),
-      bl1-steps (now (x .kd)) (x .x .d) (w .3) (p .3) (z .3) (q .3) (out .3),
-    )
+    let x = first .before .before .args in
+    c .joins .ensures
+    ∙ four-same counted16 (bl1-steps (now (x .ka)) (x .x .a) (w .0) (p .0) (z .0) (q .0)) (bl1-steps (now (x .kb)) (x .x .b) (w .1) (p .1) (z .1) (q .1))
+    (bl1-steps (now (x .kc)) (x .x .c) (w .2) (p .2) (z .2) (q .2)) (bl1-steps (now (x .kd)) (x .x .d) (w .3) (p .3) (z .3) (q .3))
 
 pub bl1-four-with-spec : {M : Type 1} → statement M
 bl1-four-with-spec =

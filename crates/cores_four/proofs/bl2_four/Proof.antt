@@ -26,13 +26,8 @@ returns c =
     let third = fourth .before in
     let second = third .before in
     let first = second .before in
-    let out = c .bl2-four-with .ensures in
-    let x = first .before .before .before .before .before .args in (
-      bl2-under (x .k .a) (x .y .a) (first .schedule .ensures) (out .0),
-      bl2-under (x .k .b) (x .y .b) (second .schedule2 .ensures) (out .1),
-      bl2-under (x .k .c) (x .y .c) (third .schedule3 .ensures) (out .2),
-      bl2-under (x .k .d) (x .y .d) (fourth .schedule4 .ensures) (out .3),
-    )
+    let x = first .before .before .before .before .before .args in
+    rw (c .bl2-four-with .ensures, bl2-under (x .k .a) (x .y .a) (first .schedule .ensures), bl2-under (x .k .b) (x .y .b) (second .schedule2 .ensures), bl2-under (x .k .c) (x .y .c) (third .schedule3 .ensures), bl2-under (x .k .d) (x .y .d) (fourth .schedule4 .ensures))
 
 pub bl2-four-spec : {M : Type 1} → statement M
 bl2-four-spec =

@@ -1,8 +1,11 @@
 -- `cores_four::bl2_four_with` meets its contract.
 -- Assumes nothing.
+use mathlib.Core.Path.{_∙_}
 use denote.Ref.{now}
 use borrow.Author.Needs.{needs}
 use Rattle.cores.proofs.CoreSteps.{bl2-steps}
+use Rattle.cores.specs.Steps.{counted15}
+use Rattle.cores_four.proofs.LaneLaws.{four-same}
 use Rattle.cores_four.proofs.bl2_four_with.Statement.{statement}
 use Rattle.cores_four.proofs.bl2_four_with.Tie as tie
 
@@ -29,13 +32,10 @@ returns c =
     let p = first .decrypt4-with .ensures in
     let z = second .before .mends .ensures in
     let q = second .decrypt4-with2 .ensures in
-    let out = c .joins7 .ensures in
-    let x = first .before .before .args in (
-      bl2-steps (now (x .ka)) (x .y .a) (w .0) (p .0) (z .0) (q .0) (out .0),
-      bl2-steps (now (x .kb)) (x .y .b) (w .1) (p .1) (z .1) (q .1) (out .1),
-      bl2-steps (now (x .kc)) (x .y .c) (w .2) (p .2) (z .2) (q .2) (out .2),
-      bl2-steps (now (x .kd)) (x .y .d) (w .3) (p .3) (z .3) (q .3) (out .3),
-    )
+    let x = first .before .before .args in
+    c .joins7 .ensures
+    ∙ four-same counted15 (bl2-steps (now (x .ka)) (x .y .a) (w .0) (p .0) (z .0) (q .0)) (bl2-steps (now (x .kb)) (x .y .b) (w .1) (p .1) (z .1) (q .1))
+    (bl2-steps (now (x .kc)) (x .y .c) (w .2) (p .2) (z .2) (q .2)) (bl2-steps (now (x .kd)) (x .y .d) (w .3) (p .3) (z .3) (q .3))
 
 pub bl2-four-with-spec : {M : Type 1} → statement M
 bl2-four-with-spec =

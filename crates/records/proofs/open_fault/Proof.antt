@@ -66,8 +66,8 @@ returns-2 c =
     let q : core .core-key .result ≡ form k .key (sealingKey k (now (x .ring))) (part 4 2 t) =
     core .core-key .ensures ∙ rw (core .before .version-of .ensures, core .before .before .sealed-head .ensures, copy .array21 .ensures) in
     let f : not (clear (form k) (opened (core .core-key .result) (part 6 15 t))) ≡ true =
-    sym (rw (flag .before .text-part .ensures, copy .array21 .ensures) at (flag .flag-of .ensures)) ∙ c .if1 .taken in
-    (open-set (now (x .ring)) t k e (core .core-key .result) q f, look-known t k e)
+    sym (rw (flag .before .text-part .ensures, copy .array21 .ensures) at (flag .flag-of .ensures .0)) ∙ c .if1 .taken in
+    (open-set (now (x .ring)) t k e (core .core-key .result) q f, flag .flag-of .ensures .1 ∙ look-known t k e)
 
 returns-3 : tie.Need-returns-3
 returns-3 c =
@@ -83,8 +83,8 @@ returns-3 c =
     let q : core .core-key .result ≡ form k .key (sealingKey k (now (x .ring))) (part 4 2 t) =
     core .core-key .ensures ∙ rw (core .before .version-of .ensures, core .before .before .sealed-head .ensures, copy .array21 .ensures) in
     let f : not (clear (form k) (opened (core .core-key .result) (part 6 15 t))) ≡ false =
-    sym (rw (flag .before .text-part .ensures, copy .array21 .ensures) at (flag .flag-of .ensures)) ∙ c .if1 .left in
-    (open-clear (now (x .ring)) t k e (core .core-key .result) q f, look-known t k e)
+    sym (rw (flag .before .text-part .ensures, copy .array21 .ensures) at (flag .flag-of .ensures .0)) ∙ c .if1 .left in
+    (open-clear (now (x .ring)) t k e (core .core-key .result) q f, flag .flag-of .ensures .1 ∙ look-known t k e)
 
 pub open-fault-spec : {M : Type 1} → statement M
 open-fault-spec =

@@ -7,6 +7,7 @@ use denote.Ref.{now}
 use borrow.Author.Needs.{needs}
 use Rattle.books.proofs.WayLaws.{converted-by}
 use Rattle.books.specs.Steps.{toOf}
+use Rattle.cores.specs.declared.CoreOutput15.{CoreOutput15}
 use Rattle.lists.specs.Walks.{putAt}
 use Rattle.books.proofs.convert.convert_one.Statement.{statement}
 use Rattle.books.proofs.convert.convert_one.Tie as tie
@@ -27,8 +28,11 @@ returns : tie.Need-returns
 returns c =
     let x = c .before .before .before .before .before .before .before .before .before .before .args in
     let task = c .before .before .before .before .before .before .before .task-at .ensures in
-    c .before .before .put-at .ensures
-    ∙ ap (λ (y : List ℕ). putAt (toOf (x .way)) (x .i) y (now (x .out))) (converted-by (x .way) (now (x .ring)) (x .strings) _ (task .0) (task .1) (c .before .before .before .before .core .ensures))
+    let core = c .before .before .before .before .core .ensures in (
+      c .before .before .put-at .ensures
+          ∙ ap (λ (y : List ℕ). putAt (toOf (x .way)) (x .i) y (now (x .out))) (converted-by (x .way) (now (x .ring)) (x .strings) _ (task .0) (task .1) (ap (λ (o : CoreOutput15). o .output) core)),
+      ap (λ (o : CoreOutput15). o .runs) core,
+    )
 
 pub convert-one-spec : {M : Type 1} → statement M
 convert-one-spec =

@@ -22,9 +22,7 @@ bl2-four-requires c κs = search needs
 
 returns : tie.Need-returns
 returns c =
-    let o = c .before .bl1-four .ensures in
-    let t = c .without8-each .ensures in
-    rw (c .before .before .enum-told .given .1) (t .0 ∙ rw (o .0), t .1 ∙ rw (o .1), t .2 ∙ rw (o .2), t .3 ∙ rw (o .3))
+    rw (c .before .before .enum-told .given .1) (c .without8-each .ensures ∙ rw (c .before .bl1-four .ensures))
 
 returns-2 : tie.Need-returns-2
 returns-2 c = rw (c .before .enum-told2 .given .1) (c .bl2-four .ensures)

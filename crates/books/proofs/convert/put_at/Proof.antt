@@ -33,7 +33,7 @@ mul-b : tie.Need-mul-b
 mul-b c = omega (arith, fits (toOf (c .before .before .before .before .args .way)) (c .before .before .before .before .args .i) (c .before .before .before .before .args .n) (c .to .result) _ (c .to .ensures) (c .before .before .before .before .pre .0) (c .before .before .before .before .pre .2))
 
 add-put : tie.Need-add-put
-add-put c = omega (arith, fits (sizeOf (c .before .before .before .before .args .way)) (c .before .before .before .before .args .i) (c .before .before .before .before .args .n) (c .before .size .result) _ (c .before .size .ensures) (c .before .before .before .before .pre .0) (c .before .before .before .before .pre .1))
+add-put c = omega (arith, fits (sizeOf (c .before .before .before .before .before .args .way)) (c .before .before .before .before .before .args .i) (c .before .before .before .before .before .args .n) (c .before .before .size .result) _ (c .before .before .size .ensures) (c .before .before .before .before .before .pre .0) (c .before .before .before .before .before .pre .1))
 
 sub-put : tie.Need-sub-put
 sub-put c = search needs
@@ -42,10 +42,10 @@ part-put-start : tie.Need-part-put-start
 part-put-start c = search needs
 
 part-put-end : tie.Need-part-put-end
-part-put-end c = omega (arith, fits (sizeOf (c .before .before .before .before .args .way)) (c .before .before .before .before .args .i) (c .before .before .before .before .args .n) (c .before .size .result) _ (c .before .size .ensures) (c .before .before .before .before .pre .0) (c .before .before .before .before .pre .1))
+part-put-end c = omega (arith, fits (sizeOf (c .before .before .before .before .before .args .way)) (c .before .before .before .before .before .args .i) (c .before .before .before .before .before .args .n) (c .before .before .size .result) _ (c .before .before .size .ensures) (c .before .before .before .before .before .pre .0) (c .before .before .before .before .before .pre .1))
 
 add-put-2 : tie.Need-add-put-2
-add-put-2 c = omega (arith, fits (toOf (c .before .before .before .before .before .args .way)) (c .before .before .before .before .before .args .i) (c .before .before .before .before .before .args .n) (c .before .to .result) _ (c .before .to .ensures) (c .before .before .before .before .before .pre .0) (c .before .before .before .before .before .pre .2))
+add-put-2 c = omega (arith, fits (toOf (c .before .before .before .before .before .before .args .way)) (c .before .before .before .before .before .before .args .i) (c .before .before .before .before .before .before .args .n) (c .before .before .to .result) _ (c .before .before .to .ensures) (c .before .before .before .before .before .before .pre .0) (c .before .before .before .before .before .before .pre .2))
 
 sub-put-2 : tie.Need-sub-put-2
 sub-put-2 c = search needs
@@ -54,7 +54,7 @@ part-put-start-2 : tie.Need-part-put-start-2
 part-put-start-2 c = search needs
 
 part-put-end-2 : tie.Need-part-put-end-2
-part-put-end-2 c = omega (arith, fits (toOf (c .before .before .before .before .before .args .way)) (c .before .before .before .before .before .args .i) (c .before .before .before .before .before .args .n) (c .before .to .result) _ (c .before .to .ensures) (c .before .before .before .before .before .pre .0) (c .before .before .before .before .before .pre .2))
+part-put-end-2 c = omega (arith, fits (toOf (c .before .before .before .before .before .before .args .way)) (c .before .before .before .before .before .before .args .i) (c .before .before .before .before .before .before .args .n) (c .before .before .to .result) _ (c .before .before .to .ensures) (c .before .before .before .before .before .before .pre .0) (c .before .before .before .before .before .before .pre .2))
 
 put-requires : tie.Need-put-requires
 put-requires c κs = search needs
@@ -64,18 +64,18 @@ same-length c = search needs
 
 returns : tie.Need-returns
 returns c =
-    let to = c .before .before .before .before .before .to in
-    let size = c .before .before .before .before .before .before .size in
-    let start = c .before .before .before .before .before .before .before .before .before in
+    let to = c .before .before .before .before .before .before .to in
+    let size = c .before .before .before .before .before .before .before .size in
+    let start = c .before .before .before .before .before .before .before .before .before .before in
     let x = start .args in
     let w = x .way in
     let book = now (x .book) in
     let i = x .i in
     let room = fits (sizeOf w) i (x .n) (size .result) _ (size .ensures) (start .pre .0) (start .pre .1) in
     let part : _ ≡ recordAt (sizeOf w) book i = lent (size .result) i book room ∙ ap (λ (k : ℕ). recordAt k book i) (size .ensures) in
-    put-lent (to .result) i (now (x .out)) (madeOf w (x .strings) _ (x .o)) _ (fits (toOf w) i (x .n) (to .result) _ (to .ensures) (start .pre .0) (start .pre .2))
-    (made-length w (x .strings) _ (x .o) ∙ sym (to .ensures)) (rw (← to .ensures) at (c .before .before .put .ensures))
-    ∙ ap₂ (λ (v : ℕ) (y : List ℕ). putAt v i (madeOf w (x .strings) y (x .o)) (now (x .out))) (to .ensures) part
+    put-lent (to .result) i (now (x .out)) (madeOf w (x .strings) _ (x .o .output)) _ (fits (toOf w) i (x .n) (to .result) _ (to .ensures) (start .pre .0) (start .pre .2))
+    (made-length w (x .strings) _ (x .o .output) ∙ sym (to .ensures)) (rw (← to .ensures) at (c .before .before .put .ensures))
+    ∙ ap₂ (λ (v : ℕ) (y : List ℕ). putAt v i (madeOf w (x .strings) y (x .o .output)) (now (x .out))) (to .ensures) part
 
 pub put-at-spec : {M : Type 1} → statement M
 put-at-spec =

@@ -11,9 +11,15 @@ use borrow.Author.Needs.{needs}
 use borrow.Author.Tests.{ne-eqb}
 use Rattle.books.proofs.WayLaws.{converted-is, runs-fit}
 use Rattle.books.specs.Steps.{sizeOf, toOf, convertOf}
+use Rattle.identity.specs.declared.IdentityStrings.{IdentityStrings}
 use Rattle.standard.specs.Lists.{each}
+use Rattle.standard.specs.Runs.{identityRuns}
 use Rattle.books.proofs.walk.write.Statement.{statement}
 use Rattle.books.proofs.walk.write.Tie as tie
+
+-- what the identity strings answer
+one-run : {s : IdentityStrings} {b : List ℕ} → s ≡ record { bytes = b; runs = identityRuns } → s .runs ≡ identityRuns
+one-run e = ap (λ (s : IdentityStrings). s .runs) e
 
 returns : tie.Need-returns
 returns c = rw (c .if1 .taken, mul-zero) (refl, refl)
@@ -22,25 +28,27 @@ strings-of-requires : tie.Need-strings-of-requires
 strings-of-requires c κs = search needs
 
 write-with-requires : tie.Need-write-with-requires
-write-with-requires c κs = c .before .before .before .before .before .pre
+write-with-requires c κs = c .before .before .before .before .before .before .pre
 
 add-result : tie.Need-add-result
 add-result c =
-    let start = c .before .before .before .before .before .before .before .before in
-    omega (arith, c .before .before .write-with .ensures .1, runs-fit (start .args .way) (start .args .n) _ (start .pre .0), start .good)
+    let wrote = c .before .before .before in
+    let start = wrote .before .before .before .before .before .before .before in
+    omega (arith, one-run (wrote .before .before .before .strings-of .ensures), wrote .write-with .ensures .1, runs-fit (start .args .way) (start .args .n) _ (start .pre .0), start .good)
 
 same-length : tie.Need-same-length
 same-length c = search needs
 
 returns-2 : tie.Need-returns-2
 returns-2 c =
-    let x = c .before .before .before .before .before .before .before .before .args in
-    let wrote = c .before .before .write-with .ensures in (
-      wrote .0
+    let wrote = c .before .before .before in
+    let made = wrote .before .before .before in
+    let x = made .before .before .before .before .args in (
+      wrote .write-with .ensures .0
           ∙ ap (λ (l : List ℕ). l ++ drop (toOf (x .way) * x .n) (now (x .out)))
-          (ap (λ (b : List ℕ). each (x .n) (sizeOf (x .way)) (convertOf (now (x .ring)) b (x .way)) (now (x .book))) (c .before .before .before .before .strings-of .ensures)
+          (ap (λ (s : IdentityStrings). each (x .n) (sizeOf (x .way)) (convertOf (now (x .ring)) (s .bytes) (x .way)) (now (x .book))) (made .strings-of .ensures)
           ∙ converted-is (now (x .ring)) (x .way) (x .n) (now (x .book))),
-      rw (ne-eqb _ _ (c .before .before .before .before .before .if1 .left)) (omega (arith, wrote .1)),
+      rw (ne-eqb _ _ (made .before .if1 .left)) (omega (arith, one-run (made .strings-of .ensures), wrote .write-with .ensures .1)),
     )
 
 pub write-spec : {M : Type 1} → statement M

@@ -44,13 +44,10 @@ convert-four-requires c κs =
     let at = c .before .before .loop in
     (omega (arith, at .inv .0, c .before .loop-test .taken), start .pre .0, omega (arith, start .pre .1, at .inv .1 .kept))
 
-mul-runs : tie.Need-mul-runs Inv-loop μ-loop Inv-loop2 μ-loop2
-mul-runs c = omega arith
-
 add-runs : tie.Need-add-runs Inv-loop μ-loop Inv-loop2 μ-loop2
 add-runs c =
     let start = c .before .before .before .before .before .before .before .before in
-    omega (arith, c .before .before .before .before .before .loop .inv .2, c .before .before .before .before .loop-test .taken, runs-fit (start .args .way) (start .args .n) _ (start .pre .0), start .good)
+    omega (arith, c .before .before .convert-four .ensures .1, c .before .before .before .before .before .loop .inv .2, c .before .before .before .before .loop-test .taken, runs-fit (start .args .way) (start .args .n) _ (start .pre .0), start .good)
 
 add-i : tie.Need-add-i Inv-loop μ-loop Inv-loop2 μ-loop2
 add-i c = omega (arith, c .before .before .before .before .before .loop .inv .0, c .before .before .before .before .loop-test .taken)
@@ -67,8 +64,8 @@ loop-again c =
     let few : at .i + 4 ≤ x .n = omega (arith, at .inv .0, c .before .before .before .before .loop-test .taken) in (
       few,
       wrote-four (sizeOf w) (toOf w) (convertOf (now (x .ring)) (x .strings) w) (converted-length (now (x .ring)) (x .strings) w) (now (x .book)) (now (x .out)) (at .i) (x .n) few (start .pre .1)
-          (at .out) (at .inv .1) (c .before .before .convert-four .ensures),
-      omega (arith, at .inv .2),
+          (at .out) (at .inv .1) (c .before .before .convert-four .ensures .0),
+      omega (arith, at .inv .2, c .before .before .convert-four .ensures .1),
     )
 
 loop2-holds : tie.Need-loop2-holds Inv-loop μ-loop Inv-loop2 μ-loop2
@@ -83,7 +80,7 @@ convert-one-requires c κs =
 add-runs-2 : tie.Need-add-runs-2 Inv-loop μ-loop Inv-loop2 μ-loop2
 add-runs-2 c =
     let start = c .before .before .before .before .before .before .before .before .before .before in
-    omega (arith, c .before .before .before .before .before .loop2 .inv .2, c .before .before .before .before .loop2-test .taken, runs-fit (start .args .way) (start .args .n) _ (start .pre .0), start .good)
+    omega (arith, c .before .before .convert-one .ensures .1, c .before .before .before .before .before .loop2 .inv .2, c .before .before .before .before .loop2-test .taken, runs-fit (start .args .way) (start .args .n) _ (start .pre .0), start .good)
 
 add-i-2 : tie.Need-add-i-2 Inv-loop μ-loop Inv-loop2 μ-loop2
 add-i-2 c = omega (arith, c .before .before .before .before .before .loop2 .inv .0, c .before .before .before .before .loop2-test .taken)
@@ -102,8 +99,8 @@ loop2-again c =
       omega (arith, one),
       λ o h.
           wrote-one (sizeOf w) (toOf w) (convertOf (now (x .ring)) (x .strings) w) (converted-length (now (x .ring)) (x .strings) w) (now (x .book)) o (at .i) (x .n) one
-          (omega (arith, start .pre .1, kept, h .kept)) (at .out) (at .inv .1 o h) (c .before .before .convert-one .ensures),
-      omega (arith, at .inv .2),
+          (omega (arith, start .pre .1, kept, h .kept)) (at .out) (at .inv .1 o h) (c .before .before .convert-one .ensures .0),
+      omega (arith, at .inv .2, c .before .before .convert-one .ensures .1),
     )
 
 same-length : tie.Need-same-length Inv-loop μ-loop Inv-loop2 μ-loop2
@@ -128,7 +125,6 @@ write-with-spec =
     loop-holds
     sub-loop
     convert-four-requires
-    mul-runs
     add-runs
     add-i
     loop-less

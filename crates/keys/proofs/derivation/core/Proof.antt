@@ -11,7 +11,7 @@ bl1-requires : tie.Need-bl1-requires
 bl1-requires c κs = search needs
 
 returns : tie.Need-returns
-returns c = rw (c .bl1 .ensures, c .before .exp2 .ensures)
+returns c = rw (c .before .bl1 .ensures, c .before .before .exp2 .ensures)
 
 pub core-spec : {M : Type 1} → statement M
 core-spec = tie.close (tie.spec exp2-requires bl1-requires returns)

@@ -1,7 +1,7 @@
 -- `texts::text::flag_of` meets its contract.
 -- Assumes nothing.
 use mathlib.Core.Bool.{not}
-use mathlib.Core.Path.{ap}
+use mathlib.Core.Path.{refl, ap}
 use borrow.Author.Needs.{needs}
 use Rattle.standard.proofs.CheckLaws.{or-clear}
 use Rattle.standard.specs.Seals.{opened}
@@ -20,8 +20,9 @@ or-of-requires c κs = search needs
 returns : tie.Need-returns
 unfolding opened
 returns c =
-    rw (c .or-of .ensures, c .before .bl2 .ensures, c .before .before .with8 .ensures)
-    (ap not (or-clear (c .before .before .before .args .algorithm) _))
+    let made = c .before .before in
+    rw (c .or-of .ensures, made .bl2 .ensures, made .before .with8 .ensures)
+    (ap not (or-clear (made .before .before .args .algorithm) _), refl)
 
 pub flag-of-spec : {M : Type 1} → statement M
 flag-of-spec = tie.close (tie.spec with8-requires bl2-requires or-of-requires returns)

@@ -20,7 +20,7 @@ failed-of-requires c κs = search needs
 returns : tie.Need-returns
 unfolding opened
 returns c =
-    let made = c .before .before in
+    let made = c .before .before .before in
     record {
       is = rw (c .before .body-of .ensures, made .bl2 .ensures, made .before .with8 .ensures);
       told = rw (c .failed-of .ensures, made .bl2 .ensures, made .before .with8 .ensures);

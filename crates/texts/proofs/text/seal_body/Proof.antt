@@ -16,7 +16,9 @@ without8-requires c κs = search needs
 
 returns : tie.Need-returns
 unfolding sealed
-returns c = rw (c .without8 .ensures, c .before .bl1 .ensures, c .before .before .input-of .ensures)
+returns c =
+    let made = c .before in
+    rw (made .without8 .ensures, made .before .bl1 .ensures, made .before .before .input-of .ensures)
 
 pub seal-body-spec : {M : Type 1} → statement M
 seal-body-spec = tie.close (tie.spec input-of-requires bl1-requires without8-requires returns)
