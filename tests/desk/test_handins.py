@@ -11,7 +11,7 @@ import unittest
 from typing import Any
 
 import planted
-from common import CLASS, DESK, PLAIN_BOOK, SITTING, Case, here, seal
+from common import CLASS, DESK, ENTRIES, PLAIN_BOOK, SITTING, Case, here, seal
 from taa1.engine import Sitting
 from taa1.files import MOST_BYTES
 from taa1.forms import FORMS
@@ -125,6 +125,10 @@ FIXED = {  # what the tools print of it, where they are not installed
 # Hand-ins that are not certain: what is said, and the form that marks it all the same.
 WANTED = ", where a sealed one is wanted (mark --opened marks what was opened)"
 DAMAGED = "this looks like a book that was damaged when it was copied"
+ANOTHER = (
+    "this looks like another sitting's book, or one worked by a wrong cipher: no entry and no "
+    "identity is the model's, though kinds and versions are"
+)
 STRANGE: dict[str, tuple[bytes, str, str]] = {
     "empty": (b"", "the file is empty", "bytes"),
     "blank": (b"\n \n", "the file is empty", "bytes"),
@@ -141,15 +145,12 @@ STRANGE: dict[str, tuple[bytes, str, str]] = {
         "bytes",
     ),
     "another sitting's": (
-        seal(OTHER),
+        seal(OTHER, b"".join(entry._replace(version=entry.version ^ 0x5A5A).data for entry in ENTRIES)),
         "this looks like another sitting's book: no entry and no identity is the model's",
         "bytes",
     ),
-    "another sitting's in digits": (
-        seal(OTHER).hex().encode(),
-        "this looks like another sitting's book: no entry and no identity is the model's",
-        "hex",
-    ),
+    "another sitting's, of the same entries": (seal(OTHER), ANOTHER, "bytes"),
+    "another sitting's in digits": (seal(OTHER).hex().encode(), ANOTHER, "hex"),
     "noise": (
         bytes(range(100, 226)),
         "this looks like no sealed book: 0 of 6 records begin with a kind",
@@ -199,7 +200,7 @@ STRANGE: dict[str, tuple[bytes, str, str]] = {
     ),
     "another sitting's dump": (
         dumped("od", "-tx1", data=seal(OTHER)),
-        "this looks like another sitting's book: no entry and no identity is the model's",
+        ANOTHER,
         "dump",
     ),
 }

@@ -246,7 +246,12 @@ class Reader:
             return f"this looks like no sealed book: {length}, where a record has {SEALED}"
         if 2 * kinds < size:
             return f"this looks like no sealed book: {kinds} of {size} records begin with a kind"
-        return "this looks like another sitting's book: no entry and no identity is the model's"
+        heads = Counter((e.opened.kind, e.opened.version) for e in sheet.entries if e.opened)
+        said = "no entry and no identity is the model's"
+        if heads == Counter((entry.kind, entry.version) for entry in self.marker.entries):
+            other = "another sitting's book, or one worked by a wrong cipher"
+            return f"this looks like {other}: {said}, though kinds and versions are"
+        return f"this looks like another sitting's book: {said}"
 
     def _is_shared(self, entry: Marked) -> bool:
         """Whether an entry, an identity or a key is the model's, or a slip explains it."""
