@@ -37,6 +37,7 @@ def _make(folder: Path) -> None:
     for name, data in books.items():
         (folder / f"{name}.book").write_bytes(data)
     (folder / "names").write_text("dee = Deirdre Featherstonehaugh-Cholmondeley of Wotton\n")
+    (folder / "ben.keys").write_bytes((CLASS / "ben.keys").read_bytes())
     hand_ins = sorted(folder.glob("*.book"))
     sealed, opened = folder / "sealed", folder / "gil.txt"
     sealed.write_bytes(seal())

@@ -100,8 +100,10 @@ class Pages(Case):
         self.assertEqual(index.links, names[:-1])
         words = "6 candidates: 1 all right, 3 do not open, 0 not marked. Points: mean 11.25, median 10.5"
         self.assertIn(f"{words} of 12 to 24.", index.texts)
-        for word in ("RS for RSO", "kind 2 for kind 5", "kind 1, CCK under D (DCK): redundancy byte 0"):
+        for word in ("RS for RSO", "opens; kind 2 for kind 5", "three zero bits"):
             self.assertIn(word, index.texts)
+        at = index.texts.index("3, GCK under O (KSO)", index.texts.index("three zero bits"))
+        self.assertEqual(index.texts[at + 1 : at + 7], ["3", "3", "3", "-", "-", "-"])
         for name in names[:-1]:
             page = Page(pages / name)
             self.assertEqual(page.links, ["index.html"])
@@ -150,6 +152,14 @@ class Pages(Case):
             self.assertIn(words, page.texts)
         self.assertEqual(page.texts[page.texts.index("sum, of 24") + 1], "18 1/2")
         self.assertEqual((page.marked["b"][0], page.marked["u"][0]), ("9742 399d", "3eaf 8e4f"))
+
+    def test_missing(self) -> None:
+        """Entries that are missing are shown as they are wanted."""
+        book = self.file("short.book", (CLASS / "ann.book").read_bytes()[: 11 * SEALED])
+        page = Page(self.mark(book) / "short.book.html")
+        last = split((CLASS / "ann.book").read_bytes(), SEALED)[11]
+        self.assertIn("What is missing", page.texts)
+        self.assertIn(grouped(last[6:]), page.texts)
 
     def test_opened(self) -> None:
         """A page of what was opened has the plain fields."""

@@ -3,7 +3,7 @@
 from __future__ import annotations
 
 from collections import Counter
-from typing import Iterable, Sequence
+from typing import Iterable, Optional, Sequence
 
 from .mark import Sheet, Wanted
 from .names import sealing
@@ -18,8 +18,11 @@ from .sheets import Summary, class_numbers, opening, reason, spans
 MOST_ENTRIES = 40  # in the picture of the entries
 
 PLACES = """
-.pictured th:nth-child(2), .pictured td:nth-child(2) { width: 34%; }
+.pictured th:nth-child(2), .pictured td:nth-child(2) { width: 32%; }
+.candidates td:first-child { width: 16%; }
 @media screen and (max-width: 40em) {
+  .candidates td:first-child { width: auto; }
+  .wide td.number { display: inline-block; padding-right: .8em; }
   .pictured td:nth-child(2) { width: auto; }
   .pictured td:nth-child(2)::before { content: none; }
 }
@@ -33,15 +36,15 @@ def _candidates(sheets: Sequence[Sheet], links: Sequence[str]) -> Html:
     rows = []
     for sheet, of, link in zip(sheets, counted, links):
         picture = bar([Part(name, count) for name, count in zip(COUNTED, of)], most)
-        said = f"not marked: {reason(sheet)}" if sheet.problem else opening(sheet, brief=True)
-        slips = "; ".join(slip.name for slip in sheet.slips)
+        book = f"not marked: {reason(sheet)}" if sheet.problem else opening(sheet, brief=True)
+        found = "; ".join([book, *(slip.name for slip in sheet.slips)])
         name = text("a", sheet.candidate, href=link)
         right = None if sheet.problem else of.right
         points = (sheet.points.sum, sheet.points.most) if sheet.points else (None, None)
         marked = (Number(points_said(each)) if each is not None else None for each in points)
-        rows.append((name, picture, right, *marked, said, slips))
-    heads = ("candidate", "entries", "right", "points", "of", "book", "slips")
-    return table(heads, rows, "pictured")
+        rows.append((name, picture, right, *marked, found))
+    heads = ("candidate", "entries", "right", "points", "of", "book and slips")
+    return table(heads, rows, "pictured candidates")
 
 
 def _entries(sheets: Sequence[Sheet], wanted: Wanted) -> Iterable[str]:
@@ -65,22 +68,30 @@ def _entries(sheets: Sequence[Sheet], wanted: Wanted) -> Iterable[str]:
         yield text("p", f"Right in every book that was marked: entries {spans(never)}.")
 
 
-def _counted(
-    heads: Sequence[str], rows: Sequence[tuple[str, int, str]], filling: str, most: int
-) -> Html:
-    """Rows of a name, a bar with its number, and something more."""
-    pictured = [
-        (name, bar([Part(filling, count)], most), count, more)[: len(heads)]
-        for name, count, more in rows
+def _slips(sheets: Sequence[Sheet], of: Summary) -> Html:
+    """The slips, the commonest first."""
+    steps = {slip.name: at_step(slip) for sheet in sheets for slip in sheet.slips}
+    rows = [
+        (name, bar([Part(WRONG, count)], of.candidates), count, steps[name])
+        for name, count in of.slips
     ]
-    return table(heads, pictured, "pictured") if rows else text("p", "None.")
+    heads = ("slip", "candidates", "number", "step")
+    return table(heads, rows, "pictured") if rows else text("p", "None.")
 
 
-def _check(kind: int, check: int) -> str:
-    """A check of a kind's redundancy in words."""
-    zero_bits = KINDS[kind].number == 1 and check == KINDS[kind].checks - 1
-    what = "the three zero bits" if zero_bits else f"redundancy byte {check}"
-    return f"kind {kind}, {sealing(kind)}: {what}"
+def _checks(of: Summary) -> Html:
+    """How many entries of each kind fail each check of the redundancy."""
+    failing = {(kind, check): count for kind, check, count in of.checks}
+    most = max(shape.checks for shape in KINDS.values())
+    rows = []
+    for kind in sorted({kind for kind, _ in failing}):
+        zero_bits = KINDS[kind].number == 1
+        counts: list[Optional[int]] = [failing.get((kind, at), 0) for at in range(KINDS[kind].checks)]
+        last = counts.pop() if zero_bits else None
+        counts += [None] * (most - len(counts))
+        rows.append((f"{kind}, {sealing(kind)}", *counts, last))
+    heads = ("kind", *(f"byte {at}" for at in range(most)), "three zero bits")
+    return table(heads, rows, "checks") if rows else text("p", "None.")
 
 
 def class_page(
@@ -103,10 +114,6 @@ def class_page(
         numbers += f" Points: {said} of {' to '.join(map(decimal, points.most))}."
         histogram_ = histogram(points.values, points.most[-1], means)
         pictured = [tag("section", tag("h2", "Points, and how many candidates have them") + histogram_)]
-    checks = [(_check(kind, check), count, "") for kind, check, count in of.checks]
-    most = max((count for _, _, count in of.checks), default=1)
-    steps = {slip.name: at_step(slip) for sheet in sheets for slip in sheet.slips}
-    slips = [(name, count, steps[name]) for name, count in of.slips]
     return page(
         "The class",
         fillings(),
@@ -119,9 +126,9 @@ def class_page(
         legend((WRONG, FAILS, MISSING)),
         *_entries(sheets, wanted),
         tag("h2", "Slips, by how many candidates made them"),
-        _counted(("slip", "candidates", "number", "step"), slips, WRONG, of.candidates),
-        tag("h2", "Checks of the redundancy, by how many entries fail them"),
-        _counted(("check", "entries", "number"), checks, FAILS, most),
+        _slips(sheets, of),
+        tag("h2", "Checks of the redundancy, and how many entries fail them"),
+        _checks(of),
         above=heading,
         style=RESULT + STYLE + PLACES,
     )

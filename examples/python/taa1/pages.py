@@ -253,6 +253,20 @@ def _entries(sheet: Sheet, wanted: Wanted) -> Html:
     return table(("entry", *model_head, "kind", "by", "result"), rows, "entries")
 
 
+def _missing(sheet: Sheet, wanted: Wanted) -> Html:
+    """The entries that are missing, as they are wanted."""
+    rows = []
+    for at in sheet.missing:
+        plain = wanted.plain[at]
+        made = plain_fields(plain, plain)
+        if wanted.sealed:
+            made = sealed_fields(wanted.sealed[at], wanted.sealed[at])
+        kind = f"{plain.kind}, {sealing(plain.kind)} by {_algorithm(plain.kind, wanted)}"
+        rows.append((at, kind, *(field.wants for field in made[1:4])))
+    name, text_ = ("encrypted identity", "text") if wanted.sealed else ("identity", "key")
+    return table(("entry", "kind", both(name), "version", text_), rows)
+
+
 def sheet_page(sheet: Sheet, wanted: Wanted, heading: str, class_page: str) -> str:
     """A candidate's page: the result, what explains it, each entry, and where to sign."""
     file = os.path.basename(sheet.name)
@@ -272,6 +286,8 @@ def sheet_page(sheet: Sheet, wanted: Wanted, heading: str, class_page: str) -> s
     if wrong:
         parts.append(tag("h2", "What was handed in beside what was wanted"))
         parts += [_entry_section(entry, wanted, sheet.slips) for entry in wrong]
+    if sheet.missing and not sheet.problem:
+        parts += [tag("h2", "What is missing"), _missing(sheet, wanted)]
     signature = fields(("Remarks", "Marked by", "Date", "Signature"))
     parts.append(tag("div", signature, class_="sign"))
     parts.append(tag("p", text("a", "The class", href=class_page), class_="link"))
