@@ -7,8 +7,9 @@ import io
 import json
 import re
 from fractions import Fraction
+from typing import Any
 
-from common import CLASS, PLAIN_BOOK, Case, seal, taa1
+from common import CLASS, PLAIN_BOOK, ROOT, Case, seal, taa1
 from taa1 import pictures
 from taa1.records import PLAIN, SEALED, Entry, split
 from taa1.results import COUNTED
@@ -84,6 +85,25 @@ class Class(Case):
         )  # fmt: skip
         self.assertEqual(said["class"]["points"], {"mean": "83/8", "median": "11"})
         self.fails(2, "mark: --csv or --json, not both", "mark", *INPUTS, *self.books, "--csv", "--json")
+
+    def test_described(self) -> None:
+        """docs/desk.md has every key of the JSON, and every head of the table."""
+        page = (ROOT / "docs" / "desk.md").read_text()
+        described = page[page.index("`--json` is for programs") : page.index("## In class")]
+        keys: set[str] = set()
+
+        def walk(value: Any) -> None:
+            for each in value.values() if isinstance(value, dict) else value:
+                if isinstance(each, (dict, list)):
+                    walk(each)
+            keys.update(value if isinstance(value, dict) else ())
+
+        walk(json.loads(taa1("mark", *INPUTS, *self.books, *CLASS.glob("*.book"), "--json").out))
+        sealed = self.file("sealed", seal())
+        opened = taa1("mark", "--opened", INPUTS[0], sealed, CLASS / "gus.opened", "--json")
+        walk(json.loads(opened.out))
+        self.assertGreater(len(keys), 50)
+        self.assertEqual([key for key in sorted(keys) if f"`{key}`" not in described], [])
 
     def test_bars(self) -> None:
         """Each part of a candidate's bar is as wide as it has entries."""
