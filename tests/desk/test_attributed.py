@@ -166,7 +166,8 @@ class KeyFiles(unittest.TestCase):
         slips = {said.KEYS.get(name) or said.SEALING.get(name) for name in file.slips} - {None}
         self.assertLessEqual(slips, named(sheet))
         for slip in sheet.slips:
-            self.assertEqual(slip.own, file.slips[0].endswith("-digit") or slip.name.startswith("key 1"))
+            own = file.slips[0].endswith("-digit") or slip.name.startswith("key 1")
+            self.assertEqual(slip.own, own)
 
 
 class OpenedBooks(unittest.TestCase):

@@ -34,7 +34,8 @@ class Files(unittest.TestCase):
         """Both sets of names, in any writing."""
         for name in KEYS:
             for written in (name, name.upper(), name.replace(" ", "_"), name.replace(" ", "")):
-                self.assertEqual(parse(f"{written}: 0x{VALUES[name].hex(' ')}"), ({name: VALUES[name]}, ()))
+                read = parse(f"{written}: 0x{VALUES[name].hex(' ')}")
+                self.assertEqual(read, ({name: VALUES[name]}, ()))
         fields = parse("KS = 00\nKS' = 01\nRES1 = 02\nDCK1 = 03\nDCK = 04\nKSO = 05\nEGSKO = 06\n")
         names = ["session key 1", "session key 2", "response 1", "key 1", "D", "O", "G"]
         self.assertEqual((list(fields.values), fields.problems), (names, ()))
@@ -103,7 +104,8 @@ class Schemes(unittest.TestCase):
             parse_scheme("order = 1\norder = 2", "scheme")
 
     def test_written(self) -> None:
-        for value, words in (("0", "0"), ("27/2", "13 1/2"), ("1/3", "1/3"), ("-1", "-1"), ("-3/2", "-1 1/2")):
+        written = {"0": "0", "27/2": "13 1/2", "1/3": "1/3", "-1": "-1", "-3/2": "-1 1/2"}
+        for value, words in written.items():
             self.assertEqual(said(Fraction(value)), words)
 
     def test_thirds(self) -> None:
@@ -116,8 +118,9 @@ class Schemes(unittest.TestCase):
         self.assertEqual(points([*MODEL, MODEL[0]]).sum, 11)
         noise = [record[:6] + bytes([i]) * 15 for i in range(3) for record in MODEL]
         tried = points([*MODEL, *noise])
-        self.assertEqual((tried.of("entries right"), tried.of("extra records"), tried.sum), (12, -36, 0))
-        few = points([*noise[:6], *noise[12:18]])  # six entries, twice tried: no more records than 12
+        self.assertEqual((tried.of("entries right"), tried.of("extra records")), (12, -36))
+        self.assertEqual(tried.sum, 0)
+        few = points([*noise[:6], *noise[12:18]])  # six entries tried twice: 12 records
         self.assertEqual(few.of("extra records"), -6)
         self.assertEqual(points([*MODEL, MODEL[0]], "extra = 0").sum, 12)
 
@@ -168,12 +171,14 @@ class Command(Case):
         self.assertEqual([key["state"] for key in sheet["keys"]], ["right", "wrong"])
         pages = self.folder / "pages"
         self.accepted("mark", sitting, model, book, "--html", pages)
-        self.assertIn("<th>points</th><td>13 of 15 (entries right: 12; D: 1)</td>", (pages / "ann.book.html").read_text())
+        said_of_points = "<th>points</th><td>13 of 15 (entries right: 12; D: 1)</td>"
+        self.assertIn(said_of_points, (pages / "ann.book.html").read_text())
 
     def test_scheme(self) -> None:
         self.assertEqual(self.accepted("scheme").decode(), DEFAULT)
         scheme = self.file("scheme.txt", "entries = 1\n")
-        done = taa1("mark", CLASS / "sitting.txt", CLASS / "model.txt", CLASS / "ann.book", "--scheme", scheme)
+        inputs = [CLASS / name for name in ("sitting.txt", "model.txt", "ann.book")]
+        done = taa1("mark", *inputs, "--scheme", scheme)
         self.assertEqual((done.status, done.out), (2, b""))
         self.assertIn(f"taa1: {scheme}, line 1: no name 'entries': the names are entry, ", done.error)
 

@@ -64,13 +64,15 @@ class Lines(unittest.TestCase):
     def test_right(self) -> None:
         sheet = mark(*TRUE)
         self.assertTrue(sheet.perfect)
-        self.assertEqual(sheet_text(sheet), "hand-in: 12 of 12 entries right; every flag right; read as lines\n")
+        words = "12 of 12 entries right; every flag right; read as lines"
+        self.assertEqual(sheet_text(sheet), f"hand-in: {words}\n")
         self.assertTrue(mark(*TRUE[::-1]).perfect)
 
     def test_flags(self) -> None:
         """A flag may be called set or clear, and have the fields behind it."""
         fields = TRUE[3].partition(" kind ")[2]
-        for line in ("entry 2 flag set", "entry 2: flag true", "ENTRY 2 FLAG 1", f"{TRUE[2]} kind {fields}"):
+        behind = f"{TRUE[2]} kind {fields}"
+        for line in ("entry 2 flag set", "entry 2: flag true", "ENTRY 2 FLAG 1", behind):
             self.assertTrue(but(2, line).perfect, line)
         self.assertTrue(but(3, f"{TRUE[3]} flag clear").perfect)
         sheet = but(3, "entry 3 flag")
@@ -107,7 +109,8 @@ class Lines(unittest.TestCase):
         """A line that can't be read costs its own entry alone."""
         sheet = but(4, "entry 4 kind 3 identity 00c001 version 256 key 31 number 4660")
         self.assertEqual(sheet.right, 11)
-        self.assertIn("  entry 4: line 5: key of kind 3: 2 hexadecimal digits, not 20\n", sheet_text(sheet))
+        words = "  entry 4: line 5: key of kind 3: 2 hexadecimal digits, not 20\n"
+        self.assertIn(words, sheet_text(sheet))
         sheet = but(4, "entry four flag")
         self.assertEqual((sheet.right, sheet.missing), (11, (4,)))
         self.assertIn("  line 5: no number behind entry\n", sheet_text(sheet))
@@ -168,7 +171,8 @@ class Command(Case):
         """A handed-out book that can't be opened entry by entry; and wrong uses."""
         sitting, lines = CLASS / "sitting.txt", self.file("ann.opened", "\n".join(TRUE))
         kind = self.file("kind.book", SEALED_BOOK[:42] + b"\7" + SEALED_BOOK[43:])
-        self.fails(1, f"{kind}: refused 3 at 2 (kind not 1 to 6)", "mark", "--opened", sitting, kind, lines)
+        said = f"{kind}: refused 3 at 2 (kind not 1 to 6)"
+        self.fails(1, said, "mark", "--opened", sitting, kind, lines)
         cut = self.file("cut.book", SEALED_BOOK[:-1])
         self.fails(
             1,

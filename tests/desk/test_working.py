@@ -5,6 +5,7 @@ from __future__ import annotations
 import random
 import subprocess
 import unittest
+from typing import Any
 
 from common import DESK, ENTRIES, PLAIN_BOOK, ROOT, SITTING, seal
 from taa1.engine import Sitting
@@ -20,7 +21,8 @@ def drawn_sitting() -> Sitting:
     bits = DRAW.sample(range(16), 14)
     masks = (sum(1 << bit for bit in part) for part in (bits[:4], bits[4:]))
     strings = [DRAW.randbytes(length) for length in (16, 10, 10, 10, 10, 10, 12)]
-    return Sitting(*strings, DRAW.randint(1, 3), *masks)
+    values: list[Any] = [*strings, DRAW.randint(1, 3), *masks]
+    return Sitting(*values)
 
 
 class Working(unittest.TestCase):
@@ -85,7 +87,7 @@ class Working(unittest.TestCase):
     def test_failed_checks(self) -> None:
         """Every single check of every kind, made to fail by itself."""
         for shape in KINDS.values():
-            seen = set()
+            seen: set[int] = set()
             ring_key = DRAW.randbytes(10 if shape.sealing_key == "d" else 16)
             for _ in range(60 * TIMES):
                 text = DRAW.randbytes(15)

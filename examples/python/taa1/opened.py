@@ -304,7 +304,8 @@ class OpenedMarker:
     def unreadable(self, name: str, problem: str) -> Sheet:
         """The sheet of a hand-in that can't be read."""
         missing = tuple(range(len(self.truth)))
-        return Sheet(name, problem, None, len(missing), missing=missing, flags=Flags((), (), (), (), ()))
+        no_flags = Flags((), (), (), (), ())
+        return Sheet(name, problem, None, len(missing), missing=missing, flags=no_flags)
 
     def _flags(self, read: Read) -> Flags:
         """Flags that are set, missed, invented, left out, and that the hand-in can't say."""
