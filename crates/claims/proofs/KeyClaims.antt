@@ -1,8 +1,8 @@
 -- Sealing key and version enter by their ⊕ alone.
 -- Assumes nothing.
 use mathlib.Core.List.{List}
-use mathlib.Core.Path.{_≡_, sym, ap, _∙_}
-use Prim.Native.Nat.{ℕ, _/_, _%_, _^_}
+use mathlib.Core.Path.{_≡_, refl, sym, ap, _∙_}
+use Prim.Native.Nat.{ℕ}
 use native.Mathlib.Omega.{arith}
 use lib.Bits.{xor-comm, xor-self}
 use lib.ListN.{length}
@@ -68,12 +68,20 @@ not-changed x p q e =
     let z : p ⊕ q ≡ 0 = sym (xor-cancel-l x (p ⊕ q)) ∙ ap (_⊕_ x) e ∙ xor-self x in
     sym (xor-cancel-r p q) ∙ ap (λ (y : ℕ). y ⊕ q) z
 
-same-version : (a : Algorithm) (s : List ℕ) (v w : Version) → otherKey (sealingSize a) s v w ≡ s
-    → (v .0 / 2 ^ 8 % 256 ≡ w .0 / 2 ^ 8 % 256) × (v .0 / 2 ^ 0 % 256 ≡ w .0 / 2 ^ 0 % 256)
-same-version Ta31 s v w e = (not-changed (s ! 0) _ _ (ap (λ (l : List ℕ). l ! 0) e), not-changed (s ! 1) _ _ (ap (λ (l : List ℕ). l ! 1) e))
-same-version Ta51 s v w e = (not-changed (s ! 0) _ _ (ap (λ (l : List ℕ). l ! 0) e), not-changed (s ! 1) _ _ (ap (λ (l : List ℕ). l ! 1) e))
-same-version Ta81 s v w e = (not-changed (s ! 0) _ _ (ap (λ (l : List ℕ). l ! 0) e), not-changed (s ! 1) _ _ (ap (λ (l : List ℕ). l ! 1) e))
-same-version Ta91 s v w e = (not-changed (s ! 0) _ _ (ap (λ (l : List ℕ). l ! 0) e), not-changed (s ! 1) _ _ (ap (λ (l : List ℕ). l ! 1) e))
+-- the other key's first two bytes, for every kind
+first-two : (a : Algorithm) (s : List ℕ) (v w : Version)
+    → (otherKey (sealingSize a) s v w ! 0 ≡ s ! 0 ⊕ (pair v ! 0 ⊕ pair w ! 0)) × (otherKey (sealingSize a) s v w ! 1 ≡ s ! 1 ⊕ (pair v ! 1 ⊕ pair w ! 1))
+first-two Ta31 s v w = (refl, refl)
+first-two Ta51 s v w = (refl, refl)
+first-two Ta81 s v w = (refl, refl)
+first-two Ta91 s v w = (refl, refl)
+
+same-version : (a : Algorithm) (s : List ℕ) (v w : Version) → otherKey (sealingSize a) s v w ≡ s → (pair v ! 0 ≡ pair w ! 0) × (pair v ! 1 ≡ pair w ! 1)
+same-version a s v w e =
+    let two = first-two a s v w in (
+      not-changed (s ! 0) _ _ (sym (two .0) ∙ ap (λ (l : List ℕ). l ! 0) e),
+      not-changed (s ! 1) _ _ (sym (two .1) ∙ ap (λ (l : List ℕ). l ! 1) e),
+    )
 
 pub key-and-version : KeyAndVersion
 key-and-version a s v w hs = record {

@@ -5,10 +5,11 @@ use mathlib.Core.List.{List}
 use mathlib.Core.Path.{_≡_, refl, sym, ap, _∙_}
 use Prim.Native.Nat.{ℕ, _*_, _/_, _%_, _<_}
 use native.Mathlib.Omega.{arith}
+use lib.Bits.{xor-self}
 use lib.Dec.{eqb}
 use lib.ListN.{length}
 use Rattle.standard.specs.Books.{sealingKey, named, plainFault, sealRecord, WellFormed, sealedForm}
-use Rattle.standard.specs.Bytes.{_!_, _⊕_, part, xors, choose, Bytes}
+use Rattle.standard.specs.Bytes.{_!_, _⊕_, part, xors, zeros, choose, Bytes}
 use Rattle.standard.specs.Lists.{recordAt, each}
 use Rattle.standard.specs.Seals.{kindOf, form, repeated, key10, key16, seal}
 use Rattle.standard.specs.Sizes.{ringSize, plainSize, sealedSize}
@@ -17,9 +18,9 @@ use Rattle.standard.specs.declared.Kind.{Kind}
 use Rattle.standard.specs.declared.Named.{Named}
 use Rattle.standard.specs.declared.RingKey.the-variants.{D, O, G}
 use Rattle.standard.proofs.BookLaws.{joined-same, joined-bytes, joined-length, joined-at}
-use Rattle.standard.proofs.BytesLaws.{bytes-table, bytes-append, bytes-part, bytes-xors}
+use Rattle.standard.proofs.BytesLaws.{spell, bytes-table, bytes-append, bytes-part, bytes-xors}
 use Rattle.standard.proofs.Demand3Laws.{book}
-use Rattle.standard.proofs.XorLaws.{xor-assoc, xor-cancel-l}
+use Rattle.standard.proofs.XorLaws.{xor-assoc, xor-cancel-l, xor-cancel-r}
 use Rattle.claims.specs.FalseClaims.{otherRing, otherVersion, otherVersions, RingAndVersions}
 
 -- ---- one record
@@ -121,9 +122,16 @@ module _ (r p x : List ℕ) (hr : Bytes ringSize r) (w : WellFormed p) (hx : Byt
       (λ i h. ap (sealRecord (otherRing x r)) (p′-at i h) ∙ same-record x r (recordAt plainSize p i) ∙ ap (otherVersion sealedSize x) (sym (s-at i h)))
       ∙ ap (λ (m : ℕ). each m sealedSize (otherVersion sealedSize x) (sealedForm r p)) (sym s-count)
 
+  -- x ⊕ a byte is that byte only if x is 0
+  no-zeros : otherRing x r ≡ r → x ≡ zeros 2
+  no-zeros e =
+      let zero-at : (i : ℕ) → x ! i ⊕ r ! i ≡ r ! i → x ! i ≡ 0 = λ i z. sym (xor-cancel-r (x ! i) (r ! i)) ∙ ap (λ (y : ℕ). y ⊕ r ! i) z ∙ xor-self (r ! i) in
+      cc (spell hx, zero-at 0 (ap (λ (l : List ℕ). l ! 0) e), zero-at 1 (ap (λ (l : List ℕ). l ! 1) e))
+
 pub ring-and-versions : RingAndVersions
 ring-and-versions r p x hr w hx = record {
   ring = other-ring r p x hr w hx;
+  another = λ h e. h (no-zeros r p x hr w hx e);
   sealed = record { formed = p′-formed r p x hr w hx; is = same-form r p x hr w hx };
   identities = λ i h. ap (part 1 3) (s′-at r p x hr w hx i h);
   texts = λ i h. ap (part 6 15) (s′-at r p x hr w hx i h);

@@ -57,7 +57,7 @@ pub record FCollides : Type 0 where
 -- ---- sealing key and version enter by their ⊕ alone
 
 -- 10a: "A text belongs to one sealing key and one version." For every key s and versions v and w there is a key that does under w what s
--- does under v; another key, if the versions differ, which have sixteen bits
+-- does under v; another key than s, if the versions differ. A version has sixteen bits
 
 -- n bytes: the key ⊕ both versions repeated
 abbrev pub otherKey : ℕ → List ℕ → Version → Version → List ℕ
@@ -84,10 +84,11 @@ otherVersion w x p = part 0 4 p ++ xors 2 (part 4 2 p) x ++ part 6 (w - 6) p
 abbrev pub otherVersions : ℕ → List ℕ → List ℕ → List ℕ
 otherVersions w x xs = each (length xs / w) w (otherVersion w x) xs
 
--- of the ring r, the book p and the bytes x: the other book's sealed form under the other ring is p's with its versions changed alike, so
--- that each encrypted identity and each text is as it was
+-- of the ring r, the book p and the bytes x: the ring differs from r if x is not zero; the changed book's sealed form under it is p's with
+-- the versions changed alike, so that each encrypted identity and each text is as it was
 pub record OtherRing (r p x : List ℕ) : Type 0 where
   pub ring : Bytes ringSize (otherRing x r)
+  pub another : (x ≡ zeros 2 → ⊥) → otherRing x r ≡ r → ⊥
   pub sealed : IsSealedForm (otherRing x r) (otherVersions plainSize x p) (otherVersions sealedSize x (sealedForm r p))
   pub identities : (i : ℕ) → i < length p / plainSize
       → part 1 3 (recordAt sealedSize (otherVersions sealedSize x (sealedForm r p)) i) ≡ part 1 3 (recordAt sealedSize (sealedForm r p) i)

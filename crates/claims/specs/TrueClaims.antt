@@ -56,7 +56,7 @@ abbrev pub OneRecord : Type 0
 OneRecord = (r t : List ℕ) → Bytes ringSize r → Bytes sealedSize t
     → (openFault r t ≡ 0) ↔ Only (λ p. Bytes plainSize p × (plainFault p ≡ 0) × (sealRecord r p ≡ t)) (openRecord r t)
 
--- 4c: "A book opens exactly if it is the sealed form of a well-formed plain book, of one and no other." Whatever its length; that one is
+-- 4c: "A book opens exactly if it is what sealing makes of a well-formed plain book, of one and no other." Whatever its length; that one is
 -- what opening writes. The output has to be long enough, or opening is refused with 12
 abbrev pub OneBook : Type 0
 OneBook = (r s out : List ℕ) → Bytes ringSize r → ((i : ℕ) → s ! i < 256) → plainSize * (length s / sealedSize) ≤ length out

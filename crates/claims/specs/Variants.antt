@@ -24,7 +24,7 @@ use Rattle.standard.specs.declared.UnsealedNumbered.{UnsealedNumbered}
 use Rattle.standard.specs.declared.Version.{Version}
 use Rattle.claims.specs.Entries.{upward, version7}
 
--- ---- the zero byte put back at the end, not at byte 8 (right: `with8`)
+-- ---- the zero byte put in behind the others, and not as byte 8 (right: `with8`)
 
 abbrev pub withZeroAtEnd : List ℕ → List ℕ
 withZeroAtEnd t = part 0 15 t ++ 0 ∷ []
