@@ -10,6 +10,7 @@ import html
 import json
 import os
 import re
+import select
 import shutil
 import subprocess
 import sys
@@ -94,6 +95,7 @@ class Browser:
 
     def _message(self) -> dict[str, Any]:
         while b"\0" not in self.read:
+            assert select.select([self.answers], [], [], 60)[0], "Chromium says nothing"
             more = os.read(self.answers, 1 << 20)
             assert more, "Chromium has ended"
             self.read += more

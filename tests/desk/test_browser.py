@@ -21,6 +21,7 @@ PAGES = {
     "paper": 2, "form": 3, "solution": 10, "model": 6, "argue": 11, "index": 3,
     "ann.book": 1, "ben.book": 2, "cho.book": 2, "dee.book": 2, "eve.book": 2, "fay.book": 2,
     "noise.book": 1, "all-wrong.book": 3, "many.book": 2, "gil.txt": 2,
+    f"{'e' * 80}.book": 1,
 }  # fmt: skip
 
 
@@ -31,6 +32,7 @@ def _make(folder: Path) -> None:
     sitting.write_text(HEADING + (CLASS / "sitting.txt").read_text())
     books = {path.stem: path.read_bytes() for path in CLASS.glob("*.book")}
     records = split(seal(), SEALED)
+    books["e" * 80] = seal()
     books["noise"] = b"\x8f" * 100
     books["all-wrong"] = b"".join(record[:-1] + bytes([record[-1] ^ 0x55]) for record in records)
     books["many"] = b"".join([*records, *records[:3]])

@@ -170,6 +170,8 @@ class Names(Case):
         out = taa1("mark", *INPUTS, *books, "--json", cwd=self.folder).out
         self.assertEqual([s["name"] for s in json.loads(out)["sheets"]], ["Ann Archer", "Bo & Co", "dee"])
         self.assertEqual(json.loads(out)["class"]["absent"], ["Gil Hart"])
+        text = taa1("mark", *INPUTS, *books, cwd=self.folder).out.decode()
+        self.assertIn("\nBo & Co (b.c.hex): 12 of 12 entries right", text)
 
     def test_bad_list(self) -> None:
         book = self.file("ann.book", seal())

@@ -200,6 +200,7 @@ class Good(Case):
             ("columns", "plain", "/dev/null"),
             ("lineage", CLASS / "lineage.txt"),
             ("paper", *INPUTS, "--part", "solution"),
+            ("mark", *INPUTS, CLASS / "ben.book"),
         ):
             with self.subTest(args=args[:2]):
                 name = self.folder / "secret"

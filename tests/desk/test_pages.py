@@ -172,6 +172,21 @@ class Pages(Case):
         self.assertTrue(any("11 of 12 entries right, 1 wrong." in text for text in page.texts))
         self.assertEqual((page.marked["b"][-1], page.marked["u"][-1]), ("258", "513"))
         self.assertIn("key (SCK)", page.texts)
+        self.assertEqual({path.stat().st_mode & 0o777 for path in pages.iterdir()}, {0o600})
+
+    def test_flags(self) -> None:
+        """A flag that is missed or invented stands beside the one that is wanted."""
+        model = (CLASS / "model.txt").read_text()
+        damage = ("seal", CLASS / "sitting.txt", CLASS / "model.txt", "--damage", "2:4,6")
+        handout = self.file("handout", self.accepted(*damage))
+        opened = self.file("gus.opened", "entry 0 flag\n" + "\n".join(model.splitlines()[2:]) + "\n")
+        pages = self.folder / "pages"
+        self.accepted("mark", "--opened", CLASS / "sitting.txt", handout, opened, "--html", pages)
+        page = Page(pages / "gus.opened.html")
+        self.assertIn("flag (MF)", page.texts)
+        self.assertEqual(page.marked["b"], ["set", "-", "-", "-", "-", "clear", "clear"])
+        self.assertEqual(page.marked["u"][-2:], ["set", "set"])
+        self.assertIn("Entry 0: kind 1, CCK under D (DCK) by TA32", page.texts)
 
     def test_differing(self) -> None:
         """The bytes within the element are those that differ, and the rest is as everywhere."""

@@ -13,15 +13,14 @@ from .pictures import STYLE, Part, bar, decimal, fillings, histogram, legend
 from .records import KINDS
 from .results import COUNTED, FAILS, MISSING, WRONG, average, counts, wrong_by_entry
 from .scheme import said as points_said
-from .sheets import Summary, class_numbers, opening, reason, spans
+from .sheets import Summary, class_numbers, opening, plural, reason, spans
 
 MOST_ENTRIES = 40  # in the picture of the entries
 
 PLACES = """
 .pictured th:nth-child(2), .pictured td:nth-child(2) { width: 32%; }
-.candidates td:first-child { width: 16%; }
+.candidates td:first-child { min-width: 11em; overflow-wrap: anywhere; }
 @media screen and (max-width: 40em) {
-  .candidates td:first-child { width: auto; }
   .wide td.number { display: inline-block; padding-right: .8em; }
   .pictured td:nth-child(2) { width: auto; }
   .pictured td:nth-child(2)::before { content: none; }
@@ -103,7 +102,7 @@ def class_page(
     absent: Sequence[str] = (),
 ) -> str:
     """The class."""
-    numbers = f"{of.candidates} candidates: {class_numbers(of)}."
+    numbers = f"{plural(of.candidates, 'candidate')}: {class_numbers(of)}."
     if absent:
         numbers += f" Nothing was handed in by {', '.join(absent)}."
     points = average(sheets)

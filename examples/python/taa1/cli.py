@@ -541,7 +541,7 @@ def run_mark(args: argparse.Namespace) -> int:
         _emit_text(args, summary_text(of))
     else:
         end = summary_text(of) if len(sheets) > 1 else ""
-        _emit_text(args, "".join(map(sheet_text, sheets)) + end)
+        _emit_text(args, "".join(sheet_text(sheet, bool(listed)) for sheet in sheets) + end)
     return REFUSED if of.unreadable else ACCEPTED
 
 
@@ -618,7 +618,7 @@ def _earlier_pages(folder: str) -> list[str]:
 def _write_pages(folder: str, content: dict[str, bytes], clean: bool) -> None:
     """A page for each candidate, and one for the class."""
     earlier = [name for name in _earlier_pages(folder) if name not in content]
-    files.write_folder(folder, content, unwanted=earlier if clean else ())
+    files.write_folder(folder, content, private=content, unwanted=earlier if clean else ())
     if earlier and not clean:
         said = f"not of this run, but of an earlier one: {', '.join(map(shown, earlier))}"
         files.say(f"{shown(folder)}: {said} (--clean removes such pages)")
@@ -799,7 +799,7 @@ def parser() -> Parser:
     model = command("model", run_model)
     papers = command("paper", run_paper)
     arguing = command("argue", run_argue)
-    mark = command("mark", run_mark, private=False)
+    mark = command("mark", run_mark)
     for each_ in (model, papers, arguing, mark):
         each_.add_argument("sitting", metavar="SITTING", help="names, bytes or hexadecimal")
         each_.add_argument("book", metavar="BOOK", help="a plain book: lines, bytes or hexadecimal")

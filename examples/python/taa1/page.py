@@ -62,6 +62,7 @@ a { color: inherit; }
 }
 """
 
+MOST_FOOT = 80  # letters of a foot, which has one line
 # The foot of each printed page; a browser that knows no margin boxes leaves it out.
 FOOT = """
 @page { margin: 15mm 15mm 18mm;
@@ -186,7 +187,8 @@ def is_made_by(start: bytes, command: str) -> bool:
 def page(title: str, *parts: str, above: str = "", style: str = "", made_by: str = "taa1") -> str:
     """A page of these parts; `above` stands over its title, and at the foot in print, and
     `made_by` says to programs which command made it."""
-    foot = FOOT % _in_css(f"{title} · {above}" if above else title)
+    named = f"{title} · {above}" if above else title
+    foot = FOOT % _in_css(named if len(named) <= MOST_FOOT else named[: MOST_FOOT - 1] + "…")
     return "\n".join(
         [
             "<!DOCTYPE html>",
@@ -194,7 +196,7 @@ def page(title: str, *parts: str, above: str = "", style: str = "", made_by: str
             '<head><meta charset="utf-8">',
             '<meta name="viewport" content="width=device-width, initial-scale=1">',
             _made_by(made_by),
-            text("title", f"{title} · {above}" if above else title),
+            text("title", named),
             f"<style>{STYLE}{style}{foot}</style></head>",
             "<body>",
             tag("header", (text("p", above) if above else "") + text("h1", title)),

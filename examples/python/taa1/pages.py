@@ -6,7 +6,7 @@ import os
 from typing import Any, Iterable, NamedTuple, Sequence
 
 from .keysheet import KeySheet
-from .mark import Explained, Marked, Sheet, Wanted
+from .mark import Explained, Flags, Marked, Sheet, Wanted
 from .model import entry_title, entry_values, sitting_values
 from .names import IN_SITTING, KIND_NAMES, both, sealing
 from .page import Html, Number, Row, fields, page, pairs, table, tag, text
@@ -22,6 +22,7 @@ RESULT = """
 # Bytes that differ are bold, with a box where they were handed in and a line where they
 # are wanted. On a phone only fields that differ are shown, each as handed in over as wanted.
 STYLE = RESULT + """
+.facts td { overflow-wrap: anywhere; }
 .entries tr:not(.right) td:last-child { font-weight: bold; }
 .beside { margin-bottom: .2em; table-layout: auto; width: auto; }
 .beside th, .beside td { padding-right: 1.4em; white-space: nowrap; }
@@ -137,16 +138,18 @@ def sealed_fields(record: bytes, wanted: bytes) -> list[Field]:
 
 
 def plain_fields(has: Any, wants: Entry) -> list[Field]:
-    """An opened entry beside the one that is wanted."""
+    """An opened entry, or none, beside the one that is wanted."""
     names = KIND_NAMES[wants.kind]
+    kind, identity, version, key, number = has[:5] if has else (None,) * 5
     made = [
-        Field("kind", has.kind, wants.kind),
-        Field(both("identity"), has.identity.to_bytes(3, "big"), wants.identity.to_bytes(3, "big")),
-        Field(f"version ({names.version})", has.version, wants.version),
-        Field(f"key ({names.key})", has.key, wants.key),
+        Field("kind", kind, wants.kind),
+        Field(both("identity"), identity and identity.to_bytes(3, "big"), wants.identity.to_bytes(3, "big")),
+        Field(f"version ({names.version})", version, wants.version),
+        Field(f"key ({names.key})", key, wants.key),
     ]
-    if has.number is not None or wants.number is not None:
-        made.append(Field(f"number ({names.number or '-'})", has.number, wants.number))
+    if number is not None or wants.number is not None:
+        name = f"number ({names.number})" if names.number else "number"
+        made.append(Field(name, number, wants.number))
     return made
 
 
@@ -164,13 +167,25 @@ def beside(what: str, compared: Sequence[Field]) -> Html:
 # ---- a candidate's page
 
 
-def _compared(entry: Marked, wanted: Wanted) -> list[Html]:
+def _opened(entry: Marked, plain: Entry, flags: Flags) -> list[Field]:
+    """What was opened beside what is wanted, which may be the flag alone."""
+    made = []
+    if entry.index in (*flags.missed, *flags.invented):
+        said = ("clear", "set") if entry.index in flags.missed else ("set", "clear")
+        made.append(Field(both("flag"), *said))
+    if entry.index not in flags.set:
+        made += plain_fields(Entry.of(entry.record) if entry.record else None, plain)
+    return made
+
+
+def _compared(entry: Marked, sheet: Sheet, wanted: Wanted) -> list[Html]:
     """A wrong entry beside what is wanted: sealed, and opened where that says more."""
-    if entry.model is None or not entry.record:
-        return []
+    if entry.model is None:
+        return [pairs([("record", entry.record)])]
     plain = wanted.plain[entry.model]
-    if not wanted.sealed:
-        return [beside("opened", plain_fields(Entry.of(entry.record), plain))]
+    if sheet.flags:
+        fields_ = _opened(entry, plain, sheet.flags)
+        return [beside("opened", fields_)] if fields_ else []
     made = [beside("sealed", sealed_fields(entry.record, wanted.sealed[entry.model]))]
     if entry.opened:
         _, identity, _, *sealed = plain_fields(entry.opened, plain)
@@ -223,17 +238,18 @@ def _keys(keys: KeySheet) -> Iterable[Html]:
     yield table(("value", "bytes", "result"), rows, "keys")
 
 
-def _entry_section(entry: Marked, wanted: Wanted, slips: Sequence[Explained]) -> Html:
+def _entry_section(entry: Marked, sheet: Sheet, wanted: Wanted) -> Html:
     """What is wrong with an entry."""
     kind = None if entry.model is None else wanted.plain[entry.model].kind
     title = f"Entry {entry.index}"
     title += f": kind {kind}, {sealing(kind)} by {_algorithm(kind, wanted)}" if kind else ""
     said = fault(entry, values=False)
     said = said[:1].upper() + said[1:] + "."
-    for slip in slips:
+    for slip in sheet.slips:
         if entry.index in slip.entries:
             said += f" Slip: {slip.name}, at this step: {at_step(slip)}."
-    return tag("section", text("h3", title) + text("p", said) + "".join(_compared(entry, wanted)))
+    compared = "".join(_compared(entry, sheet, wanted))
+    return tag("section", text("h3", title) + text("p", said) + compared)
 
 
 def _entries(sheet: Sheet, wanted: Wanted) -> Html:
@@ -274,7 +290,7 @@ def sheet_page(sheet: Sheet, wanted: Wanted, heading: str, class_page: str) -> s
     facts += [] if sheet.problem else [("flags" if sheet.flags else "book", opening(sheet))]
     facts += [("", line) for line in too_many(sheet) + others(sheet)]
     wrong = [entry for entry in sheet.entries if entry.state not in ("right", "doubled")]
-    parts = [text("p", result(sheet), class_="result"), pairs(facts)]
+    parts = [text("p", result(sheet), class_="result"), pairs(facts, "facts")]
     if sheet.slips:
         parts += [tag("h2", "What went wrong, and at which step"), _slips(sheet)]
     if sheet.points and len(sheet.points.items) > 1:
@@ -285,7 +301,7 @@ def sheet_page(sheet: Sheet, wanted: Wanted, heading: str, class_page: str) -> s
         parts += [tag("h2", "Entry by entry"), _entries(sheet, wanted)]
     if wrong:
         parts.append(tag("h2", "What was handed in beside what was wanted"))
-        parts += [_entry_section(entry, wanted, sheet.slips) for entry in wrong]
+        parts += [_entry_section(entry, sheet, wanted) for entry in wrong]
     if sheet.missing and not sheet.problem:
         parts += [tag("h2", "What is missing"), _missing(sheet, wanted)]
     signature = fields(("Remarks", "Marked by", "Date", "Signature"))

@@ -256,9 +256,10 @@ def keys_said(keys: KeySheet) -> list[str]:
     return said
 
 
-def sheet_text(sheet: Sheet) -> str:
-    """A mark sheet as lines of text."""
-    lines = [f"{sheet.name}: {verdict(sheet)}"]
+def sheet_text(sheet: Sheet, named: bool = False) -> str:
+    """A mark sheet as lines of text, under the file's name, or the candidate's as well."""
+    name = f"{sheet.candidate} ({sheet.name})" if named else sheet.name
+    lines = [f"{name}: {verdict(sheet)}"]
     said = too_many(sheet) + keys_said(sheet.keys) + faults(sheet) + others(sheet)
     lines += [f"  {line}" for line in said]
     lines += [f"  slip: {explanation(slip, sheet)}" for slip in sheet.slips]
