@@ -133,10 +133,14 @@ class Paper(Case):
             ("TB4: D (DCK)", ["D"], []),
             ("TB7: G (EGSKO)", ["G"], []),
         ):  # fmt: skip
-            lines = parts[title].splitlines()[2:]
+            lines = [line for line in parts[title].splitlines()[2:] if not line.endswith("taken")]
             self.assertEqual([self.step(line) for line in lines], [*steps, title.split(":")[0]])
             self.assertIn(" | ".join(values[name] for name in names), lines[-1])
             self.assertTrue(lines[-1].endswith(" | ".join(both(name) for name in names)))
+        taken = [re.split(r"\s{2,}", line)[4] for line in said.splitlines() if line.endswith("taken")]
+        keys = ("session key 1", "key 1", "key 2")
+        for value in (*map(grouped, SITTING[:7]), *(values[name] for name in keys)):
+            self.assertIn(value, taken)
         for entry, made in zip(ENTRIES, model["entries"]):
             title = next(name for name in parts if name.startswith(f"Entry {made['entry']}:"))
             lines = parts[title].splitlines()[2:]

@@ -151,9 +151,9 @@ STYLE = """
 @media print, (min-width: 40em) {
   .steps { font-size: .9em; line-height: 1.25; }
   .steps td { border-color: #ccc; padding-bottom: .12em; padding-top: .12em; }
-  .steps td.hex { line-height: 1.25; white-space: normal; width: 43ch; }
-  .steps td:nth-child(2) { white-space: nowrap; width: 14em; }
-  .steps td:nth-child(3) { width: 5em; }
+  .steps td.hex { line-height: 1.25; white-space: normal; width: 41.5ch; }
+  .steps td:nth-child(2) { white-space: nowrap; width: 12em; }
+  .steps td:nth-child(3) { width: 4em; }
   .rows th:nth-child(2), .asked th:nth-child(2) { width: 12em; }
 }
 @media screen and (max-width: 40em) {

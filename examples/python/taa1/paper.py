@@ -257,8 +257,9 @@ def _what(step: Step) -> str:
 def _steps(
     title: str, steps: list[Step], results: dict[str, str], given: Sequence[tuple[str, bytes]] = ()
 ) -> Table:
-    """The steps as a table; a result's step has the name of what it gives."""
-    rows = [Row((None, name, "given", value, "")) for name, value in given]
+    """The steps as a table, behind what they take; a result's step has the name of what it
+    gives."""
+    rows = [Row((None, name, None, value, "taken")) for name, value in given]
     shown = [each for step in steps for each in _flat(step) if step.name not in _PASSED_ON]
     for number, (step, top) in enumerate(shown, 1):
         result = results.get(step.name, "") if top else ""
@@ -267,14 +268,15 @@ def _steps(
     return Table(("step", "name", "clause", "gives", "what"), rows, "steps", title)
 
 
-_TITLES = {
-    "TA11": ("session key 1",),
-    "TA12": ("response 1", "key 1"),
-    "TA21": ("session key 2",),
-    "TA22": ("response 2", "key 2"),
-    "TA41": ("O",),
-    "TB4": ("D",),
-    "TB7": ("G",),
+# What the algorithms of the first two generations take, and what they give.
+_MADE = {
+    "TA11": (("root", "RS"), ("session key 1",)),
+    "TA12": (("session key 1", "RAND1"), ("response 1", "key 1")),
+    "TA21": (("root", "RS"), ("session key 2",)),
+    "TA22": (("session key 2", "RAND2"), ("response 2", "key 2")),
+    "TA41": (("root", "RSO"), ("O",)),
+    "TB4": (("key 1", "key 2"), ("D",)),
+    "TB7": (("group key",), ("G",)),
 }
 
 
@@ -290,10 +292,11 @@ def solution(of: Examination) -> Document:
         Head("The first two generations"),
     ]
     for step in of.keys:
-        if step.name in _TITLES:
-            names = [both(name) for name in _TITLES[step.name]]
-            title = f"{step.name}: {' and '.join(names)}"
-            blocks.append(_steps(title, [step], {step.name: " | ".join(names)}))
+        if step.name in _MADE:
+            takes, gives = ([both(name) for name in names] for names in _MADE[step.name])
+            title = f"{step.name}: {' and '.join(gives)}"
+            given = list(zip(takes, step.inputs.values()))  # masks stand behind them
+            blocks.append(_steps(title, [step], {step.name: " | ".join(gives)}, given))
     blocks += [
         *_idle(of.sitting.sides),
         Head("The sealed book"),
@@ -301,6 +304,7 @@ def solution(of: Examination) -> Document:
             f"TA61: the K-strings of {both('C')}, for every identity",
             of.strings,
             {"K-strings": "K1 | K2 | K3"},
+            [(both("C"), of.sitting.c)],
         ),
     ]
     for index, (entry, steps) in enumerate(zip(of.entries, of.records)):
@@ -309,7 +313,7 @@ def solution(of: Examination) -> Document:
             f"Entry {index}: kind {entry.kind}, {sealing(entry.kind)}, "
             f"{KIND_NAMES[entry.kind].version} {entry.version}{number}"
         )
-        given = (
+        taken = (
             (f"key ({KIND_NAMES[entry.kind].key})", entry.key),
             (both("identity"), entry.identity.to_bytes(3, "big")),
         )
@@ -318,6 +322,6 @@ def solution(of: Examination) -> Document:
             "identity encrypted": both("encrypted identity"),
             "the sealed record": " | ".join(name for name, _ in RECORD),
         }
-        blocks.append(_steps(title, steps, results, given))
+        blocks.append(_steps(title, steps, results, taken))
     blocks.append(Words(f"Sealing the book takes {of.model['runs']} cipher runs."))
     return Document("Worked solution", of.heading.line, blocks)
