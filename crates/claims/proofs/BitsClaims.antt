@@ -148,7 +148,7 @@ pub eight-without : EightWithout
 eight-without = record {
   eight = λ s v ck n hs hk hn.
       counted (inverse-same (λ i. Iff·rfl) (by-variant s v hs ck n hk hn) (texts-like ck n 0 hk hn (omega arith) (coreKey s v hs)));
-  not-back = λ s v t hs h e ck n hk hn z.
+  not-back = λ s v t hs e ck n hk hn z.
       let o : ta52Call t s v ≡ answer ck (n .0) 0 = ap (λ (x : List ℕ). ta52Call x s v) (sym z) ∙ ta51-opens s v hs ck n hk hn in
       omega (arith, sym e ∙ ap (λ (x : UnsealedNumbered). x .«failed_checks») o);
 }
@@ -166,6 +166,6 @@ bits-unchecked s v hs =
         bytes = h .0;
         right = λ z. omega (arith, sym z ∙ e);
         wrong = ap (λ (x : UnsealedNumbered). x .«failed_checks») (answered-without s v hs t (h .0)) ∙ four-pass u .1 (only-fifth u .0 f .0);
-        seals-none = eight-without .not-back s v t hs (h .0) e;
+        seals-none = eight-without .not-back s v t hs e;
       },
     )

@@ -5,7 +5,7 @@ use mathlib.Core.Path.{_≡_, refl, sym, ap, ap₂, _∙_}
 use Prim.Native.Nat.{ℕ, _<_}
 use Rattle.standard.specs.Bytes.{_!_, part, Bytes}
 use Rattle.standard.specs.Cores.{bl1}
-use Rattle.standard.specs.Seals.{without8}
+use Rattle.standard.specs.Seals.{without8, opened}
 use Rattle.standard.proofs.BytesLaws.{spell, bytes-append, bytes-cons, bytes-part, bytes-zero}
 use Rattle.standard.proofs.CoreLaws.{sealCore, unsealCore, core}
 use Rattle.standard.proofs.InverseLaws.{Inverse}
@@ -18,21 +18,23 @@ use Rattle.claims.proofs.OnlyLaws.{counted}
 ends-in-zero : (x : List ℕ) → Bytes 16 x → x ! 15 ≡ 0 → part 0 15 x ++ 0 ∷ [] ≡ x
 ends-in-zero x h z = cc (spell h, z)
 
+zero-behind : (u : List ℕ) → Bytes 15 u → part 0 15 u ++ 0 ∷ [] ≡ u ++ 0 ∷ []
+zero-behind u h = ap (λ (y : List ℕ). y ++ 0 ∷ []) (spell h)
+
 pub nothing-lost : NothingLost
-unfolding sealCore
+unfolding sealCore unsealCore opened
 nothing-lost k t h =
     let u = unsealCore k t in
-    let ub = core k .from t h in (
-      part 0 15 u ++ 0 ∷ [],
-      record {
-        has = (bytes-append (bytes-part 0 15 ub) bytes-zero, refl, core k .forth t h);
-        only = λ x p.
-            let e : part 0 15 x ++ 0 ∷ [] ≡ x = ends-in-zero x (p .0) (p .1) in
-            let c : sealCore k (part 0 15 x) ≡ t = ap (λ (y : List ℕ). without8 (bl1 k y)) e ∙ p .2 in
-            let m : part 0 15 x ≡ u = sym (core k .back (part 0 15 x) (bytes-part 0 15 (p .0))) ∙ ap (unsealCore k) c in
-            sym e ∙ ap (λ (y : List ℕ). part 0 15 y ++ 0 ∷ []) m;
-      },
-    )
+    let ub = core k .from t h in
+    let z = zero-behind u ub in
+    record {
+      has = (bytes-append ub bytes-zero, ap (λ (y : List ℕ). y ! 15) (sym z), ap (λ (y : List ℕ). without8 (bl1 k y)) (sym z) ∙ core k .forth t h);
+      only = λ x p.
+          let e : part 0 15 x ++ 0 ∷ [] ≡ x = ends-in-zero x (p .0) (p .1) in
+          let c : sealCore k (part 0 15 x) ≡ t = ap (λ (y : List ℕ). without8 (bl1 k y)) e ∙ p .2 in
+          let m : part 0 15 x ≡ u = sym (core k .back (part 0 15 x) (bytes-part 0 15 (p .0))) ∙ ap (unsealCore k) c in
+          sym e ∙ ap (λ (y : List ℕ). y ++ 0 ∷ []) m;
+    }
 
 -- ---- without it
 

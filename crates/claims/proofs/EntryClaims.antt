@@ -1,8 +1,8 @@
--- One text, one entry: the checks, a text, a record, a book. Each is `only-image` of two maps that are inverse.
+-- One text, one entry: the checks, a text, a record, a book. Each is `of-image` of two maps that are inverse.
 -- Assumes nothing.
 use mathlib.Core.Bool.{Bool, true, false}
 use mathlib.Core.List.{List, [], _∷_, _++_}
-use mathlib.Core.Logic.{_↔_, Iff·trans}
+use mathlib.Core.Logic.{_↔_, Iff·symm}
 use mathlib.Core.Path.{_≡_, refl, sym, ap, _∙_}
 use Prim.Native.Nat.{ℕ, _≤_}
 use native.Mathlib.Omega.{arith}
@@ -24,10 +24,10 @@ use Rattle.standard.proofs.CheckLaws.{clear-same}
 use Rattle.standard.proofs.Demand3Laws.{demand3}
 use Rattle.standard.proofs.RecordLaws.{Plain, Sealed, record-law}
 use Rattle.standard.proofs.SealLaws.{Body, form-law, sealing}
-use Rattle.claims.specs.Entries.{Legal, sealingSize, sealCall, Unsealing}
+use Rattle.claims.specs.Entries.{OfOne, Legal, sealingSize, sealCall, Unsealing, unsealCall, Opens}
 use Rattle.claims.specs.TrueClaims.{ChecksExactly, OneText, OneRecord, OneBook, RecordAlone}
-use Rattle.claims.proofs.OnlyLaws.{only-image, only-same}
-use Rattle.claims.proofs.TermLaws.{pair, legal-body, sealed-by, unsealed-by, opens-clear}
+use Rattle.claims.proofs.OnlyLaws.{of-image, of-one-same}
+use Rattle.claims.proofs.TermLaws.{pair, legal-body, sealing-size, sealed-by, unsealing-size, unsealed-by, opens-clear}
 
 -- ---- texts
 
@@ -38,11 +38,21 @@ seals-to a s v t hs b = (
   λ h. (legal-body a b .0 (h .0), ap (λ (x : Bytes15). x .bytes) (sym (sealed-by a s v b hs (h .0)) ∙ h .1)),
 )
 
+-- under a sealing key of the length that the calls take
+taken : (a : Algorithm) (s : List ℕ) (v : Version) (t : List ℕ) → length s ≡ sealingSize a
+    → OfOne (Opens a s v t) (λ b. Legal a b × (sealCall a b v s ≡ record { refusal = 0; bytes = t })) (unsealCall a t s v .body)
+taken a s v t hs =
+    of-one-same (Iff·symm (opens-clear a s v t hs)) (seals-to a s v t hs)
+    (λ o. ap (λ (u : Unsealing). u .body) (sym (unsealed-by a s v t hs (o .bytes)))) (of-image (sealing a s (pair v)) t)
+
 pub one-text : OneText
-one-text a s v t hs h =
-    Iff·trans (opens-clear a s v t hs)
-    (Iff·trans (only-image (sealing a s (pair v)) t)
-    (only-same (seals-to a s v t hs) (ap (λ (u : Unsealing). u .body) (sym (unsealed-by a s v t hs h)))))
+one-text a s v t = record {
+  exactly = (
+    λ o. taken a s v t (unsealing-size a s v t (o .accepted)) .exactly .0 o,
+    λ b. taken a s v t (sealing-size a s v (b .0) (ap (λ (x : Bytes15). x .refusal) (b .1 .1))) .exactly .1 b,
+  );
+  one = λ o. taken a s v t (unsealing-size a s v t (o .accepted)) .one o;
+}
 
 -- ---- the checks of BL2's output
 
@@ -60,7 +70,7 @@ expands-to a u h b = (
 )
 
 pub checks-exactly : ChecksExactly
-checks-exactly a u h = Iff·trans (passes a u h) (Iff·trans (only-image (form-law a .checks) u) (only-same (expands-to a u h) refl))
+checks-exactly a u h = of-one-same (Iff·symm (passes a u h)) (expands-to a u h) (λ z. refl) (of-image (form-law a .checks) u)
 
 -- ---- records
 
@@ -74,7 +84,7 @@ sealed-parts : (r t : List ℕ) → Bytes sealedSize t → (openFault r t ≡ 0)
 sealed-parts r t h = (λ e. record { bytes = h; passed = eq-eqb _ 0 e }, λ p. eqb-true _ 0 (p .passed))
 
 pub one-record : OneRecord
-one-record r t hr h = Iff·trans (sealed-parts r t h) (Iff·trans (only-image (record-law r hr) t) (only-same (plain-parts r t) refl))
+one-record r t hr h = of-one-same (Iff·symm (sealed-parts r t h)) (plain-parts r t) (λ z. refl) (of-image (record-law r hr) t)
 
 -- ---- books
 
@@ -82,12 +92,11 @@ pub one-book : OneBook
 one-book r s out hr bs room =
     let d = demand3 r hr s bs out room in
     let is : (p : List ℕ) → IsSealedForm r p s → take (openBook r s out .0 .written) (openBook r s out .1) ≡ p =
-    λ p q. rw (d .writes p q) (take-at p (drop (length p) out) (length p) refl) in (
-      λ e.
-          let q = d .opens .0 e in
-          record { has = rw (is (q .0) (q .1)) (q .1); only = λ p h. sym (is p h) },
-      λ o. d .opens .1 (_, o .has),
-    )
+    λ p q. rw (d .writes p q) (take-at p (drop (length p) out) (length p) refl) in
+    record {
+      exactly = d .opens;
+      one = λ e. let q = d .opens .0 e in record { has = rw (is (q .0) (q .1)) (q .1); only = λ p h. sym (is p h) };
+    }
 
 -- a record is a book of one
 alone : (r t out : List ℕ) → length r ≡ ringSize → length t ≡ sealedSize → plainSize ≤ length out → (z : Bool) → eqb (openFault r t) 0 ≡ z

@@ -3,28 +3,31 @@
 use mathlib.Core.Bool.{Bool, true, false}
 use mathlib.Core.List.{List, [], _∷_, _++_}
 use mathlib.Core.Path.{_≡_, refl, sym, ap, _∙_, subst}
-use Prim.Native.Nat.{ℕ, _+_, _<_, _≤_}
+use Prim.Native.Nat.{ℕ, _+_, _%_, _<_, _≤_}
 use native.Mathlib.Omega.{arith}
 use lib.Bits.{xor-comm, xor-self, xor-zero-r}
 use lib.Dec.{ltb}
-use borrow.Author.Tests.{eqb-true, eq-eqb, ltb-true, ltb-false}
+use lib.ListN.{length}
+use borrow.Author.Tests.{eqb-true, eq-eqb, le-leb, ltb-true, ltb-false}
 use Rattle.standard.specs.Bytes.{_!_, _⊕_, part, xors, Bytes}
 use Rattle.standard.specs.Cores.{bl2}
-use Rattle.standard.specs.Expansions.{xorOf}
+use Rattle.standard.specs.Expansions.{xorOf, exp1Groups, exp3Groups, x16Groups, shr2}
 use Rattle.standard.specs.Hurdle.{decrypt}
 use Rattle.standard.specs.Seals.{formOf, failed, seal, unseal, fails, opened}
 use Rattle.standard.specs.declared.Algorithm.{Algorithm}
 use Rattle.standard.specs.declared.Algorithm.the-variants.{Ta31, Ta51, Ta81, Ta91}
 use Rattle.standard.specs.declared.Bytes15.{Bytes15}
-use Rattle.standard.proofs.BytesLaws.{table-same, same-eq, bytes-append, bytes-part, bytes-one}
+use Rattle.standard.specs.declared.Version.{Version}
+use Rattle.standard.proofs.BytesLaws.{table-same, same-eq, bytes-append, bytes-cons, bytes-part, bytes-one, bytes-zero}
 use Rattle.standard.proofs.CheckLaws.{clear-same}
 use Rattle.standard.proofs.CoreLaws.{sealCore, unsealCore, core}
+use Rattle.standard.proofs.ExpansionLaws.{bytes-ungrouped}
 use Rattle.standard.proofs.SealLaws.{form-law, sealing}
 use Rattle.standard.proofs.XorLaws.{xor-cancel-l, xor-byte}
-use Rattle.claims.specs.Entries.{Legal, Unsealing, unsealCall}
-use Rattle.claims.specs.TrueClaims.{UnsealsAllTheSame, changed, Carried, Noticed, noticedFrom}
+use Rattle.claims.specs.Entries.{Legal, sealingSize, Unsealing, unsealCall}
+use Rattle.claims.specs.TrueClaims.{Another, UnsealsAllTheSame, changed, Carried, Noticed, noticedFrom}
 use Rattle.claims.proofs.ChangeLaws.{changed-elsewhere, changed-xors, xor-changed}
-use Rattle.claims.proofs.TermLaws.{pair, legal-body, sealed-by, unsealed-by, failed-by}
+use Rattle.claims.proofs.TermLaws.{pair, legal-body, sealed-by, unsealing-size, opened-bytes, unsealed-by, failed-by}
 
 -- ---- the last inserted byte changed
 
@@ -63,9 +66,9 @@ module _ (a : Algorithm) (k b : List ℕ) (h : Legal a b) where
       let same : expansion ≡ spoilt = ap (λ (x : List ℕ). part 0 15 (formOf a .input x)) (sym spoilt-body) ∙ c in
       not-itself (expansion ! 14) (ap (λ (x : List ℕ). x ! 14) same)
 
-pub unseals-all-the-same : UnsealsAllTheSame
+another : (a : Algorithm) (s : List ℕ) (v : Version) (b : List ℕ) → length s ≡ sealingSize a → Legal a b → (t : List ℕ) × Another a s v b t
 unfolding unseal fails opened unsealCore
-unseals-all-the-same a s v b hs h =
+another a s v b hs h =
     let k = formOf a .key s (pair v) in
     let u = spoilt a k b h in
     let ub = spoilt-bytes a k b h in
@@ -87,6 +90,29 @@ unseals-all-the-same a s v b hs h =
             set (ap (λ (x : Unsealing). x .failed) c ∙ ap (fails (formOf a) s (pair v)) (sym y) ∙ eqb-true _ 0 p);
       },
     )
+
+-- whatever the text, shrinking gives a legal body
+shrunk-legal : (a : Algorithm) (u : List ℕ) → Bytes 15 u → Legal a (formOf a .shrink u)
+shrunk-legal Ta31 u h = record { bytes = bytes-append (bytes-ungrouped h exp1Groups 0) (bytes-cons (omega arith) bytes-zero); accepted = refl }
+shrunk-legal Ta51 u h =
+    let n = bytes-ungrouped h exp3Groups 0 in
+    record {
+      bytes = bytes-append (bytes-part 0 10 n) (bytes-cons (omega arith) (bytes-one (omega arith)));
+      accepted = rw (le-leb (shr2 u ! 10 % 32) 31 (omega arith));
+    }
+shrunk-legal Ta81 u h = record { bytes = bytes-ungrouped h x16Groups 0; accepted = refl }
+shrunk-legal Ta91 u h = record { bytes = bytes-ungrouped h x16Groups 0; accepted = refl }
+
+pub unseals-all-the-same : UnsealsAllTheSame
+unfolding unseal
+unseals-all-the-same = record {
+  every = λ a s v t hs h.
+      let e = unsealed-by a s v t hs h in (
+        ap (λ (x : Unsealing). x .refusal) e,
+        rw (ap (λ (x : Unsealing). x .body) e) (shrunk-legal a (opened (formOf a .key s (pair v)) t) (opened-bytes (formOf a .key s (pair v)) t h)),
+      );
+  other = another;
+}
 
 -- ---- one byte changed
 
@@ -146,7 +172,8 @@ module _ (w : List ℕ) (i d : ℕ) where
 
 pub noticed : Noticed
 unfolding fails
-noticed a s v t i d hs o l h other z =
+noticed a s v t i d o l h other z =
+    let hs = unsealing-size a s v t (o .accepted) in
     let k = formOf a .key s (pair v) in
     let before = right-even a (opened k t) (sym (failed-by a s v t hs (o .bytes .len)) ∙ o .clear) in
     let after = right-even a (opened k (changed 15 i d t)) (sym (failed-by a s v (changed 15 i d t) hs refl) ∙ z) in

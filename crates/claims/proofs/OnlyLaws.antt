@@ -5,22 +5,28 @@ use mathlib.Core.Logic.{_↔_}
 use mathlib.Core.Path.{_≡_, sym, ap, _∙_, subst}
 use Prim.Native.Nat.{ℕ, _<_}
 use Rattle.standard.proofs.InverseLaws.{Inverse, is-image, of-one}
-use Rattle.claims.specs.Entries.{Only, Count}
+use Rattle.claims.specs.Entries.{Only, OfOne, Count}
 
--- what has Q is the image of one thing alone that has P: of its own inverse image
-pub only-image : {A B : Type 0} {P : A → Type 0} {Q : B → Type 0} {f : A → B} {g : B → A} (m : Inverse P Q f g) (y : B)
-    → Q y ↔ Only (λ x. P x × (f x ≡ y)) (g y)
-only-image {g = g} m y = (
-  λ q. record { has = (m .from y q, m .forth y q); only = λ x h. of-one m x y (h .0) (h .1) },
-  λ o. is-image m y .1 (g y, o .has .0, o .has .1),
-)
+-- what has Q is the image of something that has P, and of one such thing alone: of its own inverse image
+pub of-image : {A B : Type 0} {P : A → Type 0} {Q : B → Type 0} {f : A → B} {g : B → A} (m : Inverse P Q f g) (y : B)
+    → OfOne (Q y) (λ x. P x × (f x ≡ y)) (g y)
+of-image m y = record {
+  exactly = (λ q. let e = is-image m y .0 q in (e .0, (e .1, e .2)), λ e. is-image m y .1 (e .0, e .1 .0, e .1 .1));
+  one = λ q. record { has = (m .from y q, m .forth y q); only = λ x h. of-one m x y (h .0) (h .1) };
+}
 
 -- the same of properties that say the same
-pub only-same : {A : Type 0} {P P′ : A → Type 0} {x x′ : A} → ((y : A) → P y ↔ P′ y) → x ≡ x′ → Only P x ↔ Only P′ x′
-only-same {P = P} {P′ = P′} same e = (
-  λ o. record { has = subst P′ e (same _ .0 (o .has)); only = λ y h. o .only y (same y .1 h) ∙ e },
-  λ o. record { has = subst P (sym e) (same _ .1 (o .has)); only = λ y h. o .only y (same y .0 h) ∙ sym e },
-)
+pub of-one-same : {A : Type 0} {Q Q′ : Type 0} {P P′ : A → Type 0} {x x′ : A} → (Q ↔ Q′) → ((y : A) → P y ↔ P′ y) → (Q′ → x ≡ x′)
+    → OfOne Q P x → OfOne Q′ P′ x′
+of-one-same {P′ = P′} q p e o = record {
+  exactly = (
+    λ z. let y = o .exactly .0 (q .1 z) in (y .0, p (y .0) .0 (y .1)),
+    λ y. q .0 (o .exactly .1 (y .0, p (y .0) .1 (y .1))),
+  );
+  one = λ z.
+      let u = o .one (q .1 z) in
+      record { has = subst P′ (e z) (p _ .0 (u .has)); only = λ y h. u .only y (p y .1 h) ∙ e z };
+}
 
 -- one pair of maps behind another
 pub inverse-then : {A B C : Type 0} {P : A → Type 0} {Q : B → Type 0} {R : C → Type 0} {f : A → B} {g : B → A} {f′ : B → C} {g′ : C → B}

@@ -2,6 +2,7 @@
 -- the algorithm. Kind 1 is TA31's, kinds 2 and 5 are TA51's, kinds 3 and 6 are TA81's, and kind 4 is TA91's.
 -- Assumes nothing.
 use mathlib.Core.List.{List}
+use mathlib.Core.Logic.{_↔_}
 use mathlib.Core.Path.{_≡_}
 use Prim.Native.Nat.{ℕ, _+_, _<_}
 use Rattle.standard.specs.Bytes.{_!_, part, table, Bytes}
@@ -21,6 +22,11 @@ pub record Only {A : Type 0} (P : A → Type 0) (x : A) : Type 0 where
 -- exactly one string has P
 abbrev pub ExactlyOne : (List ℕ → Type 0) → Type 0
 ExactlyOne P = (x : List ℕ) × Only P x
+
+-- Q holds exactly if something has P; and then x has it, and nothing else
+pub record OfOne {A : Type 0} (Q : Type 0) (P : A → Type 0) (x : A) : Type 0 where
+  pub exactly : Q ↔ ((y : A) × P y)
+  pub one : Q → Only P x
 
 -- exactly n strings have P: they stand one to one with the numbers below n. `nth` gives the string of a number, `place` takes it back
 pub record Count (n : ℕ) (P : List ℕ → Type 0) : Type 0 where

@@ -71,8 +71,8 @@ pub record OtherKey (a : Algorithm) (s : List ℕ) (v w : Version) (s′ : List 
 abbrev pub KeyAndVersion : Type 0
 KeyAndVersion = (a : Algorithm) (s : List ℕ) (v w : Version) → length s ≡ sealingSize a → OtherKey a s v w (otherKey (sealingSize a) s v w)
 
--- 10b: "A book belongs to one ring." With each version ⊕ the same two bytes x, with D, O and G ⊕ x repeated, and with C as it was, the book
--- has the same texts and encrypted identities
+-- 10b: "A book's texts and encrypted identities belong to one ring." With each version ⊕ the same two bytes x, with D, O and G ⊕ x repeated,
+-- and with C as it was, they are the same
 
 abbrev pub otherRing : List ℕ → List ℕ → List ℕ
 otherRing x r = xors 10 (repeated 10 x) (ringKey D r) ++ xors 16 (repeated 16 x) (ringKey O r) ++ commonKey r ++ xors 16 (repeated 16 x) (ringKey G r)

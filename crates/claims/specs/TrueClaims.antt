@@ -18,7 +18,7 @@ use Rattle.standard.specs.declared.Algorithm.{Algorithm}
 use Rattle.standard.specs.declared.Algorithm.the-variants.{Ta31, Ta51, Ta81, Ta91}
 use Rattle.standard.specs.declared.KeyNumber.{KeyNumber}
 use Rattle.standard.specs.declared.Version.{Version}
-use Rattle.claims.specs.Entries.{Only, ExactlyOne, Count, Legal, sealingSize, sealCall, unsealCall, Opens}
+use Rattle.claims.specs.Entries.{Only, OfOne, ExactlyOne, Count, Legal, sealingSize, sealCall, unsealCall, Opens}
 use Rattle.claims.specs.Variants.{ta52WithoutBits}
 
 -- 1: "Decryption undoes encryption." And encryption undoes decryption. The lengths are those that the calls take; others are refused
@@ -27,10 +27,11 @@ pub record Undone : Type 0 where
   pub back : (k b : List ℕ) → length k ≡ 16 → length b ≡ 8 → decryptCall k (encryptCall k b .bytes) ≡ record { refusal = 0; bytes = b }
   pub forth : (k b : List ℕ) → length k ≡ 16 → length b ≡ 8 → encryptCall k (decryptCall k b .bytes) ≡ record { refusal = 0; bytes = b }
 
--- 2a: "The dropped byte loses nothing: every string of 15 bytes comes from exactly one input that ends in a zero byte." Under every key.
--- The string has to consist of bytes, or it could not come out of BL1
+-- 2a: "The dropped byte loses nothing: every string of 15 bytes comes from exactly one input that ends in a zero byte." Under every key;
+-- that input is what unsealing opens the string to, before it is shrunk, and the zero byte. The string has to consist of bytes, or it could
+-- not come out of BL1
 abbrev pub NothingLost : Type 0
-NothingLost = (k t : List ℕ) → Bytes 15 t → ExactlyOne (λ x. Bytes 16 x × (x ! 15 ≡ 0) × (without8 (bl1 k x) ≡ t))
+NothingLost = (k t : List ℕ) → Bytes 15 t → Only (λ x. Bytes 16 x × (x ! 15 ≡ 0) × (without8 (bl1 k x) ≡ t)) (opened k t ++ 0 ∷ [])
 
 -- 2b: "Without the zero byte exactly 256 inputs would share each text." One for each value d of the dropped byte, which is below 256
 pub record Shared : Type 0 where
@@ -38,31 +39,31 @@ pub record Shared : Type 0 where
   pub in-all : (k t : List ℕ) → Bytes 15 t → Count 256 (λ x. Bytes 16 x × (without8 (bl1 k x) ≡ t))
 
 -- 3: "The checks pass exactly on the expansions of legal bodies, and shrinking gives the body." Said of BL2's output, 15 bytes: with a
--- zero byte behind them they are BL1's input of one body alone
+-- zero byte behind them they are BL1's input of one body alone. What is no string of bytes may pass the checks and be no expansion
 abbrev pub ChecksExactly : Type 0
 ChecksExactly = (a : Algorithm) (u : List ℕ) → Bytes 15 u
-    → (failed (formOf a) u ≡ 0) ↔ Only (λ b. Legal a b × (formOf a .input b ≡ u ++ 0 ∷ [])) (formOf a .shrink u)
+    → OfOne (failed (formOf a) u ≡ 0) (λ b. Legal a b × (formOf a .input b ≡ u ++ 0 ∷ [])) (formOf a .shrink u)
 
 -- 4a: "For a given kind, ring and version a text opens exactly if it is the sealed text of an entry, of one and no other." That one is
--- what unsealing gives. Sealing key and text have the lengths that the calls take; others are refused with 11. The text has to consist of
--- bytes, since sealing gives no other
+-- what unsealing gives. Whatever the sealing key and the text: where a length is wrong, neither call takes them
 abbrev pub OneText : Type 0
-OneText = (a : Algorithm) (s : List ℕ) (v : Version) (t : List ℕ) → length s ≡ sealingSize a → Bytes 15 t
-    → Opens a s v t ↔ Only (λ b. Legal a b × (sealCall a b v s ≡ record { refusal = 0; bytes = t })) (unsealCall a t s v .body)
+OneText = (a : Algorithm) (s : List ℕ) (v : Version) (t : List ℕ)
+    → OfOne (Opens a s v t) (λ b. Legal a b × (sealCall a b v s ≡ record { refusal = 0; bytes = t })) (unsealCall a t s v .body)
 
 -- 4b: "A sealed record opens exactly if it is the sealed form of a plain record, of one and no other, its identity included." Here the
--- ring has to consist of bytes, since those of C go into the identity
+-- ring has to consist of bytes, since those of C go into the identity, and so has the record, whose identity else comes from no other
 abbrev pub OneRecord : Type 0
 OneRecord = (r t : List ℕ) → Bytes ringSize r → Bytes sealedSize t
-    → (openFault r t ≡ 0) ↔ Only (λ p. Bytes plainSize p × (plainFault p ≡ 0) × (sealRecord r p ≡ t)) (openRecord r t)
+    → OfOne (openFault r t ≡ 0) (λ p. Bytes plainSize p × (plainFault p ≡ 0) × (sealRecord r p ≡ t)) (openRecord r t)
 
 -- 4c: "A book opens exactly if it is what sealing makes of a well-formed plain book, of one and no other." Whatever its length; that one is
--- what opening writes. The output has to be long enough, or opening is refused with 12
+-- what opening writes. Ring and book consist of bytes, as in 4b; the output has to be long enough, or opening is refused with 12
 abbrev pub OneBook : Type 0
 OneBook = (r s out : List ℕ) → Bytes ringSize r → ((i : ℕ) → s ! i < 256) → plainSize * (length s / sealedSize) ≤ length out
-    → (openBook r s out .0 .refusal ≡ 0) ↔ Only (λ p. IsSealedForm r p s) (take (openBook r s out .0 .written) (openBook r s out .1))
+    → OfOne (openBook r s out .0 .refusal ≡ 0) (λ p. IsSealedForm r p s) (take (openBook r s out .0 .written) (openBook r s out .1))
 
--- 4d: "A record by itself opens as a book of one record does." So what is said of records is said of the call
+-- 4d: "A record by itself opens as a book of one record does." So what is said of records is said of the call, which takes
+-- these lengths
 abbrev pub RecordAlone : Type 0
 RecordAlone = (r t out : List ℕ) → length r ≡ ringSize → length t ≡ sealedSize → plainSize ≤ length out
     → (openBook r t out .0 .refusal ≡ openFault r t) × (openFault r t ≡ 0 → openBook r t out .1 ≡ openRecord r t ++ drop plainSize out)
@@ -80,8 +81,9 @@ pub record HowMany : Type 0 where
   pub bodies : (a : Algorithm) → Count (howMany a) (Legal a)
   pub opening : (a : Algorithm) (s : List ℕ) (v : Version) → length s ≡ sealingSize a → Count (howMany a) (Opens a s v)
 
--- 6a: "A text whose flag is set unseals to a key all the same." For every legal body there is such a text, other than its sealed text,
--- that unseals to the same key and number; its sealed text, whose flag is clear, does so by 4a
+-- 6a: "A text whose flag is set unseals to a key all the same." Every text unseals to a legal body, whether its flag is set or clear; and
+-- each legal body has another text than its sealed text that unseals to it, with its flag set. The calls take these lengths; a text has to
+-- consist of bytes, or the body might not
 pub record Another (a : Algorithm) (s : List ℕ) (v : Version) (b t : List ℕ) : Type 0 where
   pub bytes : Bytes 15 t
   pub accepted : unsealCall a t s v .refusal ≡ 0
@@ -89,11 +91,13 @@ pub record Another (a : Algorithm) (s : List ℕ) (v : Version) (b t : List ℕ)
   pub set : unsealCall a t s v .failed ≡ 0 → ⊥
   pub other : sealCall a b v s .bytes ≡ t → ⊥
 
-abbrev pub UnsealsAllTheSame : Type 0
-UnsealsAllTheSame = (a : Algorithm) (s : List ℕ) (v : Version) (b : List ℕ) → length s ≡ sealingSize a → Legal a b → (t : List ℕ) × Another a s v b t
+pub record UnsealsAllTheSame : Type 0 where
+  pub every : (a : Algorithm) (s : List ℕ) (v : Version) (t : List ℕ) → length s ≡ sealingSize a → Bytes 15 t
+      → (unsealCall a t s v .refusal ≡ 0) × Legal a (unsealCall a t s v .body)
+  pub other : (a : Algorithm) (s : List ℕ) (v : Version) (b : List ℕ) → length s ≡ sealingSize a → Legal a b → (t : List ℕ) × Another a s v b t
 
 -- 6b: "For kinds 2 and 5 exactly seven other texts unseal to an entry's key and number and fail the check of the three zero bits alone."
--- That check is the fifth of TA52's
+-- That check is the fifth of TA52's. The entry is one that TA51 seals: a sealing key of 16 bytes, a key of 10, a number up to 31
 abbrev pub fifthAlone : ℕ
 fifthAlone = 0b10000
 
@@ -106,7 +110,7 @@ SevenOthers = (s : List ℕ) (v : Version) (ck : List ℕ) (n : ℕ) → length 
 pub record EightWithout : Type 0 where
   pub eight : (s : List ℕ) (v : Version) (ck : List ℕ) (n : ℕ) → length s ≡ 16 → Bytes 10 ck → n ≤ 31
       → Count 8 (λ t. Bytes 15 t × (ta52WithoutBits t s v ≡ record { refusal = 0; key = ck; number = n; «failed_checks» = 0 }))
-  pub not-back : (s : List ℕ) (v : Version) (t : List ℕ) → length s ≡ 16 → Bytes 15 t → ta52Call t s v .«failed_checks» ≡ fifthAlone
+  pub not-back : (s : List ℕ) (v : Version) (t : List ℕ) → length s ≡ 16 → ta52Call t s v .«failed_checks» ≡ fifthAlone
       → (ck : List ℕ) (n : KeyNumber) → Bytes 10 ck → n .0 ≤ 31 → ta51Call ck v s n .bytes ≡ t → ⊥
 
 -- 7a: "A change of one byte, of a text's first seven, goes into the right part of BL2's output as it is." Whether the text opens or not.
@@ -127,5 +131,5 @@ noticedFrom Ta81 = 2
 noticedFrom Ta91 = 2
 
 abbrev pub Noticed : Type 0
-Noticed = (a : Algorithm) (s : List ℕ) (v : Version) (t : List ℕ) (i d : ℕ) → length s ≡ sealingSize a → Opens a s v t
+Noticed = (a : Algorithm) (s : List ℕ) (v : Version) (t : List ℕ) (i d : ℕ) → Opens a s v t
     → noticedFrom a ≤ i → i < 7 → (d ≡ 0 → ⊥) → unsealCall a (changed 15 i d t) s v .failed ≡ 0 → ⊥

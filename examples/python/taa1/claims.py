@@ -59,8 +59,7 @@ CLAIMS: tuple[Claim, ...] = (
     ),
     Claim(
         "3",
-        "The checks pass exactly on the expansions of legal bodies, and shrinking gives the "
-        "body.",
+        "The checks pass exactly on the expansions of legal bodies, and shrinking gives the body.",
         True,
         "for all",
         "the inserted bytes follow from the others, and shrinking leaves the others",
@@ -69,8 +68,8 @@ CLAIMS: tuple[Claim, ...] = (
     ),
     Claim(
         "4a",
-        "For a given kind, ring and version a text opens exactly if it is the sealed text of "
-        "an entry, of one and no other.",
+        "For a given kind, ring and version a text opens exactly if it is the sealed text of an"
+        " entry, of one and no other.",
         True,
         "for all",
         "2a and 3, one after the other",
@@ -79,8 +78,8 @@ CLAIMS: tuple[Claim, ...] = (
     ),
     Claim(
         "4b",
-        "A sealed record opens exactly if it is the sealed form of a plain record, of one and "
-        "no other, its identity included.",
+        "A sealed record opens exactly if it is the sealed form of a plain record, of one and no"
+        " other, its identity included.",
         True,
         "for all",
         "4a, and TA61 can be undone",
@@ -89,7 +88,7 @@ CLAIMS: tuple[Claim, ...] = (
     ),
     Claim(
         "4c",
-        "A book opens exactly if it is the sealed form of a well-formed plain book, of one and"
+        "A book opens exactly if it is what sealing makes of a well-formed plain book, of one and"
         " no other.",
         True,
         "for all",
@@ -108,12 +107,12 @@ CLAIMS: tuple[Claim, ...] = (
     ),
     Claim(
         "5",
-        "Of the 256^15 texts exactly as many open as there are legal bodies: 256^10 of kind 1,"
-        " 32 · 256^10 of kinds 2 and 5, 256^12 of kinds 3, 4 and 6.",
+        "Of the 256^15 texts exactly as many open as there are legal bodies: 256^10 of kind 1, 32"
+        " · 256^10 of kinds 2 and 5, 256^12 of kinds 3, 4 and 6.",
         True,
         "for all",
-        "by 4a they stand one to one with the legal bodies, and those with the numbers below "
-        "that count",
+        "by 4a they stand one to one with the legal bodies, and those with the numbers below that"
+        " count",
         "TrueClaims.HowMany",
         "CountClaims.how-many",
     ),
@@ -128,8 +127,8 @@ CLAIMS: tuple[Claim, ...] = (
     ),
     Claim(
         "6b",
-        "For kinds 2 and 5 exactly seven other texts unseal to an entry's key and number and "
-        "fail the check of the three zero bits alone.",
+        "For kinds 2 and 5 exactly seven other texts unseal to an entry's key and number and fail"
+        " the check of the three zero bits alone.",
         True,
         "for all",
         "the number is five bits of its byte, and the other three have seven other values",
@@ -138,8 +137,8 @@ CLAIMS: tuple[Claim, ...] = (
     ),
     Claim(
         "6c",
-        "Without the check of the three zero bits eight texts would open to one entry, and "
-        "sealing would not give the text back.",
+        "Without the check of the three zero bits eight texts would open to one entry, and"
+        " sealing would not give the text back.",
         True,
         "for all",
         "these seven and the sealed text, which alone has the three bits zero",
@@ -148,8 +147,8 @@ CLAIMS: tuple[Claim, ...] = (
     ),
     Claim(
         "7a",
-        "A change of one byte, of a text's first seven, goes into the right part of BL2's "
-        "output as it is.",
+        "A change of one byte, of a text's first seven, goes into the right part of BL2's output"
+        " as it is.",
         True,
         "for all",
         "those seven bytes are ⊕ into it, and the right block is as it was",
@@ -158,8 +157,8 @@ CLAIMS: tuple[Claim, ...] = (
     ),
     Claim(
         "7b",
-        "The flag notices each change of one byte from the second to the seventh for kind 1, "
-        "from the fourth for kinds 2 and 5, from the third for kinds 3, 4 and 6.",
+        "The flag notices each change of one byte from the second to the seventh for kind 1, from"
+        " the fourth for kinds 2 and 5, from the third for kinds 3, 4 and 6.",
         True,
         "for all",
         "the byte's whole group stands in the right part, where that byte alone has changed",
@@ -171,7 +170,7 @@ CLAIMS: tuple[Claim, ...] = (
         "A text opens as one kind only.",
         False,
         "for all",
-        "kinds 3 and 4 have the same key, expansion and checks",
+        "kinds 3 and 4 are sealed under the same key O, with the same expansion and checks",
         "FalseClaims.ThreeAndFour",
         "KindClaims.three-and-four",
     ),
@@ -204,11 +203,11 @@ CLAIMS: tuple[Claim, ...] = (
     ),
     Claim(
         "10b",
-        "A book belongs to one ring.",
+        "A book's texts and encrypted identities belong to one ring.",
         False,
         "for all",
-        "D, O and G ⊕ two bytes repeated, and each version ⊕ those bytes, give the same texts;"
-        " C is as it was",
+        "D, O and G ⊕ two bytes repeated, and each version ⊕ those bytes, give the same texts; C"
+        " is as it was",
         "FalseClaims.RingAndVersions",
         "RingClaims.ring-and-versions",
     ),
@@ -217,7 +216,8 @@ CLAIMS: tuple[Claim, ...] = (
         "A text opens to one entry, whatever the ring.",
         False,
         "example",
-        "7d3bf4c53bec9b33be0c296b64dc2f opens under two O to two keys",
+        "as kind 3, version 7, 7d3bf4c53bec9b33be0c296b64dc2f opens under O 00 01 .. 0f and under"
+        " O 00 01 .. 0b 00 bf 58 8f to two keys",
         "FalseClaims.TwoRings",
         "ExampleClaims.two-rings",
     ),
@@ -226,7 +226,8 @@ CLAIMS: tuple[Claim, ...] = (
         "A text opens to one entry, whatever the version.",
         False,
         "example",
-        "f4204db56932c32411c2c607ad680c opens under versions 7 and 5075 to two keys",
+        "as kind 3 under O 00 01 .. 0f, f4204db56932c32411c2c607ad680c opens with versions 7 and"
+        " 5075 to two keys",
         "FalseClaims.TwoVersions",
         "ExampleClaims.two-versions",
     ),
@@ -235,8 +236,8 @@ CLAIMS: tuple[Claim, ...] = (
         "The flag notices every change.",
         False,
         "example",
-        "f20234e6a621c279ee4f4cf0ad6279 and f20034e6a621c279ee4f4cf0ad6279 differ in one bit, "
-        "and both open",
+        "as kind 3, version 7, under O 00 01 .. 0f, f20234e6a621c279ee4f4cf0ad6279 and"
+        " f20034e6a621c279ee4f4cf0ad6279 differ in one bit and open to different keys",
         "FalseClaims.OneBit",
         "ExampleClaims.one-bit",
     ),
@@ -245,8 +246,8 @@ CLAIMS: tuple[Claim, ...] = (
         "The flag protects the identity.",
         False,
         "for all",
-        "the flag is worked from the text alone, and every three bytes are some identity, "
-        "encrypted",
+        "the flag is worked from kind, version and text alone, and every three bytes are some"
+        " identity, encrypted",
         "FalseClaims.IdentityFree",
         "IdentityClaims.identity-free",
     ),
@@ -291,8 +292,8 @@ CLAIMS: tuple[Claim, ...] = (
         "EXP2's last byte is the ⊕ of the five inserted bytes.",
         False,
         "example",
-        "it is their sum: for the seed 01 02 .. 0a it is 1f and not 0b, so TA41 answers "
-        "otherwise under every root",
+        "it is their sum: for the seed 01 02 .. 0a it is 1f and not 0b, so TA41 answers otherwise"
+        " under every root",
         "Variants.LastByteXored",
         "VariantClaims.last-byte-xored",
     ),
@@ -301,7 +302,7 @@ CLAIMS: tuple[Claim, ...] = (
         "With TA22 or EXP2 wrong, a text could open to two entries.",
         False,
         "for all",
-        "the ring would be another, and demand 3 holds of every ring",
+        "whatever ring comes out, demand 3 holds of it",
         "Variants.StillHolds",
         "VariantClaims.still-holds",
     ),
