@@ -147,9 +147,10 @@ class Browser:
 
 
 class Words(HTMLParser):
-    """A page's texts and headings: what stands in h1 to h3, titles and rows of heads."""
+    """A page's texts and headings: what stands in h1 to h3, rows of heads and legends."""
 
-    VOID = ("meta", "rect", "path", "line", "br")
+    VOID = ("meta", "rect", "path", "line", "br", "wbr")
+    HEADINGS = {"h1", "h2", "h3", "thead", "legend"}
 
     def __init__(self, page: str) -> None:
         super().__init__()
@@ -159,9 +160,10 @@ class Words(HTMLParser):
         self.feed(page)
 
     def handle_starttag(self, tag: str, attrs: list[tuple[str, Optional[str]]]) -> None:
+        name = "legend" if ("class", "legend") in attrs else tag
         if tag not in self.VOID:
-            self.open.append(tag)
-        if tag in ("h1", "h2", "h3") or (tag == "tr" and "thead" in self.open):
+            self.open.append(name)
+        if name in self.HEADINGS - {"thead"} or (tag == "tr" and "thead" in self.open):
             self.headings.append("")
 
     def handle_startendtag(self, tag: str, attrs: list[tuple[str, Optional[str]]]) -> None:
@@ -173,7 +175,7 @@ class Words(HTMLParser):
     def handle_data(self, data: str) -> None:
         if self.open and self.open[-1] not in ("style", "title"):
             self.texts.append(data)
-            if {"h1", "h2", "h3", "thead"} & set(self.open):
+            if self.HEADINGS & set(self.open):
                 self.headings[-1] += f" {data}"
 
 
@@ -206,7 +208,8 @@ def printed(browser: Browser, page: Path, paper: str) -> Printed:
     a heading (at its top lines to write on may follow), and colours, which black and white
     would lose.
     """
-    words = Words(re.sub('<p class="link">.*?</p>', "", page.read_text()))  # not for paper
+    # A link is not for paper, and a word that may be broken is one word.
+    words = Words(re.sub('<p class="link">.*?</p>|<wbr>', "", page.read_text()))
     wrong: list[str] = []
     pdf = browser.print(paper)
     lines = poppler("pdftotext", pdf, "-layout").decode()

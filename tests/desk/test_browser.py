@@ -135,10 +135,11 @@ class Looking(unittest.TestCase):
                                (broken, "broken: entries")):  # fmt: skip
                 self.show(part, width=width)
                 self.assertIn(said, self.browser.look())
-        style = "h2 { break-after: auto; } p { height: 210mm; margin: 0; break-inside: avoid; }"
-        path = self.show(text("p", "high"), text("h2", "Next"), text("p", "far"), style=style)
-        wrong = ["sheet 1 ends in the heading 'Next'"]
-        self.assertEqual(printed(self.browser, path, "letter").wrong, wrong)
+        style = "h2, .legend { break-after: auto; } p { height: 210mm; margin: 0; break-inside: avoid; }"
+        for head in (text("h2", "Next"), text("ul", "Next", class_="legend")):
+            path = self.show(text("p", "high"), head, text("p", "far"), style=style)
+            wrong = ["sheet 1 ends in the heading 'Next'"]
+            self.assertEqual(printed(self.browser, path, "letter").wrong, wrong)
         path = self.show(text("p", "hidden", style="position: absolute; left: 400mm"), text("p", "here"))
         self.assertNotEqual(printed(self.browser, path, "A4").wrong, [])
         path = self.show(text("p", "red " * 300, style="color: #c00"))

@@ -17,11 +17,11 @@ from taa1.pages import differing
 from taa1.records import SEALED, split
 
 CANDIDATES = ("ann", "ben", "cho", "dee", "eve", "fay")
-VOID = {"meta", "rect", "path", "line", "br"}
+VOID = {"meta", "rect", "path", "line", "br", "wbr"}
 ALLOWED = {
     "html", "head", "meta", "title", "style", "body", "h1", "h2", "h3", "p", "ul", "li", "a", "b", "u",
     "i", "header", "section", "div", "span", "table", "thead", "tbody", "tr", "th", "td",
-    "svg", "defs", "pattern", "path", "rect", "line", "text",
+    "wbr", "svg", "defs", "pattern", "path", "rect", "line", "text",
 }  # fmt: skip
 ATTRIBUTES = {
     "class", "lang", "charset", "name", "content", "href", "data-head", "role", "id", "colspan",
@@ -223,7 +223,7 @@ class Pages(Case):
         index = Page(self.folder / "pages" / "index.html")
         self.assertEqual(len(index.links), 6)
         self.assertNotIn("script", index.count)
-        said = "\n".join(index.texts)
+        said = "".join(index.texts)
         for word in ("<script>alert(1)<\\script>", 'a"b&c\'d', "line\\x0aend", "grüße", "\\xff"):
             self.assertIn(word, said)
         for link in index.links:

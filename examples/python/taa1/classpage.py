@@ -7,7 +7,7 @@ from typing import Iterable, Optional, Sequence
 
 from .mark import Sheet, Wanted
 from .names import sealing
-from .page import Html, Number, page, table, tag, text
+from .page import Html, Number, breakable, page, table, tag, text
 from .pages import RESULT, at_step
 from .pictures import STYLE, Part, bar, decimal, fillings, histogram, legend
 from .records import KINDS
@@ -19,7 +19,7 @@ MOST_ENTRIES = 40  # in the picture of the entries
 
 PLACES = """
 .pictured th:nth-child(2), .pictured td:nth-child(2) { width: 32%; }
-.candidates td:first-child { min-width: 11em; overflow-wrap: anywhere; }
+.candidates td:nth-child(2) { width: 28%; }
 @media screen and (max-width: 40em) {
   .wide td.number { display: inline-block; padding-right: .8em; }
   .pictured td:nth-child(2) { width: auto; }
@@ -37,7 +37,7 @@ def _candidates(sheets: Sequence[Sheet], links: Sequence[str]) -> Html:
         picture = bar([Part(name, count) for name, count in zip(COUNTED, of)], most)
         book = f"not marked: {reason(sheet)}" if sheet.problem else opening(sheet, brief=True)
         found = "; ".join([book, *(slip.name for slip in sheet.slips)])
-        name = text("a", sheet.candidate, href=link)
+        name = tag("a", breakable(sheet.candidate), href=link)
         right = None if sheet.problem else of.right
         points = (sheet.points.sum, sheet.points.most) if sheet.points else (None, None)
         marked = (Number(points_said(each)) if each is not None else None for each in points)

@@ -7,6 +7,7 @@ tables stand as blocks, each cell behind its head.
 
 from __future__ import annotations
 
+import re
 from html import escape
 from typing import Any, Iterable, NamedTuple, Sequence
 
@@ -105,6 +106,12 @@ def tag(name: str, content: str, **attributes: Any) -> Html:
 def text(name: str, content: str, **attributes: Any) -> Html:
     """An element around text."""
     return tag(name, escape(content), **attributes)
+
+
+def breakable(content: str) -> Html:
+    """Printable text in which a word longer than any of a language may be broken."""
+    marked = re.sub(r"[^\s-]{24}(?=[^\s-])", "\\g<0>\0", content)
+    return Html(escape(marked).replace("\0", "<wbr>"))
 
 
 def grouped(data: Any) -> str:

@@ -9,7 +9,7 @@ from .keysheet import KeySheet
 from .mark import Explained, Flags, Marked, Sheet, Wanted
 from .model import entry_title, entry_values, sitting_values
 from .names import IN_SITTING, KIND_NAMES, both, sealing
-from .page import Html, Number, Row, fields, page, pairs, table, tag, text
+from .page import Html, Number, Row, breakable, fields, page, pairs, table, tag, text
 from .records import KINDS, Entry, whole
 from .results import key_result, result
 from .scheme import Points
@@ -22,7 +22,6 @@ RESULT = """
 # Bytes that differ are bold, with a box where they were handed in and a line where they
 # are wanted. On a phone only fields that differ are shown, each as handed in over as wanted.
 STYLE = RESULT + """
-.facts td { overflow-wrap: anywhere; }
 .entries tr:not(.right) td:last-child { font-weight: bold; }
 .beside { margin-bottom: .2em; table-layout: auto; width: auto; }
 .beside th, .beside td { padding-right: 1.4em; white-space: nowrap; }
@@ -286,11 +285,12 @@ def _missing(sheet: Sheet, wanted: Wanted) -> Html:
 def sheet_page(sheet: Sheet, wanted: Wanted, heading: str, class_page: str) -> str:
     """A candidate's page: the result, what explains it, each entry, and where to sign."""
     file = os.path.basename(sheet.name)
-    facts = [("hand-in", file if sheet.problem else f"{file}, {was_read(sheet)}")]
+    hand_in = file if sheet.problem else f"{file}, {was_read(sheet)}"
+    facts: list[tuple[str, Any]] = [("hand-in", breakable(hand_in))]
     facts += [] if sheet.problem else [("flags" if sheet.flags else "book", opening(sheet))]
     facts += [("", line) for line in too_many(sheet) + others(sheet)]
     wrong = [entry for entry in sheet.entries if entry.state not in ("right", "doubled")]
-    parts = [text("p", result(sheet), class_="result"), pairs(facts, "facts")]
+    parts = [text("p", result(sheet), class_="result"), pairs(facts)]
     if sheet.slips:
         parts += [tag("h2", "What went wrong, and at which step"), _slips(sheet)]
     if sheet.points and len(sheet.points.items) > 1:

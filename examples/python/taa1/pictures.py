@@ -29,7 +29,7 @@ STYLE = """
 svg { display: block; overflow: visible; width: 100%; }
 svg text { font: 9pt Arial, "Liberation Sans", sans-serif; fill: #000; }
 .fillings { height: 0; position: absolute; width: 0; }
-.legend { display: flex; flex-wrap: wrap; gap: .2em 1.4em; list-style: none; margin: .4em 0;
+.legend { break-after: avoid; display: flex; flex-wrap: wrap; gap: .2em 1.4em; list-style: none; margin: .4em 0;
   padding: 0; }
 .legend li { align-items: center; display: flex; }
 .legend svg { flex: none; margin-right: .4em; width: 2em; }
