@@ -12,8 +12,8 @@ from typing import Optional
 from urllib.parse import unquote_to_bytes
 
 from common import CLASS, Case, taa1
+from taa1.beside import differing
 from taa1.page import grouped
-from taa1.pages import differing
 from taa1.records import SEALED, split
 
 CANDIDATES = ("ann", "ben", "cho", "dee", "eve", "fay")
@@ -165,12 +165,13 @@ class Pages(Case):
         """A page of what was opened has the plain fields."""
         sealed = self.file("sealed", self.accepted("seal", CLASS / "sitting.txt", CLASS / "model.txt"))
         lines = (CLASS / "model.txt").read_text().replace("version 513", "version 258")
+        lines = lines.replace("identity 00b001", "identity 000000")
         opened = self.file("gil.txt", lines)
         pages = self.folder / "pages"
         self.accepted("mark", "--opened", CLASS / "sitting.txt", sealed, opened, "--html", pages)
         page = Page(pages / "gil.txt.html")
         self.assertTrue(any("11 of 12 entries right, 1 wrong." in text for text in page.texts))
-        self.assertEqual((page.marked["b"][-1], page.marked["u"][-1]), ("258", "513"))
+        self.assertEqual((page.marked["b"], page.marked["u"]), (["0000", "258"], ["b001", "513"]))
         self.assertIn("key (SCK)", page.texts)
         self.assertEqual({path.stat().st_mode & 0o777 for path in pages.iterdir()}, {0o600})
 

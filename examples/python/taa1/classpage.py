@@ -19,7 +19,7 @@ MOST_ENTRIES = 40  # in the picture of the entries
 
 PLACES = """
 .pictured th:nth-child(2), .pictured td:nth-child(2) { width: 32%; }
-.candidates td:nth-child(2) { width: 28%; }
+.candidates th:nth-child(2), .candidates td:nth-child(2) { width: 24%; }
 @media screen and (max-width: 40em) {
   .wide td.number { display: inline-block; padding-right: .8em; }
   .pictured td:nth-child(2) { width: auto; }
@@ -60,8 +60,8 @@ def _entries(sheets: Sequence[Sheet], wanted: Wanted) -> Iterable[str]:
         rows.append((f"entry {at}", bar(parts, marked), often[at], what))
     yield table(("entry", "candidates", "number", "kind"), rows, "pictured") if rows else ""
     if ranked[MOST_ENTRIES:]:
-        fewest = often[ranked[MOST_ENTRIES]]
-        yield text("p", f"{len(ranked) - MOST_ENTRIES} more entries were got wrong by {fewest} or fewer.")
+        more, most = len(ranked) - MOST_ENTRIES, often[ranked[MOST_ENTRIES]]
+        yield text("p", f"{more} more entries were got wrong by {most} or fewer.")
     never = [at for at in range(len(wanted.plain)) if at not in often]
     if marked and never:
         yield text("p", f"Right in every book that was marked: entries {spans(never)}.")

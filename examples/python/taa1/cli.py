@@ -30,7 +30,7 @@ from .files import STANDARD, Problem, place, shown
 from .forms import BYTES, FORMS, text_of
 from .handins import Reader
 from .library import PACKAGE, LibraryError, repository
-from .mark import Marker, Sheet
+from .mark import Marker
 from .model import model_answer, model_json, model_text
 from .opened import OpenedMarker
 from .overview import EXAMPLES, overview

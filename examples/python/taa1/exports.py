@@ -19,7 +19,8 @@ from .texts import Heading
 FORM, VERSION = "taa1 mark", 1
 
 HEADS = (
-    "candidate", "file", "entries", *COUNTED, "points", "of points", "opens", "slips", "read as", "problem",
+    "candidate", "file", "entries", *COUNTED, "points", "of points", "opens", "slips", "read as",
+    "problem",
 )  # fmt: skip
 FORMULA = ("=", "+", "-", "@", "\t", "\r")  # what begins a formula in a spreadsheet
 

@@ -3,14 +3,16 @@
 from __future__ import annotations
 
 import os
-from typing import Any, Iterable, NamedTuple, Sequence
+from typing import Any, Iterable
 
+from . import beside
+from .beside import Field, plain_fields, sealed_fields
 from .keysheet import KeySheet
 from .mark import Explained, Flags, Marked, Sheet, Wanted
 from .model import entry_title, entry_values, sitting_values
-from .names import IN_SITTING, KIND_NAMES, both, sealing
+from .names import IN_SITTING, both, sealing
 from .page import Html, Number, Row, breakable, fields, page, pairs, table, tag, text
-from .records import KINDS, Entry, whole
+from .records import KINDS, Entry
 from .results import key_result, result
 from .scheme import Points
 from .scheme import said as points_said
@@ -19,43 +21,23 @@ from .sheets import explains, fault, opening, others, too_many, was_read
 RESULT = """
 .result { font-size: 1.15em; margin: 0 0 .8em; }
 """
-# Bytes that differ are bold, with a box where they were handed in and a line where they
-# are wanted. On a phone only fields that differ are shown, each as handed in over as wanted.
-STYLE = RESULT + """
+STYLE = RESULT + beside.STYLE + """
 .entries tr:not(.right) td:last-child { font-weight: bold; }
-.beside { margin-bottom: .2em; table-layout: auto; width: auto; }
-.beside th, .beside td { padding-right: 1.4em; white-space: nowrap; }
-.beside th { font-weight: normal; }
-.beside td:first-child { width: 6em; }
-td b { outline: 1px solid #000; outline-offset: 1px; }
-td u { font-weight: bold; text-decoration-thickness: 2px; text-underline-offset: 2px; }
-td i { display: inline-block; font-style: normal; width: 5.5em; }
 .points, .points .number { width: auto; }
-.keys td { padding-right: 1.2em; }
 .points tr:last-child td { font-weight: bold; }
+.keys td { padding-right: 1.2em; }
 section h3 { margin: 1em 0 .2em; }
 section p { margin: 0 0 .2em; }
 .sign { break-inside: avoid; margin-top: 2em; }
 @media print { .link { display: none; } }
 @media screen and (max-width: 40em) {
-  td i { display: block; }
   .keys td:nth-child(2)::before { content: none; }
   .entries td, .entries td.number { display: inline; padding-right: .5em; }
   .entries td:nth-last-child(-n+2)::before { content: none; }
-  .beside { display: flex; flex-direction: column; width: 100%; }
-  .beside thead, .beside td:first-child, .beside .same { display: none; }
-  .beside tbody, .beside tr { display: contents; }
-  .beside td { border: 0; padding: 0; white-space: normal; }
-  .beside td::before { content: attr(data-head) " "; font: 11pt/1.4 Arial, "Liberation Sans",
-    sans-serif; color: #444; display: block; }
-  .beside td:nth-child(2) { order: 2; } .beside td:nth-child(3) { order: 3; }
-  .beside td:nth-child(4) { order: 4; } .beside td:nth-child(5) { order: 5; }
-  .beside td:nth-child(6) { order: 6; }
 }
 """
 
 MADE_BY = "taa1 mark"  # a candidate's page
-HANDED_IN, WANTED = "handed in", "wanted"
 
 
 def model_page(model: dict[str, Any], heading: str = "") -> str:
@@ -83,86 +65,6 @@ def model_page(model: dict[str, Any], heading: str = "") -> str:
     )
 
 
-# ---- what was handed in beside what was wanted
-
-
-def differing(data: bytes, other: bytes, name: str) -> Html:
-    """Bytes in groups of four digits, as everywhere; those that another string has not in
-    their place within an element."""
-    said, inside = "", False
-    for at in range(len(data)):
-        differs = data[at : at + 1] != other[at : at + 1]
-        gap = " " if at and at % 2 == 0 and len(data) > 3 else ""
-        if inside and not differs:
-            said += f"</{name}>"
-        said += gap + (f"<{name}>" if differs and not inside else "") + f"{data[at]:02x}"
-        inside = differs
-    return Html(said + (f"</{name}>" if inside else ""))
-
-
-class Field(NamedTuple):
-    """A field of a record: its names, what was handed in and what is wanted."""
-
-    name: str
-    has: Any  # bytes, a number, or none
-    wants: Any
-
-    def cell(self, wanted: bool) -> Html:
-        """Its cell in the row of what was handed in, or was wanted."""
-        value, other = (self.wants, self.has) if wanted else (self.has, self.wants)
-        name = "u" if wanted else "b"
-        same = value == other
-        if isinstance(value, bytes):
-            said = differing(value, other if isinstance(other, bytes) else b"", name)
-        else:
-            number = "-" if value is None else str(value)
-            said = text("span", number) if same else text(name, number)
-        return tag(
-            "td",
-            said,
-            class_=f"{'hex' * isinstance(value, bytes)}{' same' * same}".strip(),
-            data_head=f"{self.name}, {WANTED if wanted else HANDED_IN}",
-        )
-
-
-def sealed_fields(record: bytes, wanted: bytes) -> list[Field]:
-    """A sealed record beside the one that is wanted."""
-    names = KIND_NAMES[wanted[0]]
-    return [
-        Field("kind", record[0], wanted[0]),
-        Field(both("encrypted identity"), record[1:4], wanted[1:4]),
-        Field(f"version ({names.version})", whole(record[4:6]), whole(wanted[4:6])),
-        Field(f"text ({names.sealed})", record[6:], wanted[6:]),
-    ]
-
-
-def plain_fields(has: Any, wants: Entry) -> list[Field]:
-    """An opened entry, or none, beside the one that is wanted."""
-    names = KIND_NAMES[wants.kind]
-    kind, identity, version, key, number = has[:5] if has else (None,) * 5
-    made = [
-        Field("kind", kind, wants.kind),
-        Field(both("identity"), identity and identity.to_bytes(3, "big"), wants.identity.to_bytes(3, "big")),
-        Field(f"version ({names.version})", version, wants.version),
-        Field(f"key ({names.key})", key, wants.key),
-    ]
-    if number is not None or wants.number is not None:
-        name = f"number ({names.number})" if names.number else "number"
-        made.append(Field(name, number, wants.number))
-    return made
-
-
-def beside(what: str, compared: Sequence[Field]) -> Html:
-    """What was handed in over what was wanted."""
-    head = "".join(text("th", each) for each in (what, *(field.name for field in compared)))
-    rows = [
-        text("td", name) + "".join(field.cell(wanted) for field in compared)
-        for name, wanted in ((HANDED_IN, False), (WANTED, True))
-    ]
-    body = "".join(tag("tr", row) for row in rows)
-    return tag("table", tag("thead", tag("tr", head)) + tag("tbody", body), class_="beside")
-
-
 # ---- a candidate's page
 
 
@@ -183,20 +85,25 @@ def _compared(entry: Marked, sheet: Sheet, wanted: Wanted) -> list[Html]:
         return [pairs([("record", entry.record)])]
     plain = wanted.plain[entry.model]
     if sheet.flags:
-        fields_ = _opened(entry, plain, sheet.flags)
-        return [beside("opened", fields_)] if fields_ else []
-    made = [beside("sealed", sealed_fields(entry.record, wanted.sealed[entry.model]))]
+        compared = _opened(entry, plain, sheet.flags)
+        return [beside.table("opened", compared)] if compared else []
+    made = [beside.table("sealed", sealed_fields(entry.record, wanted.sealed[entry.model]))]
     if entry.opened:
         _, identity, _, *sealed = plain_fields(entry.opened, plain)
         said = [identity, *(sealed if entry.opened.key else ())]
         if any(field.has != field.wants for field in said):
-            made.append(beside("opened", said))
+            made.append(beside.table("opened", said))
     return made
 
 
 def _algorithm(kind: int, wanted: Wanted) -> str:
     """The algorithm by which entries of a kind were to be sealed, or unsealed."""
     return (KINDS[kind].seal if wanted.sealed else KINDS[kind].unseal).upper()
+
+
+def _kind(kind: int, wanted: Wanted) -> str:
+    """A kind, and its algorithm."""
+    return f"{kind}, {sealing(kind)} by {_algorithm(kind, wanted)}"
 
 
 def _slips(sheet: Sheet) -> Html:
@@ -226,13 +133,8 @@ def _keys(keys: KeySheet) -> Iterable[Html]:
     yield from (text("p", line) for line in keys.problems)
     rows = []
     for mark in keys.marks:
-        value: Any = mark.has
-        if mark.wants is not None and mark.has != mark.wants:
-            lines = ((HANDED_IN, differing(mark.has, mark.wants, "b")),
-                     (WANTED, differing(mark.wants, mark.has, "u")))  # fmt: skip
-            value = Html("".join(
-                tag("div", text("i", name) + tag("span", said, class_="hex")) for name, said in lines
-            ))
+        wrong = mark.wants is not None and mark.has != mark.wants
+        value = beside.over(mark.has, mark.wants or b"") if wrong else mark.has
         rows.append((both(mark.name), value, key_result(mark)))
     yield table(("value", "bytes", "result"), rows, "keys")
 
@@ -241,7 +143,7 @@ def _entry_section(entry: Marked, sheet: Sheet, wanted: Wanted) -> Html:
     """What is wrong with an entry."""
     kind = None if entry.model is None else wanted.plain[entry.model].kind
     title = f"Entry {entry.index}"
-    title += f": kind {kind}, {sealing(kind)} by {_algorithm(kind, wanted)}" if kind else ""
+    title += f": kind {_kind(kind, wanted)}" if kind else ""
     said = fault(entry, values=False)
     said = said[:1].upper() + said[1:] + "."
     for slip in sheet.slips:
@@ -269,17 +171,19 @@ def _entries(sheet: Sheet, wanted: Wanted) -> Html:
 
 
 def _missing(sheet: Sheet, wanted: Wanted) -> Html:
-    """The entries that are missing, as they are wanted."""
-    rows = []
+    """The entries that are missing, as they are wanted, be it by their flag alone."""
+    rows: list[tuple[Any, ...]] = []
     for at in sheet.missing:
         plain = wanted.plain[at]
         made = plain_fields(plain, plain)
         if wanted.sealed:
             made = sealed_fields(wanted.sealed[at], wanted.sealed[at])
-        kind = f"{plain.kind}, {sealing(plain.kind)} by {_algorithm(plain.kind, wanted)}"
-        rows.append((at, kind, *(field.wants for field in made[1:4])))
-    name, text_ = ("encrypted identity", "text") if wanted.sealed else ("identity", "key")
-    return table(("entry", "kind", both(name), "version", text_), rows)
+        values = [field.wants for field in made[1:4]]
+        if sheet.flags and at in sheet.flags.set:
+            values = [None, None, f"its {both('flag')} is set"]
+        rows.append((at, _kind(plain.kind, wanted), *values))
+    heads = ("encrypted identity", "text") if wanted.sealed else ("identity", "key")
+    return table(("entry", "kind", both(heads[0]), "version", heads[1]), rows)
 
 
 def sheet_page(sheet: Sheet, wanted: Wanted, heading: str, class_page: str) -> str:
