@@ -57,6 +57,9 @@ pub entries-short : (n : ℕ) → length (entriesLine n) ≤ room
 unfolding entriesLine
 entries-short n = simp length-append (omega (arith, digits-few 20 n))
 
+pub last-short : (n : ℕ) {line : List ℕ} → line ≡ entriesLine n → length line ≤ room
+last-short n e = omega (arith, ap length e, entries-short n)
+
 pub refused-short : (number index : ℕ) → length (refusedLine number index) ≤ room
 unfolding refusedLine
 refused-short number index = simp length-append (omega (arith, digits-few 20 number, digits-few 20 index))
@@ -168,7 +171,7 @@ listing-fits p = go (eqb (checkPlain p .refusal) 0) refl
     go true e = entries-most n p (accepted-few p (eqb-true _ 0 e))
     go false e = omega (arith, refused-short (checkPlain p .refusal) (checkPlain p .index))
 
-pub listed : (p out : List ℕ) {n : ℕ} {exit : List ℕ} → length out ≡ listingRoom → (n, exit) ≡ putCall 0 (listing p) out → (n, exit) ≡ listCall p out
+pub listed : (p out : List ℕ) {n : ℕ} {exit : List ℕ} → listingRoom ≤ length out → (n, exit) ≡ putCall 0 (listing p) out → (n, exit) ≡ listCall p out
 listed p out h e = e ∙ rw (take-all (length out) (listing p) (omega (arith, h, listing-fits p)))
 
 module _ (refusal index written : ℕ) where

@@ -1,16 +1,19 @@
 -- `listing::list_entries` meets its contract.
 -- Assumes nothing.
-use mathlib.Core.List.{List, _++_}
+use mathlib.Core.List.{List}
+use mathlib.Core.Path.{_≡_, ap}
 use Prim.Native.Nat.{ℕ}
 use native.Mathlib.Omega.{arith}
+use lib.ListN.{length}
 use denote.Ref.{now}
 use borrow.Author.Needs.{needs}
-use Rattle.listing.proofs.ListLaws.{entries-most, entries-put}
-use Rattle.standard.specs.Listing.{entryLines, entriesLine}
-use Rattle.text.proofs.LineLaws.{put-length}
+use Rattle.listing.proofs.ListLaws.{last-short, lines-short, entries-put}
+use Rattle.standard.specs.Listing.{entryLines}
+use Rattle.text.specs.Lines.{shown}
 use Rattle.listing.proofs.list_entries.Statement.{statement}
 use Rattle.listing.proofs.list_entries.Tie as tie
 
+-- both lengths are small
 add-result : tie.Need-add-result
 add-result c =
     let put = c .before .before in
@@ -19,9 +22,10 @@ add-result c =
     let start = lines .before .before .before .before in
     let n = start .args .n in
     let p : List ℕ = now (start .args .plain) in
-    let out : List ℕ = now (start .args .out) in
-    let all = entries-put n p out (last .entries-line .ensures) (lines .entry-lines .ensures) (put .put .ensures) in
-    omega (arith, put-length 0 (entryLines n p ++ entriesLine n) out all, entries-most n p (start .pre .1))
+    let l = last .entries-line .result in
+    let at : lines .entry-lines .result ≡ length (entryLines n p) = ap (λ (x : ℕ × List ℕ). x .0) (lines .entry-lines .ensures) in
+    let k : put .put .result ≡ length (shown l) = ap (λ (x : ℕ × List ℕ). x .0) (put .put .ensures) in
+    omega (arith, start .pre .1, at, lines-short n p, k, last-short _ (last .entries-line .ensures))
 
 returns : tie.Need-returns
 returns c =

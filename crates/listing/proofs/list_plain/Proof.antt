@@ -2,7 +2,7 @@
 -- Assumes nothing.
 use mathlib.Core.List.{List}
 use mathlib.Core.Path.{_≡_, sym, ap, _∙_}
-use Prim.Native.Nat.{ℕ}
+use Prim.Native.Nat.{ℕ, _≤_}
 use native.Mathlib.Omega.{arith}
 use lib.ListN.{length}
 use denote.Ref.{now}
@@ -18,7 +18,7 @@ returns c =
     let line = c .before .before in
     let check = line .before .before .before in
     let x = check .before .before .args in
-    let room : length (now (x .out)) ≡ listingRoom = search needs in
+    let room : listingRoom ≤ length (now (x .out)) = search needs in
     let refused = listing-refused (now (x .plain)) (check .check-plain .ensures) (line .before .if1 .taken) in
     listed (now (x .plain)) (now (x .out)) room (rw (refused, ← line .refused-line .ensures) (c .put .ensures))
 
@@ -33,7 +33,7 @@ returns-2 : tie.Need-returns-2
 returns-2 c =
     let check = c .before .before .before .before in
     let x = check .before .before .args in
-    let room : length (now (x .out)) ≡ listingRoom = search needs in
+    let room : listingRoom ≤ length (now (x .out)) = search needs in
     let entries = listing-entries (now (x .plain)) (check .check-plain .ensures) (c .before .before .if1 .left) in
     listed (now (x .plain)) (now (x .out)) room (rw entries (c .list-entries .ensures))
 

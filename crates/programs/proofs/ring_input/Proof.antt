@@ -1,0 +1,11 @@
+-- `programs::ring_input` meets its contract.
+-- Assumes nothing.
+use mathlib.Core.Path.{refl}
+use Rattle.programs.proofs.ring_input.Statement.{statement}
+use Rattle.programs.proofs.ring_input.Tie as tie
+
+returns : tie.Need-returns
+returns c = refl
+
+pub ring-input-spec : {M : Type 1} → statement M
+ring-input-spec = tie.close (tie.spec returns)
