@@ -120,7 +120,7 @@ class Class(Case):
                 self.assertAlmostEqual(wide[what], 100 * count / most, 1, (name, what))
         worst = re.findall(r'data-head="entry">entry (\d+)<.*?<title>(.*?)</title>', page)
         self.assertEqual(worst[:3], [("2", "wrong: 2"), ("4", "fails a check: 2"), ("0", "missing: 1")])
-        self.assertIn("Right in every book that was marked: entries 5, 6 and 8.", page)
+        self.assertIn("Nobody got entries 5, 6 and 8 wrong.", page)
 
     def test_histogram(self) -> None:
         """Every value is in one column, and full points in the last."""

@@ -8,14 +8,15 @@ from typing import Iterable, Optional, Sequence
 from .mark import Sheet, Wanted
 from .names import sealing
 from .page import Html, Number, breakable, page, table, tag, text
-from .pages import RESULT, at_step
+from .pages import RESULT, at_step, kind_said
 from .pictures import STYLE, Part, bar, decimal, fillings, histogram, legend
 from .records import KINDS
-from .results import COUNTED, FAILS, MISSING, WRONG, average, counts, wrong_by_entry
+from .results import COUNTED, WRONG, average, counts, wrong_by_entry
 from .scheme import said as points_said
-from .sheets import Summary, class_numbers, opening, plural, reason, spans
+from .sheets import Summary, class_numbers, entries_said, opening, plural, reason
 
 MOST_ENTRIES = 40  # in the picture of the entries
+CHECKS = "Checks of the redundancy, and how many entries fail them"
 
 PLACES = """
 .pictured th:nth-child(2), .pictured td:nth-child(2) { width: 32%; }
@@ -54,17 +55,18 @@ def _entries(sheets: Sequence[Sheet], wanted: Wanted) -> Iterable[str]:
     marked = sum(not sheet.problem for sheet in sheets)
     rows = []
     for at in ranked[:MOST_ENTRIES]:
-        kind = wanted.plain[at].kind
         parts = [Part(name, counted[at]) for name, counted in wrong.items()]
-        what = f"{kind}, {sealing(kind)} by {KINDS[kind].seal.upper()}"
+        what = kind_said(wanted.plain[at].kind, wanted)
         rows.append((f"entry {at}", bar(parts, marked), often[at], what))
-    yield table(("entry", "candidates", "number", "kind"), rows, "pictured") if rows else ""
+    if rows:
+        yield legend(wrong)
+        yield table(("entry", "candidates", "number", "kind"), rows, "pictured")
     if ranked[MOST_ENTRIES:]:
         more, most = len(ranked) - MOST_ENTRIES, often[ranked[MOST_ENTRIES]]
         yield text("p", f"{more} more entries were got wrong by {most} or fewer.")
     never = [at for at in range(len(wanted.plain)) if at not in often]
     if marked and never:
-        yield text("p", f"Right in every book that was marked: entries {spans(never)}.")
+        yield text("p", f"Nobody got {entries_said(never)} wrong.")
 
 
 def _slips(sheets: Sequence[Sheet], of: Summary) -> Html:
@@ -85,12 +87,12 @@ def _checks(of: Summary) -> Html:
     rows = []
     for kind in sorted({kind for kind, _ in failing}):
         zero_bits = KINDS[kind].number == 1
-        counts: list[Optional[int]] = [failing.get((kind, at), 0) for at in range(KINDS[kind].checks)]
-        last = counts.pop() if zero_bits else None
-        counts += [None] * (most - len(counts))
-        rows.append((f"{kind}, {sealing(kind)}", *counts, last))
+        often: list[Optional[int]] = [failing.get((kind, at), 0) for at in range(KINDS[kind].checks)]
+        last = often.pop() if zero_bits else None
+        often += [None] * (most - len(often))
+        rows.append((f"{kind}, {sealing(kind)}", *often, last))
     heads = ("kind", *(f"byte {at}" for at in range(most)), "three zero bits")
-    return table(heads, rows, "checks") if rows else text("p", "None.")
+    return table(heads, rows) if rows else text("p", "None.")
 
 
 def class_page(
@@ -122,12 +124,10 @@ def class_page(
         _candidates(sheets, links),
         *pictured,
         tag("h2", "Entries, by how many candidates got them wrong"),
-        legend((WRONG, FAILS, MISSING)),
         *_entries(sheets, wanted),
         tag("h2", "Slips, by how many candidates made them"),
         _slips(sheets, of),
-        tag("h2", "Checks of the redundancy, and how many entries fail them"),
-        _checks(of),
+        *([] if of.unopened is None else [tag("h2", CHECKS), _checks(of)]),
         above=heading,
         style=RESULT + STYLE + PLACES,
     )

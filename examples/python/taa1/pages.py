@@ -101,7 +101,7 @@ def _algorithm(kind: int, wanted: Wanted) -> str:
     return (KINDS[kind].seal if wanted.sealed else KINDS[kind].unseal).upper()
 
 
-def _kind(kind: int, wanted: Wanted) -> str:
+def kind_said(kind: int, wanted: Wanted) -> str:
     """A kind, and its algorithm."""
     return f"{kind}, {sealing(kind)} by {_algorithm(kind, wanted)}"
 
@@ -143,7 +143,7 @@ def _entry_section(entry: Marked, sheet: Sheet, wanted: Wanted) -> Html:
     """What is wrong with an entry."""
     kind = None if entry.model is None else wanted.plain[entry.model].kind
     title = f"Entry {entry.index}"
-    title += f": kind {_kind(kind, wanted)}" if kind else ""
+    title += f": kind {kind_said(kind, wanted)}" if kind else ""
     said = fault(entry, values=False)
     said = said[:1].upper() + said[1:] + "."
     for slip in sheet.slips:
@@ -181,7 +181,7 @@ def _missing(sheet: Sheet, wanted: Wanted) -> Html:
         values = [field.wants for field in made[1:4]]
         if sheet.flags and at in sheet.flags.set:
             values = [None, None, f"its {both('flag')} is set"]
-        rows.append((at, _kind(plain.kind, wanted), *values))
+        rows.append((at, kind_said(plain.kind, wanted), *values))
     heads = ("encrypted identity", "text") if wanted.sealed else ("identity", "key")
     return table(("entry", "kind", both(heads[0]), "version", heads[1]), rows)
 

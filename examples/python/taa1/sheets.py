@@ -88,7 +88,8 @@ def spans(indexes: Iterable[int]) -> str:
     return said[0] if len(said) == 1 else f"{', '.join(said[:-1])} and {said[-1]}"
 
 
-def _entries(indexes: list[int]) -> str:
+def entries_said(indexes: list[int]) -> str:
+    """Entries by their numbers: `entries 0 to 3 and 19`."""
     return f"{'entry' if len(indexes) == 1 else 'entries'} {spans(indexes)}"
 
 
@@ -131,12 +132,12 @@ def fault(*entries: Marked, values: bool = True) -> str:
     one = len(entries) == 1
     models = sorted({entry.model for entry in entries if entry.model is not None})
     if state == "doubled":
-        return f"{'is' if one else 'are'} the model's {_entries(models)} again"
+        return f"{'is' if one else 'are'} the model's {entries_said(models)} again"
     if state == "extra" and models:
-        return f"{'one ' * one}more attempt{'s' * (not one)} at the model's {_entries(models)}"
+        return f"{'one ' * one}more attempt{'s' * (not one)} at the model's {entries_said(models)}"
     faults = list(said)
     for field, _ in borrowed:
-        owners = _entries([dict(entry.borrowed)[field] for entry in entries])
+        owners = entries_said([dict(entry.borrowed)[field] for entry in entries])
         faults.append(f"{'has' if one else 'have'} the {field} of the model's {owners}")
     if failed:
         faults.append(f"seal{'s' * one} no key: {failed}")
@@ -170,7 +171,7 @@ def faults(sheet: Sheet) -> list[str]:
         away = values and group[0].state == "wrong" and models[0] != group[0].index
         like = f" (the model's {spans(models)})" if away else ""
         what = fault(*group, values=values)
-        said.append(f"{_entries([entry.index for entry in group])}{like}: {what}")
+        said.append(f"{entries_said([entry.index for entry in group])}{like}: {what}")
     more = sum(map(len, groups[len(shown) :]))
     if more:
         said.append(f"{more} more entries are wrong: --json and --html list each")
@@ -200,9 +201,9 @@ def others(sheet: Sheet) -> list[str]:
     said = []
     moved = [entry.index for entry in sheet.entries if entry.moved]
     if moved:
-        said.append(f"in another order: {_entries(moved)}")
+        said.append(f"in another order: {entries_said(moved)}")
     if sheet.missing and not sheet.problem:
-        said.append(f"missing: the model's {_entries(list(sheet.missing))}")
+        said.append(f"missing: the model's {entries_said(list(sheet.missing))}")
     said += sheet.problems
     if sheet.left:
         more = f"{plural(sheet.left, 'more byte')} behind the last record"
@@ -214,7 +215,7 @@ def others(sheet: Sheet) -> list[str]:
 def explains(slip: Explained) -> str:
     """Which entries and keys a slip explains."""
     part = f", their {slip.part}" if slip.part else ""
-    what = [_entries(list(slip.entries)) + part] if slip.entries else []
+    what = [entries_said(list(slip.entries)) + part] if slip.entries else []
     own = ", worked from the candidate's own keys" if slip.own else ""
     return "; ".join([*what, *([listed(slip.keys)] if slip.keys else [])]) + own
 
