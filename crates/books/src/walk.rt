@@ -155,6 +155,7 @@ pub(crate) fn write(way: Way, ring: &RingBytes, book: &[u8], n: usize, out: &mut
     }
     let strings = strings_of(ring);
     let b = strings.bytes;
-    let runs = write_with(way, ring, b, book, n, out);
-    strings.runs + runs
+    let made = strings.runs;
+    let wrote = write_with(way, ring, b, book, n, out);
+    made + wrote
 }

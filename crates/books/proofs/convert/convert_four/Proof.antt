@@ -1,7 +1,6 @@
--- `books::convert::convert_four` meets its contract.
--- Assumes nothing.
 use mathlib.Core.List.{List}
-use mathlib.Core.Path.{refl, ap, _∙_}
+use mathlib.Core.Path.{ap, _∙_}
+use native.Mathlib.Omega.{arith}
 use denote.Ref.{now}
 use borrow.Author.Needs.{needs}
 use Rattle.books.proofs.WayLaws.{converted-by}
@@ -14,7 +13,7 @@ use Rattle.books.proofs.convert.convert_four.Statement.{statement}
 use Rattle.books.proofs.convert.convert_four.Tie as tie
 
 runs-of-requires : tie.Need-runs-of-requires
-runs-of-requires c κs = rw (c .before .before .before .before .cores .ensures) (refl, refl, refl, refl)
+runs-of-requires c κs = rw (c .before .before .before .before .cores .ensures) (omega arith, omega arith, omega arith, omega arith)
 
 returns : tie.Need-returns
 returns c =
@@ -28,7 +27,7 @@ returns c =
           ∙ four-put (toOf w) (x .i) (λ j. convertOf r b w (recordAt (sizeOf w) (now (x .book)) j)) (now (x .out))
           (converted-by w r b _ (t .0) (t .4) (ap (λ (l : List CoreOutput15). lane15 l 0 .output) o)) (converted-by w r b _ (t .1) (t .5) (ap (λ (l : List CoreOutput15). lane15 l 1 .output) o))
           (converted-by w r b _ (t .2) (t .6) (ap (λ (l : List CoreOutput15). lane15 l 2 .output) o)) (converted-by w r b _ (t .3) (t .7) (ap (λ (l : List CoreOutput15). lane15 l 3 .output) o)),
-      c .runs-of .ensures,
+      c .runs-of .ensures ∙ rw o,
     )
 
 pub convert-four-spec : {M : Type 1} → statement M

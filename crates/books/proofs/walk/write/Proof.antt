@@ -1,5 +1,3 @@
--- `books::walk::write` meets its contract.
--- Assumes nothing.
 use mathlib.Core.List.{List, _++_}
 use mathlib.Core.Path.{_≡_, refl, ap, _∙_}
 use Prim.Native.Nat.{ℕ, _*_}
@@ -24,24 +22,18 @@ one-run e = ap (λ (s : IdentityStrings). s .runs) e
 returns : tie.Need-returns
 returns c = rw (c .if1 .taken, mul-zero) (refl, refl)
 
-strings-of-requires : tie.Need-strings-of-requires
-strings-of-requires c κs = search needs
-
 write-with-requires : tie.Need-write-with-requires
 write-with-requires c κs = c .before .before .before .before .before .before .pre
 
 add-result : tie.Need-add-result
 add-result c =
-    let wrote = c .before .before .before in
+    let wrote = c .before .before in
     let start = wrote .before .before .before .before .before .before .before in
     omega (arith, one-run (wrote .before .before .before .strings-of .ensures), wrote .write-with .ensures .1, runs-fit (start .args .way) (start .args .n) _ (start .pre .0), start .good)
 
-same-length : tie.Need-same-length
-same-length c = search needs
-
 returns-2 : tie.Need-returns-2
 returns-2 c =
-    let wrote = c .before .before .before in
+    let wrote = c .before .before in
     let made = wrote .before .before .before in
     let x = made .before .before .before .before .args in (
       wrote .write-with .ensures .0
@@ -53,4 +45,11 @@ returns-2 c =
 
 pub write-spec : {M : Type 1} → statement M
 write-spec =
-    tie.close (tie.spec returns strings-of-requires write-with-requires add-result same-length returns-2)
+    tie.close
+    (tie.spec
+    returns
+    (λ c κs. search needs)
+    write-with-requires
+    add-result
+    (λ c. search needs)
+    returns-2)
