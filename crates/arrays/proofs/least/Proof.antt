@@ -1,5 +1,3 @@
--- `arrays::least` meets its contract.
--- Assumes nothing.
 use mathlib.Core.Logic.{inl, inr}
 use mathlib.Core.Path.{refl}
 use borrow.Author.Needs.{needs}

@@ -1,5 +1,3 @@
--- `books::book_call` meets its contract.
--- Assumes nothing.
 use mathlib.Core.Path.{_≡_, _∙_}
 use Prim.Native.Nat.{_*_, _/_, _≤_}
 use native.Mathlib.Omega.{arith}
@@ -15,25 +13,10 @@ use Rattle.standard.specs.Sizes.{ringSize}
 use Rattle.books.proofs.book_call.Statement.{statement}
 use Rattle.books.proofs.book_call.Tie as tie
 
-refused-after-requires : tie.Need-refused-after-requires
-refused-after-requires c κs = search needs
-
 returns : tie.Need-returns
 returns c =
     let x = c .before .before .before .before .before .args in
     rw (c .refused-after .ensures) (ring-refused (now (x .ring)) (x .way) (now (x .book)) (now (x .out)) (c .before .if1 .taken))
-
-size-requires : tie.Need-size-requires
-size-requires c κs = search needs
-
-to-requires : tie.Need-to-requires
-to-requires c κs = search needs
-
-lengths-and-output-requires : tie.Need-lengths-and-output-requires
-lengths-and-output-requires c κs = search needs
-
-refused-after-requires-2 : tie.Need-refused-after-requires-2
-refused-after-requires-2 c κs = search needs
 
 returns-2 : tie.Need-returns-2
 returns-2 c =
@@ -42,12 +25,6 @@ returns-2 c =
     let x = size .before .before .before .before .before .args in
     let e = rw (size .size .ensures, lens .before .to .ensures) at (lens .lengths-and-output .ensures) in
     rw (c .refused-after2 .ensures) (lengths-refused (now (x .ring)) (x .way) (now (x .book)) (now (x .out)) (size .before .if1 .left) _ e (c .before .if2 .taken))
-
-ring-bytes-requires : tie.Need-ring-bytes-requires
-ring-bytes-requires c κs = search needs
-
-cast-n : tie.Need-cast-n
-cast-n c = search needs
 
 div-n : tie.Need-div-n
 div-n c =
@@ -59,9 +36,6 @@ scan-requires c κs =
     let size = c .before .before .before .before .before in
     let x = size .before .before .before .before .before .args in
     rw (size .size .ensures) (records-within (sizeOf (x .way)) (length (now (x .book))))
-
-refused-after-requires-3 : tie.Need-refused-after-requires-3
-refused-after-requires-3 c κs = search needs
 
 returns-3 : tie.Need-returns-3
 returns-3 c =
@@ -86,9 +60,6 @@ write-requires c κs =
     rw (size .size .ensures)
     (records-within (sizeOf (x .way)) (length (now (x .book))), room (now (x .ring)) (x .way) (now (x .book)) (now (x .out)) (size .before .if1 .left) _ e (c .before .before .before .before .before .before .before .if2 .left))
 
-cast-t12 : tie.Need-cast-t12
-cast-t12 c = search needs
-
 mul-t14 : tie.Need-mul-t14
 mul-t14 c =
     let lens = c .before .before .before .before .before .before .before .before .before .before .before in
@@ -111,9 +82,6 @@ add-t20 c =
     rw (found .scan .ensures .1, c .before .before .before .write .ensures .1)
     (omega (arith, both-fit (found .before .before .ring-bytes .result) (x .way) (now (x .book)) (length (now (x .book)) / size .size .result) (length (now (x .book))) within, start .good))
 
-same-length : tie.Need-same-length
-same-length c = search needs
-
 returns-4 : tie.Need-returns-4
 returns-4 c =
     let found = c .before .before .before .before .before .before .before .before in
@@ -133,22 +101,22 @@ pub book-call-spec : {M : Type 1} → statement M
 book-call-spec =
     tie.close
     (tie.spec
-    refused-after-requires
+    (λ c κs. search needs)
     returns
-    size-requires
-    to-requires
-    lengths-and-output-requires
-    refused-after-requires-2
+    (λ c κs. search needs)
+    (λ c κs. search needs)
+    (λ c κs. search needs)
+    (λ c κs. search needs)
     returns-2
-    ring-bytes-requires
-    cast-n
+    (λ c κs. search needs)
+    (λ c. search needs)
     div-n
     scan-requires
-    refused-after-requires-3
+    (λ c κs. search needs)
     returns-3
     write-requires
-    cast-t12
+    (λ c. search needs)
     mul-t14
     add-t20
-    same-length
+    (λ c. search needs)
     returns-4)

@@ -1,5 +1,3 @@
--- `cards::agree` meets its contract.
--- Assumes nothing.
 use borrow.Author.Needs.{needs}
 use Rattle.cards.proofs.agree.Statement.{statement}
 use Rattle.cards.proofs.agree.Tie as tie

@@ -1,5 +1,3 @@
--- `cards::agrees` meets its contract.
--- Assumes nothing.
 use borrow.Author.Needs.{needs}
 use Rattle.cards.proofs.agrees.Statement.{statement}
 use Rattle.cards.proofs.agrees.Tie as tie

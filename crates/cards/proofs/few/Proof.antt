@@ -1,5 +1,3 @@
--- `cards::few` meets its contract.
--- Assumes nothing.
 use borrow.Author.Needs.{needs}
 use Rattle.cards.proofs.few.Statement.{statement}
 use Rattle.cards.proofs.few.Tie as tie

@@ -1,5 +1,3 @@
--- `cards::gaps` meets its contract.
--- Assumes nothing.
 use native.Mathlib.Omega.{arith}
 use borrow.Author.Needs.{needs}
 use Rattle.cards.proofs.GroupLaws.{four-gaps}

@@ -1,5 +1,3 @@
--- `cards::others` meets its contract.
--- Assumes nothing.
 use borrow.Author.Needs.{needs}
 use Rattle.cards.proofs.GroupLaws.{four-others}
 use Rattle.cards.proofs.others.Statement.{statement}

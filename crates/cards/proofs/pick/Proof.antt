@@ -1,5 +1,3 @@
--- `cards::pick` meets its contract.
--- Assumes nothing.
 use borrow.Author.Tests.{eq-eqb, ne-eqb}
 use Rattle.cards.proofs.pick.Statement.{statement}
 use Rattle.cards.proofs.pick.Tie as tie

@@ -1,5 +1,3 @@
--- `cards::readable` meets its contract.
--- Assumes nothing.
 use mathlib.Core.Path.{_≡_, refl, _∙_}
 use Prim.Native.Nat.{_*_, _/_, _-_, _≤_, zero-le}
 use native.Mathlib.Omega.{arith}

@@ -1,5 +1,3 @@
--- `cards::restore_card` meets its contract.
--- Assumes nothing.
 use mathlib.Core.Path.{_≡_, _∙_}
 use denote.Ref.{now}
 use borrow.Author.Needs.{needs}

@@ -1,5 +1,3 @@
--- `classes::input_at` meets its contract.
--- Assumes nothing.
 use mathlib.Core.List.{List}
 use mathlib.Core.Path.{ap, _∙_}
 use Prim.Native.Nat.{ℕ}
@@ -12,27 +10,6 @@ use Rattle.standard.specs.Sizes.{challengeSize}
 use Rattle.classes.proofs.input_at.Statement.{statement}
 use Rattle.classes.proofs.input_at.Tie as tie
 
-mul-a : tie.Need-mul-a
-mul-a c = search needs
-
-add-array10 : tie.Need-add-array10
-add-array10 c = search needs
-
-sub-array10 : tie.Need-sub-array10
-sub-array10 c = search needs
-
-part-array10-start : tie.Need-part-array10-start
-part-array10-start c = search needs
-
-part-array10-end : tie.Need-part-array10-end
-part-array10-end c = search needs
-
-array10-requires : tie.Need-array10-requires
-array10-requires c κs = search needs
-
-exp2-requires : tie.Need-exp2-requires
-exp2-requires c κs = search needs
-
 returns : tie.Need-returns
 returns c =
     let x = c .before .before .before .before .args in
@@ -42,11 +19,11 @@ pub input-at-spec : {M : Type 1} → statement M
 input-at-spec =
     tie.close
     (tie.spec
-    mul-a
-    add-array10
-    sub-array10
-    part-array10-start
-    part-array10-end
-    array10-requires
-    exp2-requires
+    (λ c. search needs)
+    (λ c. search needs)
+    (λ c. search needs)
+    (λ c. search needs)
+    (λ c. search needs)
+    (λ c κs. search needs)
+    (λ c κs. search needs)
     returns)

@@ -1,5 +1,3 @@
--- `classes::put_four` meets its contract.
--- Assumes nothing.
 use borrow.Author.Needs.{needs}
 use Rattle.classes.proofs.put_four.Statement.{statement}
 use Rattle.classes.proofs.put_four.Tie as tie

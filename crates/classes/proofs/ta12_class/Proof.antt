@@ -1,5 +1,3 @@
--- `classes::ta12_class` meets its contract.
--- Assumes nothing.
 use mathlib.Core.Path.{_≡_, sym, ap, _∙_}
 use Prim.Native.Nat.{ℕ, _*_, _/_}
 use lib.ListN.{length, drop}
@@ -14,25 +12,10 @@ use Rattle.classes.proofs.ClassLaws.{same-records, key-refused, lengths
 use Rattle.classes.proofs.ta12_class.Statement.{statement}
 use Rattle.classes.proofs.ta12_class.Tie as tie
 
-refused-requires : tie.Need-refused-requires
-refused-requires c κs = search needs
-
 returns : tie.Need-returns
 returns c =
     let x = c .before .before .before .before .before .args in
     rw (c .refused .ensures) (key-refused (now (x .session-key)) (now (x .challenges)) (x .response-mask) (x .key-mask) (now (x .out)) (c .before .if1 .taken))
-
-cast-lengths-and-output : tie.Need-cast-lengths-and-output
-cast-lengths-and-output c = search needs
-
-cast-lengths-and-output-2 : tie.Need-cast-lengths-and-output-2
-cast-lengths-and-output-2 c = search needs
-
-lengths-and-output-requires : tie.Need-lengths-and-output-requires
-lengths-and-output-requires c κs = search needs
-
-refused-requires-2 : tie.Need-refused-requires-2
-refused-requires-2 c κs = search needs
 
 returns-2 : tie.Need-returns-2
 returns-2 c =
@@ -40,12 +23,6 @@ returns-2 c =
     let x = lens .before .before .before .before .before .args in
     rw (c .refused2 .ensures)
     (lengths-refused (now (x .session-key)) (now (x .challenges)) (x .response-mask) (x .key-mask) (now (x .out)) (lens .before .if1 .left) _ (lens .lengths-and-output .ensures) (c .before .if2 .taken))
-
-mask-refusal-requires : tie.Need-mask-refusal-requires
-mask-refusal-requires c κs = search needs
-
-refused-requires-3 : tie.Need-refused-requires-3
-refused-requires-3 c κs = search needs
 
 returns-3 : tie.Need-returns-3
 returns-3 c =
@@ -55,23 +32,11 @@ returns-3 c =
     rw (c .refused3 .ensures)
     (masks-refused (now (x .session-key)) (now (x .challenges)) (x .response-mask) (x .key-mask) (now (x .out)) (lens .before .if1 .left) _ (lens .lengths-and-output .ensures) (masks .before .if2 .left) _ (masks .mask-refusal .ensures) (c .before .if3 .taken))
 
-array16-requires : tie.Need-array16-requires
-array16-requires c κs = search needs
-
-schedule-requires : tie.Need-schedule-requires
-schedule-requires c κs = search needs
-
 write-requires : tie.Need-write-requires
 write-requires c κs =
     let lens = c .before .before .before .before .before .before .before in
     let x = lens .before .before .before .before .before .args in
     (records-within challengeSize (length (now (x .challenges))), room (now (x .session-key)) (now (x .challenges)) (x .response-mask) (x .key-mask) (now (x .out)) (lens .before .if1 .left) _ (lens .lengths-and-output .ensures) (c .before .before .before .before .before .before .if2 .left))
-
-mul-t10 : tie.Need-mul-t10
-mul-t10 c = search needs
-
-same-length : tie.Need-same-length
-same-length c = search needs
 
 returns-4 : tie.Need-returns-4
 returns-4 c =
@@ -91,19 +56,19 @@ pub ta12-class-spec : {M : Type 1} → statement M
 ta12-class-spec =
     tie.close
     (tie.spec
-    refused-requires
+    (λ c κs. search needs)
     returns
-    cast-lengths-and-output
-    cast-lengths-and-output-2
-    lengths-and-output-requires
-    refused-requires-2
+    (λ c. search needs)
+    (λ c. search needs)
+    (λ c κs. search needs)
+    (λ c κs. search needs)
     returns-2
-    mask-refusal-requires
-    refused-requires-3
+    (λ c κs. search needs)
+    (λ c κs. search needs)
     returns-3
-    array16-requires
-    schedule-requires
+    (λ c κs. search needs)
+    (λ c κs. search needs)
     write-requires
-    mul-t10
-    same-length
+    (λ c. search needs)
+    (λ c. search needs)
     returns-4)

@@ -1,5 +1,3 @@
--- `classes::write_four` meets its contract.
--- Assumes nothing.
 use mathlib.Core.List.{List}
 use mathlib.Core.Path.{ap, _∙_}
 use denote.Ref.{now}
@@ -13,18 +11,6 @@ use Rattle.classes.proofs.ClassLaws.{record-by}
 use Rattle.classes.specs.Steps.{recordWith}
 use Rattle.classes.proofs.write_four.Statement.{statement}
 use Rattle.classes.proofs.write_four.Tie as tie
-
-inputs-at-requires : tie.Need-inputs-at-requires
-inputs-at-requires c κs = search needs
-
-bl1-four-with-requires : tie.Need-bl1-four-with-requires
-bl1-four-with-requires c κs = search needs
-
-put-four-requires : tie.Need-put-four-requires
-put-four-requires c κs = search needs
-
-same-length : tie.Need-same-length
-same-length c = search needs
 
 returns : tie.Need-returns
 returns c =
@@ -42,4 +28,9 @@ returns c =
 pub write-four-spec : {M : Type 1} → statement M
 write-four-spec =
     tie.close
-    (tie.spec inputs-at-requires bl1-four-with-requires put-four-requires same-length returns)
+    (tie.spec
+    (λ c κs. search needs)
+    (λ c κs. search needs)
+    (λ c κs. search needs)
+    (λ c. search needs)
+    returns)

@@ -1,5 +1,3 @@
--- `classes::write_one` meets its contract.
--- Assumes nothing.
 use mathlib.Core.List.{List}
 use mathlib.Core.Path.{ap, _∙_}
 use Prim.Native.Nat.{ℕ}
@@ -12,18 +10,6 @@ use Rattle.classes.proofs.ClassLaws.{record-by}
 use Rattle.classes.proofs.write_one.Statement.{statement}
 use Rattle.classes.proofs.write_one.Tie as tie
 
-input-at-requires : tie.Need-input-at-requires
-input-at-requires c κs = search needs
-
-bl1-with-requires : tie.Need-bl1-with-requires
-bl1-with-requires c κs = search needs
-
-put-at-requires : tie.Need-put-at-requires
-put-at-requires c κs = search needs
-
-same-length : tie.Need-same-length
-same-length c = search needs
-
 returns : tie.Need-returns
 returns c =
     let x = c .before .before .before .before .before .before .before .before .args in
@@ -33,4 +19,10 @@ returns c =
 
 pub write-one-spec : {M : Type 1} → statement M
 write-one-spec =
-    tie.close (tie.spec input-at-requires bl1-with-requires put-at-requires same-length returns)
+    tie.close
+    (tie.spec
+    (λ c κs. search needs)
+    (λ c κs. search needs)
+    (λ c κs. search needs)
+    (λ c. search needs)
+    returns)

@@ -1,5 +1,3 @@
--- `columns::column` meets its contract.
--- Assumes nothing.
 use mathlib.Core.Path.{_≡_, refl, _∙_}
 use Prim.Native.Nat.{_+_, _*_, _-_, _≤_, zero-le}
 use native.Mathlib.Omega.{arith}
@@ -36,15 +34,6 @@ shared-slice-read-out c =
     let x = c .before .before .before .args in
     omega (arith, in-rows (x .width) (length (now (x .out))) (c .before .before .loop .i) (x .j) (omega arith) (omega arith))
 
-slice-write-out : tie.Need-slice-write-out Inv-loop μ-loop
-slice-write-out c = omega arith
-
-add-i : tie.Need-add-i Inv-loop μ-loop
-add-i c = omega arith
-
-loop-less : tie.Need-loop-less Inv-loop μ-loop
-loop-less c = omega arith
-
 loop-again : tie.Need-loop-again Inv-loop μ-loop
 loop-again c =
     let at = c .before .before .loop in
@@ -53,9 +42,6 @@ loop-again c =
       length-set (at .out) _ _ ∙ at .inv .1,
       fill-next (at .out) (λ i. now (x .rows) ! (x .width * i + x .j)) (at .i) _ (omega arith) refl (at .inv .2),
     )
-
-same-length : tie.Need-same-length Inv-loop μ-loop
-same-length c = omega arith
 
 returns : tie.Need-returns Inv-loop μ-loop
 returns c =
@@ -73,9 +59,9 @@ column-spec =
     mul-out
     add-out
     shared-slice-read-out
-    slice-write-out
-    add-i
-    loop-less
+    (λ c. omega arith)
+    (λ c. omega arith)
+    (λ c. omega arith)
     loop-again
-    same-length
+    (λ c. omega arith)
     returns)

@@ -1,27 +1,16 @@
--- `columns::file` meets its contract.
--- Assumes nothing.
 use native.Mathlib.Nat.{mul-comm}
 use native.Mathlib.Omega.{arith}
 use borrow.Author.Needs.{needs}
 use Rattle.columns.proofs.file.Statement.{statement}
 use Rattle.columns.proofs.file.Tie as tie
 
-transpose-requires : tie.Need-transpose-requires
-transpose-requires c κs = search needs
-
 transpose-requires-2 : tie.Need-transpose-requires-2
 transpose-requires-2 c κs =
     let x = c .before .before .before .before .args in
     (omega (arith, mul-comm (x .n) (x .w)), omega (arith, mul-comm (x .n) (x .w)))
 
-same-length : tie.Need-same-length
-same-length c = search needs
-
 returns : tie.Need-returns
 returns c = rw (c .before .before .before .before .if1 .taken, c .before .before .transpose .ensures)
-
-same-length-2 : tie.Need-same-length-2
-same-length-2 c = search needs
 
 returns-2 : tie.Need-returns-2
 returns-2 c =
@@ -31,4 +20,10 @@ returns-2 c =
 pub file-spec : {M : Type 1} → statement M
 file-spec =
     tie.close
-    (tie.spec transpose-requires transpose-requires-2 same-length returns same-length-2 returns-2)
+    (tie.spec
+    (λ c κs. search needs)
+    transpose-requires-2
+    (λ c. search needs)
+    returns
+    (λ c. search needs)
+    returns-2)

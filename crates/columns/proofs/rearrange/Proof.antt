@@ -1,5 +1,3 @@
--- `columns::rearrange` meets its contract.
--- Assumes nothing.
 use Prim.Native.Nat.{_*_, _/_}
 use native.Mathlib.Omega.{arith}
 use lib.ListN.{length}
@@ -12,21 +10,12 @@ use Rattle.columns.proofs.FileLaws.{lengths-refused, room, all-written}
 use Rattle.columns.proofs.rearrange.Statement.{statement}
 use Rattle.columns.proofs.rearrange.Tie as tie
 
-lengths-and-output-requires : tie.Need-lengths-and-output-requires
-lengths-and-output-requires c κs = search needs
-
-refused-requires : tie.Need-refused-requires
-refused-requires c κs = search needs
-
 returns : tie.Need-returns
 returns c =
     let lens = c .before .before in
     let x = lens .before .before .before .args in
     rw (c .refused .ensures)
     (lengths-refused (x .size) (choose (x .back) fromColumns toColumns) (now (x .book)) (now (x .out)) _ (lens .lengths-and-output .ensures) (c .before .if1 .taken))
-
-div-n : tie.Need-div-n
-div-n c = search needs
 
 file-requires : tie.Need-file-requires
 file-requires c κs =
@@ -39,9 +28,6 @@ mul-t9 c =
     let x = c .before .before .before .before .before .before .before .before .args in
     omega (arith, records-within (x .size) (length (now (x .book))))
 
-same-length : tie.Need-same-length
-same-length c = search needs
-
 returns-2 : tie.Need-returns-2
 returns-2 c =
     let lens = c .before .before .before .before .before in
@@ -52,11 +38,11 @@ pub rearrange-spec : {M : Type 1} → statement M
 rearrange-spec =
     tie.close
     (tie.spec
-    lengths-and-output-requires
-    refused-requires
+    (λ c κs. search needs)
+    (λ c κs. search needs)
     returns
-    div-n
+    (λ c. search needs)
     file-requires
     mul-t9
-    same-length
+    (λ c. search needs)
     returns-2)

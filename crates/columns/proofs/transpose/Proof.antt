@@ -1,5 +1,3 @@
--- `columns::transpose` meets its contract.
--- Assumes nothing.
 use mathlib.Core.Path.{_≡_}
 use Prim.Native.Nat.{_-_, _≤_, zero-le}
 use native.Mathlib.Omega.{arith}
@@ -31,9 +29,6 @@ add-column c =
     let x = c .before .before .before .before .args in
     omega (arith, ends (x .n) (c .before .loop .j) (x .width) (c .loop-test .taken))
 
-sub-column : tie.Need-sub-column Inv-loop μ-loop
-sub-column c = omega arith
-
 part-column-start : tie.Need-part-column-start Inv-loop μ-loop
 part-column-start c =
     let x = c .before .before .before .before .args in
@@ -52,12 +47,6 @@ column-requires c κs =
     let x = start .args in
     let room = ends (x .n) (at .j) (x .width) (turn .loop-test .taken) in
     (turn .loop-test .taken, rows-enough (x .n) (x .width) (now (x .rows)) (now (x .out)) (at .j) (at .out) (at .inv .1) (omega (arith, room)) (start .pre .0))
-
-add-j : tie.Need-add-j Inv-loop μ-loop
-add-j c = omega arith
-
-loop-less : tie.Need-loop-less Inv-loop μ-loop
-loop-less c = omega arith
 
 loop-again : tie.Need-loop-again Inv-loop μ-loop
 loop-again c =
@@ -88,12 +77,12 @@ transpose-spec =
     loop-holds
     mul-a
     add-column
-    sub-column
+    (λ c. omega arith)
     part-column-start
     part-column-end
     column-requires
-    add-j
-    loop-less
+    (λ c. omega arith)
+    (λ c. omega arith)
     loop-again
     same-length
     returns)

@@ -1,5 +1,3 @@
--- `cores::bl1` meets its contract.
--- Assumes nothing.
 use mathlib.Core.Path.{ap, _∙_}
 use borrow.Author.Needs.{needs}
 use Rattle.cores.proofs.CoreSteps.{bl1-under}
@@ -7,16 +5,10 @@ use Rattle.cores.specs.Steps.{counted16}
 use Rattle.cores.proofs.bl1.Statement.{statement}
 use Rattle.cores.proofs.bl1.Tie as tie
 
-schedule-requires : tie.Need-schedule-requires
-schedule-requires c κs = search needs
-
-bl1-with-requires : tie.Need-bl1-with-requires
-bl1-with-requires c κs = search needs
-
 returns : tie.Need-returns
 returns c =
     let x = c .before .before .before .args in
     c .bl1-with .ensures ∙ ap counted16 (bl1-under (x .key) (x .x) (c .before .before .schedule .ensures))
 
 pub bl1-spec : {M : Type 1} → statement M
-bl1-spec = tie.close (tie.spec schedule-requires bl1-with-requires returns)
+bl1-spec = tie.close (tie.spec (λ c κs. search needs) (λ c κs. search needs) returns)

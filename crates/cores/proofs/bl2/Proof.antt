@@ -1,5 +1,3 @@
--- `cores::bl2` meets its contract.
--- Assumes nothing.
 use mathlib.Core.Path.{ap, _∙_}
 use borrow.Author.Needs.{needs}
 use Rattle.cores.proofs.CoreSteps.{bl2-under}
@@ -7,16 +5,10 @@ use Rattle.cores.specs.Steps.{counted15}
 use Rattle.cores.proofs.bl2.Statement.{statement}
 use Rattle.cores.proofs.bl2.Tie as tie
 
-schedule-requires : tie.Need-schedule-requires
-schedule-requires c κs = search needs
-
-bl2-with-requires : tie.Need-bl2-with-requires
-bl2-with-requires c κs = search needs
-
 returns : tie.Need-returns
 returns c =
     let x = c .before .before .before .args in
     c .bl2-with .ensures ∙ ap counted15 (bl2-under (x .key) (x .y) (c .before .before .schedule .ensures))
 
 pub bl2-spec : {M : Type 1} → statement M
-bl2-spec = tie.close (tie.spec schedule-requires bl2-with-requires returns)
+bl2-spec = tie.close (tie.spec (λ c κs. search needs) (λ c κs. search needs) returns)

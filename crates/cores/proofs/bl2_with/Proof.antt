@@ -1,5 +1,3 @@
--- `cores::bl2_with` meets its contract.
--- Assumes nothing.
 use mathlib.Core.Path.{ap, _∙_}
 use denote.Ref.{now}
 use borrow.Author.Needs.{needs}
@@ -7,21 +5,6 @@ use Rattle.cores.proofs.CoreSteps.{bl2-steps}
 use Rattle.cores.specs.Steps.{counted15}
 use Rattle.cores.proofs.bl2_with.Statement.{statement}
 use Rattle.cores.proofs.bl2_with.Tie as tie
-
-right-requires : tie.Need-right-requires
-right-requires c κs = search needs
-
-decrypt-with-requires : tie.Need-decrypt-with-requires
-decrypt-with-requires c κs = search needs
-
-mended-requires : tie.Need-mended-requires
-mended-requires c κs = search needs
-
-decrypt-with-requires-2 : tie.Need-decrypt-with-requires-2
-decrypt-with-requires-2 c κs = search needs
-
-joined7-requires : tie.Need-joined7-requires
-joined7-requires c κs = search needs
 
 returns : tie.Need-returns
 returns c =
@@ -34,9 +17,9 @@ pub bl2-with-spec : {M : Type 1} → statement M
 bl2-with-spec =
     tie.close
     (tie.spec
-    right-requires
-    decrypt-with-requires
-    mended-requires
-    decrypt-with-requires-2
-    joined7-requires
+    (λ c κs. search needs)
+    (λ c κs. search needs)
+    (λ c κs. search needs)
+    (λ c κs. search needs)
+    (λ c κs. search needs)
     returns)

@@ -1,15 +1,7 @@
--- `cores::exp4` meets its contract.
--- Assumes nothing.
 use borrow.Author.Needs.{needs}
 use Rattle.standard.specs.Expansions.{exp4}
 use Rattle.cores.proofs.exp4.Statement.{statement}
 use Rattle.cores.proofs.exp4.Tie as tie
-
-pair-sums-requires : tie.Need-pair-sums-requires
-pair-sums-requires c κs = search needs
-
-with-sums-requires : tie.Need-with-sums-requires
-with-sums-requires c κs = search needs
 
 returns : tie.Need-returns
 unfolding exp4
@@ -18,4 +10,4 @@ returns c =
     rw (c .with-sums .ensures, s .first, s .second, s .third, s .fourth, s .fifth)
 
 pub exp4-spec : {M : Type 1} → statement M
-exp4-spec = tie.close (tie.spec pair-sums-requires with-sums-requires returns)
+exp4-spec = tie.close (tie.spec (λ c κs. search needs) (λ c κs. search needs) returns)

@@ -1,24 +1,7 @@
--- `cores_four::bl1_four` meets its contract.
--- Assumes nothing.
 use borrow.Author.Needs.{needs}
 use Rattle.cores.proofs.CoreSteps.{bl1-under}
 use Rattle.cores_four.proofs.bl1_four.Statement.{statement}
 use Rattle.cores_four.proofs.bl1_four.Tie as tie
-
-schedule-requires : tie.Need-schedule-requires
-schedule-requires c κs = search needs
-
-schedule-requires-2 : tie.Need-schedule-requires-2
-schedule-requires-2 c κs = search needs
-
-schedule-requires-3 : tie.Need-schedule-requires-3
-schedule-requires-3 c κs = search needs
-
-schedule-requires-4 : tie.Need-schedule-requires-4
-schedule-requires-4 c κs = search needs
-
-bl1-four-with-requires : tie.Need-bl1-four-with-requires
-bl1-four-with-requires c κs = search needs
 
 returns : tie.Need-returns
 returns c =
@@ -33,9 +16,9 @@ pub bl1-four-spec : {M : Type 1} → statement M
 bl1-four-spec =
     tie.close
     (tie.spec
-    schedule-requires
-    schedule-requires-2
-    schedule-requires-3
-    schedule-requires-4
-    bl1-four-with-requires
+    (λ c κs. search needs)
+    (λ c κs. search needs)
+    (λ c κs. search needs)
+    (λ c κs. search needs)
+    (λ c κs. search needs)
     returns)

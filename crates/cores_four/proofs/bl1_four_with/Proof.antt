@@ -1,5 +1,3 @@
--- `cores_four::bl1_four_with` meets its contract.
--- Assumes nothing.
 use mathlib.Core.Path.{_∙_}
 use denote.Ref.{now}
 use borrow.Author.Needs.{needs}
@@ -8,21 +6,6 @@ use Rattle.cores.specs.Steps.{counted16}
 use Rattle.cores_four.proofs.LaneLaws.{four-same}
 use Rattle.cores_four.proofs.bl1_four_with.Statement.{statement}
 use Rattle.cores_four.proofs.bl1_four_with.Tie as tie
-
-lefts-requires : tie.Need-lefts-requires
-lefts-requires c κs = search needs
-
-encrypt4-with-requires : tie.Need-encrypt4-with-requires
-encrypt4-with-requires c κs = search needs
-
-chains-requires : tie.Need-chains-requires
-chains-requires c κs = search needs
-
-encrypt4-with-requires-2 : tie.Need-encrypt4-with-requires-2
-encrypt4-with-requires-2 c κs = search needs
-
-joins-requires : tie.Need-joins-requires
-joins-requires c κs = search needs
 
 returns : tie.Need-returns
 returns c =
@@ -41,9 +24,9 @@ pub bl1-four-with-spec : {M : Type 1} → statement M
 bl1-four-with-spec =
     tie.close
     (tie.spec
-    lefts-requires
-    encrypt4-with-requires
-    chains-requires
-    encrypt4-with-requires-2
-    joins-requires
+    (λ c κs. search needs)
+    (λ c κs. search needs)
+    (λ c κs. search needs)
+    (λ c κs. search needs)
+    (λ c κs. search needs)
     returns)

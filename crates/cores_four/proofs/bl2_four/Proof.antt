@@ -1,24 +1,7 @@
--- `cores_four::bl2_four` meets its contract.
--- Assumes nothing.
 use borrow.Author.Needs.{needs}
 use Rattle.cores.proofs.CoreSteps.{bl2-under}
 use Rattle.cores_four.proofs.bl2_four.Statement.{statement}
 use Rattle.cores_four.proofs.bl2_four.Tie as tie
-
-schedule-requires : tie.Need-schedule-requires
-schedule-requires c κs = search needs
-
-schedule-requires-2 : tie.Need-schedule-requires-2
-schedule-requires-2 c κs = search needs
-
-schedule-requires-3 : tie.Need-schedule-requires-3
-schedule-requires-3 c κs = search needs
-
-schedule-requires-4 : tie.Need-schedule-requires-4
-schedule-requires-4 c κs = search needs
-
-bl2-four-with-requires : tie.Need-bl2-four-with-requires
-bl2-four-with-requires c κs = search needs
 
 returns : tie.Need-returns
 returns c =
@@ -33,9 +16,9 @@ pub bl2-four-spec : {M : Type 1} → statement M
 bl2-four-spec =
     tie.close
     (tie.spec
-    schedule-requires
-    schedule-requires-2
-    schedule-requires-3
-    schedule-requires-4
-    bl2-four-with-requires
+    (λ c κs. search needs)
+    (λ c κs. search needs)
+    (λ c κs. search needs)
+    (λ c κs. search needs)
+    (λ c κs. search needs)
     returns)

@@ -1,5 +1,3 @@
--- `cores_four::bl2_four_with` meets its contract.
--- Assumes nothing.
 use mathlib.Core.Path.{_∙_}
 use denote.Ref.{now}
 use borrow.Author.Needs.{needs}
@@ -8,21 +6,6 @@ use Rattle.cores.specs.Steps.{counted15}
 use Rattle.cores_four.proofs.LaneLaws.{four-same}
 use Rattle.cores_four.proofs.bl2_four_with.Statement.{statement}
 use Rattle.cores_four.proofs.bl2_four_with.Tie as tie
-
-rights-requires : tie.Need-rights-requires
-rights-requires c κs = search needs
-
-decrypt4-with-requires : tie.Need-decrypt4-with-requires
-decrypt4-with-requires c κs = search needs
-
-mends-requires : tie.Need-mends-requires
-mends-requires c κs = search needs
-
-decrypt4-with-requires-2 : tie.Need-decrypt4-with-requires-2
-decrypt4-with-requires-2 c κs = search needs
-
-joins7-requires : tie.Need-joins7-requires
-joins7-requires c κs = search needs
 
 returns : tie.Need-returns
 returns c =
@@ -41,9 +24,9 @@ pub bl2-four-with-spec : {M : Type 1} → statement M
 bl2-four-with-spec =
     tie.close
     (tie.spec
-    rights-requires
-    decrypt4-with-requires
-    mends-requires
-    decrypt4-with-requires-2
-    joins7-requires
+    (λ c κs. search needs)
+    (λ c κs. search needs)
+    (λ c κs. search needs)
+    (λ c κs. search needs)
+    (λ c κs. search needs)
     returns)

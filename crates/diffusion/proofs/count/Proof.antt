@@ -1,5 +1,3 @@
--- `diffusion::count` meets its contract.
--- Assumes nothing.
 use mathlib.Core.Path.{_≡_, ap}
 use Prim.Native.Nat.{_-_, _≤_, zero-le}
 use native.Mathlib.Omega.{arith}
@@ -25,33 +23,12 @@ abbrev μ-loop : tie.MeasureT-loop
 loop-holds : tie.Need-loop-holds Inv-loop μ-loop
 loop-holds c = (zero-le, counted-none)
 
-mul-a : tie.Need-mul-a Inv-loop μ-loop
-mul-a c = omega arith
-
-add-count-record : tie.Need-add-count-record Inv-loop μ-loop
-add-count-record c = omega arith
-
-sub-count-record : tie.Need-sub-count-record Inv-loop μ-loop
-sub-count-record c = omega arith
-
-part-count-record-start : tie.Need-part-count-record-start Inv-loop μ-loop
-part-count-record-start c = omega arith
-
-part-count-record-end : tie.Need-part-count-record-end Inv-loop μ-loop
-part-count-record-end c = omega arith
-
 count-record-requires : tie.Need-count-record-requires Inv-loop μ-loop
 count-record-requires c κs =
     let head = c .before .before in
     let at = head .loop in
     let xs = now (head .before .before .args .records) in
     (ap length (lent diffusionSize (at .i) xs (omega arith)), omega (arith, at .inv .1 .most, length-changes xs (at .i)))
-
-add-i : tie.Need-add-i Inv-loop μ-loop
-add-i c = omega arith
-
-loop-less : tie.Need-loop-less Inv-loop μ-loop
-loop-less c = omega arith
 
 loop-again : tie.Need-loop-again Inv-loop μ-loop
 loop-again c =
@@ -73,13 +50,13 @@ count-spec =
     Inv-loop
     μ-loop
     loop-holds
-    mul-a
-    add-count-record
-    sub-count-record
-    part-count-record-start
-    part-count-record-end
+    (λ c. omega arith)
+    (λ c. omega arith)
+    (λ c. omega arith)
+    (λ c. omega arith)
+    (λ c. omega arith)
     count-record-requires
-    add-i
-    loop-less
+    (λ c. omega arith)
+    (λ c. omega arith)
     loop-again
     returns)

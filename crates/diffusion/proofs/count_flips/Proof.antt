@@ -1,5 +1,3 @@
--- `diffusion::count_flips` meets its contract.
--- Assumes nothing.
 use mathlib.Core.Path.{_≡_}
 use Prim.Native.Nat.{_-_, _*_, _≤_, zero-le}
 use native.Mathlib.Omega.{arith}
@@ -18,14 +16,8 @@ Inv-loop keys block output t₀ q₀ t q =
 abbrev μ-loop : tie.MeasureT-loop
 μ-loop keys block output t₀ q₀ t q = 16 - q
 
-encrypt-with-requires : tie.Need-encrypt-with-requires Inv-loop μ-loop
-encrypt-with-requires c κs = tt
-
 loop-holds : tie.Need-loop-holds Inv-loop μ-loop
 loop-holds c = (zero-le, counted-none)
-
-mul-four-changes : tie.Need-mul-four-changes Inv-loop μ-loop
-mul-four-changes c = omega arith
 
 four-changes-requires : tie.Need-four-changes-requires Inv-loop μ-loop
 four-changes-requires c κs = (c .before .before .encrypt-with .ensures, omega arith)
@@ -36,12 +28,6 @@ counted4-requires c κs =
     let x = head .before .before .args in
     let at = head .loop in
     (omega (arith, at .inv .1 .most, length-table (4 * at .q) (changeWith (now (x .keys)) (x .block))), c .four-changes .ensures .1)
-
-add-q : tie.Need-add-q Inv-loop μ-loop
-add-q c = omega arith
-
-loop-less : tie.Need-loop-less Inv-loop μ-loop
-loop-less c = omega arith
 
 loop-again : tie.Need-loop-again Inv-loop μ-loop
 loop-again c =
@@ -62,12 +48,12 @@ count-flips-spec =
     (tie.spec
     Inv-loop
     μ-loop
-    encrypt-with-requires
+    (λ c κs. tt)
     loop-holds
-    mul-four-changes
+    (λ c. omega arith)
     four-changes-requires
     counted4-requires
-    add-q
-    loop-less
+    (λ c. omega arith)
+    (λ c. omega arith)
     loop-again
     returns)

@@ -1,21 +1,7 @@
--- `diffusion::counted4` meets its contract.
--- Assumes nothing.
 use borrow.Author.Needs.{needs}
 use Rattle.diffusion.proofs.CountLaws.{counted-more}
 use Rattle.diffusion.proofs.counted4.Statement.{statement}
 use Rattle.diffusion.proofs.counted4.Tie as tie
-
-counted-requires : tie.Need-counted-requires
-counted-requires c κs = search needs
-
-counted-requires-2 : tie.Need-counted-requires-2
-counted-requires-2 c κs = search needs
-
-counted-requires-3 : tie.Need-counted-requires-3
-counted-requires-3 c κs = search needs
-
-counted-requires-4 : tie.Need-counted-requires-4
-counted-requires-4 c κs = search needs
 
 returns : tie.Need-returns
 returns c =
@@ -28,4 +14,9 @@ returns c =
 pub counted4-spec : {M : Type 1} → statement M
 counted4-spec =
     tie.close
-    (tie.spec counted-requires counted-requires-2 counted-requires-3 counted-requires-4 returns)
+    (tie.spec
+    (λ c κs. search needs)
+    (λ c κs. search needs)
+    (λ c κs. search needs)
+    (λ c κs. search needs)
+    returns)

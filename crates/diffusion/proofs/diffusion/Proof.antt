@@ -1,5 +1,3 @@
--- `diffusion::diffusion` meets its contract.
--- Assumes nothing.
 use mathlib.Core.Path.{sym, _∙_}
 use native.Mathlib.Omega.{arith}
 use lib.ListN.{length}
@@ -11,23 +9,11 @@ use Rattle.diffusion.proofs.CountLaws.{list-refused, no-records, all-co
 use Rattle.diffusion.proofs.diffusion.Statement.{statement}
 use Rattle.diffusion.proofs.diffusion.Tie as tie
 
-cast-lengths : tie.Need-cast-lengths
-cast-lengths c = search needs
-
-lengths-requires : tie.Need-lengths-requires
-lengths-requires c κs = search needs
-
-no-changes-requires : tie.Need-no-changes-requires
-no-changes-requires c κs = search needs
-
 returns : tie.Need-returns
 returns c =
     let tested = c .before .before in
     let xs = now (tested .before .before .args .records) in
     c .no-changes .ensures ∙ list-refused xs _ (tested .lengths .ensures) (c .before .if1 .taken)
-
-no-changes-requires-2 : tie.Need-no-changes-requires-2
-no-changes-requires-2 c κs = search needs
 
 returns-2 : tie.Need-returns-2
 returns-2 c =
@@ -64,11 +50,11 @@ pub diffusion-spec : {M : Type 1} → statement M
 diffusion-spec =
     tie.close
     (tie.spec
-    cast-lengths
-    lengths-requires
-    no-changes-requires
+    (λ c. search needs)
+    (λ c κs. search needs)
+    (λ c κs. search needs)
     returns
-    no-changes-requires-2
+    (λ c κs. search needs)
     returns-2
     count-requires
     cast-t5

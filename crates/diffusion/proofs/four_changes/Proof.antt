@@ -1,20 +1,9 @@
--- `diffusion::four_changes` meets its contract.
--- Assumes nothing.
 use Prim.Native.Nat.{_+_}
 use denote.Ref.{now}
 use borrow.Author.Needs.{needs}
 use Rattle.diffusion.proofs.CountLaws.{changed-is}
 use Rattle.diffusion.proofs.four_changes.Statement.{statement}
 use Rattle.diffusion.proofs.four_changes.Tie as tie
-
-flips-requires : tie.Need-flips-requires
-flips-requires c κs = search needs
-
-encrypt4-with-requires : tie.Need-encrypt4-with-requires
-encrypt4-with-requires c κs = search needs
-
-differences-requires : tie.Need-differences-requires
-differences-requires c κs = search needs
 
 returns : tie.Need-returns
 returns c =
@@ -36,5 +25,4 @@ returns c =
     )
 
 pub four-changes-spec : {M : Type 1} → statement M
-four-changes-spec =
-    tie.close (tie.spec flips-requires encrypt4-with-requires differences-requires returns)
+four-changes-spec = tie.close (tie.spec (λ c κs. search needs) (λ c κs. search needs) (λ c κs. search needs) returns)

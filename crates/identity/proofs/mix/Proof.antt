@@ -1,21 +1,7 @@
--- `identity::mix` meets its contract.
--- Assumes nothing.
 use borrow.Author.Needs.{needs}
 use Rattle.standard.proofs.IdentityLaws.{mix-wraps}
 use Rattle.identity.proofs.mix.Statement.{statement}
 use Rattle.identity.proofs.mix.Tie as tie
-
-wrapping-add-u8-requires : tie.Need-wrapping-add-u8-requires
-wrapping-add-u8-requires c κs = search needs
-
-wrapping-add-u8-requires-2 : tie.Need-wrapping-add-u8-requires-2
-wrapping-add-u8-requires-2 c κs = search needs
-
-wrapping-add-u8-requires-3 : tie.Need-wrapping-add-u8-requires-3
-wrapping-add-u8-requires-3 c κs = search needs
-
-difference-requires : tie.Need-difference-requires
-difference-requires c κs = search needs
 
 returns : tie.Need-returns
 returns c =
@@ -26,8 +12,8 @@ pub mix-spec : {M : Type 1} → statement M
 mix-spec =
     tie.close
     (tie.spec
-    wrapping-add-u8-requires
-    wrapping-add-u8-requires-2
-    wrapping-add-u8-requires-3
-    difference-requires
+    (λ c κs. search needs)
+    (λ c κs. search needs)
+    (λ c κs. search needs)
+    (λ c κs. search needs)
     returns)

@@ -1,18 +1,7 @@
--- `inverses::confirmed` meets its contract.
--- Assumes nothing.
 use borrow.Author.Needs.{needs}
 use Rattle.standard.proofs.BytesLaws.{failed, passed}
 use Rattle.inverses.proofs.confirmed.Statement.{statement}
 use Rattle.inverses.proofs.confirmed.Tie as tie
-
-slice-aggregate-same : tie.Need-slice-aggregate-same
-slice-aggregate-same c = search needs
-
-same-requires : tie.Need-same-requires
-same-requires c κs = search needs
-
-refused-value-requires : tie.Need-refused-value-requires
-refused-value-requires c κs = search needs
 
 returns : tie.Need-returns
 returns c = rw (c .refused-value .ensures, failed (c .before .before .same .ensures) (c .before .if1 .taken))
@@ -23,4 +12,9 @@ returns-2 c = rw (passed (c .before .same .ensures) (c .if1 .left))
 pub confirmed-spec : {M : Type 1} → statement M
 confirmed-spec =
     tie.close
-    (tie.spec slice-aggregate-same same-requires refused-value-requires returns returns-2)
+    (tie.spec
+    (λ c. search needs)
+    (λ c κs. search needs)
+    (λ c κs. search needs)
+    returns
+    returns-2)

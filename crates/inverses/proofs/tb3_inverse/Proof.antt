@@ -1,5 +1,3 @@
--- `inverses::tb3_inverse` meets its contract.
--- Assumes nothing.
 use mathlib.Core.Bool.{true, _&&_}
 use mathlib.Core.Path.{_≡_}
 use native.Mathlib.Omega.{arith}
@@ -14,21 +12,9 @@ use Rattle.inverses.proofs.AgainLaws.{result-length, tb3-again}
 use Rattle.inverses.proofs.tb3_inverse.Statement.{statement}
 use Rattle.inverses.proofs.tb3_inverse.Tie as tie
 
-both-long-requires : tie.Need-both-long-requires
-both-long-requires c κs = search needs
-
-refused-value-requires : tie.Need-refused-value-requires
-refused-value-requires c κs = search needs
-
 returns : tie.Need-returns
 unfolding tb3⁻¹Call
 returns c = rw (c .refused-value .ensures, failed (c .before .before .both-long .ensures) (c .before .if1 .taken))
-
-wide-requires : tie.Need-wide-requires
-wide-requires c κs = search needs
-
-refused-value-requires-2 : tie.Need-refused-value-requires-2
-refused-value-requires-2 c κs = search needs
 
 returns-2 : tie.Need-returns-2
 unfolding tb3⁻¹Call
@@ -36,20 +22,11 @@ returns-2 c =
     let tested = c .before .before .before in
     rw (c .refused-value2 .ensures, passed (tested .before .both-long .ensures) (tested .if1 .left), failed (c .before .before .wide .ensures) (c .before .if2 .taken))
 
-unmixed-requires : tie.Need-unmixed-requires
-unmixed-requires c κs = search needs
-
 field-requires : tie.Need-field-requires
 field-requires c κs =
     let x = c .before .before .before .before .before .before .before .args in
     let s = wide-split (x .width) (passed (c .before .before .wide .ensures) (c .before .if2 .left)) in
     (omega (arith, s), omega (arith, s), omega (arith, s))
-
-cast-tb3 : tie.Need-cast-tb3
-cast-tb3 c = search needs
-
-tb3-requires : tie.Need-tb3-requires
-tb3-requires c κs = search needs
 
 confirmed-requires : tie.Need-confirmed-requires
 confirmed-requires c κs =
@@ -73,15 +50,15 @@ pub tb3-inverse-spec : {M : Type 1} → statement M
 tb3-inverse-spec =
     tie.close
     (tie.spec
-    both-long-requires
-    refused-value-requires
+    (λ c κs. search needs)
+    (λ c κs. search needs)
     returns
-    wide-requires
-    refused-value-requires-2
+    (λ c κs. search needs)
+    (λ c κs. search needs)
     returns-2
-    unmixed-requires
+    (λ c κs. search needs)
     field-requires
-    cast-tb3
-    tb3-requires
+    (λ c. search needs)
+    (λ c κs. search needs)
     confirmed-requires
     returns-3)

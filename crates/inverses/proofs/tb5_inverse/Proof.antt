@@ -1,5 +1,3 @@
--- `inverses::tb5_inverse` meets its contract.
--- Assumes nothing.
 use mathlib.Core.Bool.{true, _&&_}
 use mathlib.Core.Path.{_≡_}
 use denote.Ref.{now}
@@ -12,42 +10,9 @@ use Rattle.inverses.proofs.AgainLaws.{result-length, tb5-again}
 use Rattle.inverses.proofs.tb5_inverse.Statement.{statement}
 use Rattle.inverses.proofs.tb5_inverse.Tie as tie
 
-both-long-requires : tie.Need-both-long-requires
-both-long-requires c κs = search needs
-
-refused-cell-requires : tie.Need-refused-cell-requires
-refused-cell-requires c κs = search needs
-
 returns : tie.Need-returns
 unfolding tb5⁻¹Call
 returns c = rw (c .refused-cell .ensures, failed (c .before .before .both-long .ensures) (c .before .if1 .taken))
-
-unmixed-requires : tie.Need-unmixed-requires
-unmixed-requires c κs = search needs
-
-field-requires : tie.Need-field-requires
-field-requires c κs = search needs
-
-field-requires-2 : tie.Need-field-requires-2
-field-requires-2 c κs = search needs
-
-field-requires-3 : tie.Need-field-requires-3
-field-requires-3 c κs = search needs
-
-cast-tb5 : tie.Need-cast-tb5
-cast-tb5 c = search needs
-
-cast-tb5-2 : tie.Need-cast-tb5-2
-cast-tb5-2 c = search needs
-
-cast-tb5-3 : tie.Need-cast-tb5-3
-cast-tb5-3 c = search needs
-
-tb5-requires : tie.Need-tb5-requires
-tb5-requires c κs = search needs
-
-slice-aggregate-same : tie.Need-slice-aggregate-same
-slice-aggregate-same c = search needs
 
 same-requires : tie.Need-same-requires
 same-requires c κs =
@@ -55,9 +20,6 @@ same-requires c κs =
     let x = tested .before .before .before .before .args in
     let n = result-length 10 10 (now (x .cipher-key)) (now (x .result)) (passed (tested .before .both-long .ensures) (tested .if1 .left)) in
     search (needs, n)
-
-refused-cell-requires-2 : tie.Need-refused-cell-requires-2
-refused-cell-requires-2 c κs = search needs
 
 returns-2 : tie.Need-returns-2
 unfolding tb5⁻¹Call
@@ -85,19 +47,19 @@ pub tb5-inverse-spec : {M : Type 1} → statement M
 tb5-inverse-spec =
     tie.close
     (tie.spec
-    both-long-requires
-    refused-cell-requires
+    (λ c κs. search needs)
+    (λ c κs. search needs)
     returns
-    unmixed-requires
-    field-requires
-    field-requires-2
-    field-requires-3
-    cast-tb5
-    cast-tb5-2
-    cast-tb5-3
-    tb5-requires
-    slice-aggregate-same
+    (λ c κs. search needs)
+    (λ c κs. search needs)
+    (λ c κs. search needs)
+    (λ c κs. search needs)
+    (λ c. search needs)
+    (λ c. search needs)
+    (λ c. search needs)
+    (λ c κs. search needs)
+    (λ c. search needs)
     same-requires
-    refused-cell-requires-2
+    (λ c κs. search needs)
     returns-2
     returns-3)

@@ -1,5 +1,3 @@
--- `inverses::tb6_inverse` meets its contract.
--- Assumes nothing.
 use mathlib.Core.Bool.{true, _&&_}
 use mathlib.Core.Path.{_≡_}
 use denote.Ref.{now}
@@ -12,36 +10,9 @@ use Rattle.inverses.proofs.AgainLaws.{result-length, tb6-again}
 use Rattle.inverses.proofs.tb6_inverse.Statement.{statement}
 use Rattle.inverses.proofs.tb6_inverse.Tie as tie
 
-both-long-requires : tie.Need-both-long-requires
-both-long-requires c κs = search needs
-
-refused-pair-requires : tie.Need-refused-pair-requires
-refused-pair-requires c κs = search needs
-
 returns : tie.Need-returns
 unfolding tb6⁻¹Call
 returns c = rw (c .refused-pair .ensures, failed (c .before .before .both-long .ensures) (c .before .if1 .taken))
-
-unmixed-requires : tie.Need-unmixed-requires
-unmixed-requires c κs = search needs
-
-field-requires : tie.Need-field-requires
-field-requires c κs = search needs
-
-field-requires-2 : tie.Need-field-requires-2
-field-requires-2 c κs = search needs
-
-cast-tb6 : tie.Need-cast-tb6
-cast-tb6 c = search needs
-
-cast-tb6-2 : tie.Need-cast-tb6-2
-cast-tb6-2 c = search needs
-
-tb6-requires : tie.Need-tb6-requires
-tb6-requires c κs = search needs
-
-slice-aggregate-same : tie.Need-slice-aggregate-same
-slice-aggregate-same c = search needs
 
 same-requires : tie.Need-same-requires
 same-requires c κs =
@@ -49,9 +20,6 @@ same-requires c κs =
     let x = tested .before .before .before .before .args in
     let n = result-length 10 10 (now (x .cipher-key)) (now (x .result)) (passed (tested .before .both-long .ensures) (tested .if1 .left)) in
     search (needs, n)
-
-refused-pair-requires-2 : tie.Need-refused-pair-requires-2
-refused-pair-requires-2 c κs = search needs
 
 returns-2 : tie.Need-returns-2
 unfolding tb6⁻¹Call
@@ -79,17 +47,17 @@ pub tb6-inverse-spec : {M : Type 1} → statement M
 tb6-inverse-spec =
     tie.close
     (tie.spec
-    both-long-requires
-    refused-pair-requires
+    (λ c κs. search needs)
+    (λ c κs. search needs)
     returns
-    unmixed-requires
-    field-requires
-    field-requires-2
-    cast-tb6
-    cast-tb6-2
-    tb6-requires
-    slice-aggregate-same
+    (λ c κs. search needs)
+    (λ c κs. search needs)
+    (λ c κs. search needs)
+    (λ c. search needs)
+    (λ c. search needs)
+    (λ c κs. search needs)
+    (λ c. search needs)
     same-requires
-    refused-pair-requires-2
+    (λ c κs. search needs)
     returns-2
     returns-3)

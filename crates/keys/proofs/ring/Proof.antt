@@ -1,5 +1,3 @@
--- `keys::ring` meets its contract.
--- Assumes nothing.
 use mathlib.Core.Bool.{false}
 use mathlib.Core.Path.{_≡_}
 use denote.Ref.{now}
@@ -10,39 +8,12 @@ use Rattle.standard.specs.Derivation.{long7, ringCall}
 use Rattle.keys.proofs.ring.Statement.{statement}
 use Rattle.keys.proofs.ring.Tie as tie
 
-refused-ring-requires : tie.Need-refused-ring-requires
-refused-ring-requires c κs = search needs
-
 returns : tie.Need-returns
 unfolding ringCall
 returns c =
     let x = c .before .before .before .before .before .before .before .before .before .args in
     let t : long7 (now (x .root)) (now (x .rs)) (now (x .rso)) (now (x .rand1)) (now (x .rand2)) (now (x .c)) (now (x .group-key)) ≡ false = not-true _ (c .before .if1 .taken) in
     rw (c .refused-ring .ensures, t)
-
-array16-requires : tie.Need-array16-requires
-array16-requires c κs = search needs
-
-array10-requires : tie.Need-array10-requires
-array10-requires c κs = search needs
-
-array10-requires-2 : tie.Need-array10-requires-2
-array10-requires-2 c κs = search needs
-
-array10-requires-3 : tie.Need-array10-requires-3
-array10-requires-3 c κs = search needs
-
-array10-requires-4 : tie.Need-array10-requires-4
-array10-requires-4 c κs = search needs
-
-array10-requires-5 : tie.Need-array10-requires-5
-array10-requires-5 c κs = search needs
-
-array12-requires : tie.Need-array12-requires
-array12-requires c κs = search needs
-
-ring-of-requires : tie.Need-ring-of-requires
-ring-of-requires c κs = search needs
 
 returns-2 : tie.Need-returns-2
 returns-2 c =
@@ -56,14 +27,14 @@ pub ring-spec : {M : Type 1} → statement M
 ring-spec =
     tie.close
     (tie.spec
-    refused-ring-requires
+    (λ c κs. search needs)
     returns
-    array16-requires
-    array10-requires
-    array10-requires-2
-    array10-requires-3
-    array10-requires-4
-    array10-requires-5
-    array12-requires
-    ring-of-requires
+    (λ c κs. search needs)
+    (λ c κs. search needs)
+    (λ c κs. search needs)
+    (λ c κs. search needs)
+    (λ c κs. search needs)
+    (λ c κs. search needs)
+    (λ c κs. search needs)
+    (λ c κs. search needs)
     returns-2)

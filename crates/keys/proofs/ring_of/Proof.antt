@@ -1,5 +1,3 @@
--- `keys::ring_of` meets its contract.
--- Assumes nothing.
 use mathlib.Core.Bool.{true, false, _&&_}
 use mathlib.Core.Path.{_≡_, sym, _∙_}
 use lib.Dec.{leb}
@@ -11,21 +9,12 @@ use Rattle.standard.specs.Refusals.{maskTests, first}
 use Rattle.keys.proofs.ring_of.Statement.{statement}
 use Rattle.keys.proofs.ring_of.Tie as tie
 
-refused-ring-requires : tie.Need-refused-ring-requires
-refused-ring-requires c κs = search needs
-
 returns : tie.Need-returns
 unfolding ringOf
 returns c =
     let x = c .before .before .before .before .args .x in
     let t : leb 1 (x .sides) && leb (x .sides) 3 ≡ false = not-true _ (c .before .if1 .taken) in
     rw (c .refused-ring .ensures, t)
-
-mask-refusal-requires : tie.Need-mask-refusal-requires
-mask-refusal-requires c κs = search needs
-
-refused-ring-requires-2 : tie.Need-refused-ring-requires-2
-refused-ring-requires-2 c κs = search needs
 
 returns-2 : tie.Need-returns-2
 unfolding ringOf
@@ -51,10 +40,10 @@ pub ring-of-spec : {M : Type 1} → statement M
 ring-of-spec =
     tie.close
     (tie.spec
-    refused-ring-requires
+    (λ c κs. search needs)
     returns
-    mask-refusal-requires
-    refused-ring-requires-2
+    (λ c κs. search needs)
+    (λ c κs. search needs)
     returns-2
     make-requires
     returns-3)

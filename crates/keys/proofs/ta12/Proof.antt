@@ -1,5 +1,3 @@
--- `keys::ta12` meets its contract.
--- Assumes nothing.
 use mathlib.Core.Path.{_≡_, sym, _∙_}
 use denote.Ref.{now}
 use borrow.Author.Needs.{needs}
@@ -12,21 +10,9 @@ use Rattle.keys.proofs.MaskLaws.{whole-split}
 use Rattle.keys.proofs.ta12.Statement.{statement}
 use Rattle.keys.proofs.ta12.Tie as tie
 
-both-long-requires : tie.Need-both-long-requires
-both-long-requires c κs = search needs
-
-refused-split-requires : tie.Need-refused-split-requires
-refused-split-requires c κs = search needs
-
 returns : tie.Need-returns
 unfolding ta12Call
 returns c = rw (c .refused-split .ensures, failed (c .before .before .both-long .ensures) (c .before .if1 .taken))
-
-mask-refusal-requires : tie.Need-mask-refusal-requires
-mask-refusal-requires c κs = search needs
-
-refused-split-requires-2 : tie.Need-refused-split-requires-2
-refused-split-requires-2 c κs = search needs
 
 returns-2 : tie.Need-returns-2
 unfolding ta12Call
@@ -34,18 +20,6 @@ returns-2 c =
     let masked = c .before .before in
     let t = passed (masked .before .before .both-long .ensures) (masked .before .if1 .left) in
     rw (c .refused-split2 .ensures, t, ← masked .mask-refusal .ensures, ne-eqb _ _ (c .before .if2 .taken))
-
-array16-requires : tie.Need-array16-requires
-array16-requires c κs = search needs
-
-array10-requires : tie.Need-array10-requires
-array10-requires c κs = search needs
-
-core-requires : tie.Need-core-requires
-core-requires c κs = search needs
-
-split-requires : tie.Need-split-requires
-split-requires c κs = search needs
 
 returns-3 : tie.Need-returns-3
 unfolding ta12Call
@@ -62,14 +36,14 @@ pub ta12-spec : {M : Type 1} → statement M
 ta12-spec =
     tie.close
     (tie.spec
-    both-long-requires
-    refused-split-requires
+    (λ c κs. search needs)
+    (λ c κs. search needs)
     returns
-    mask-refusal-requires
-    refused-split-requires-2
+    (λ c κs. search needs)
+    (λ c κs. search needs)
     returns-2
-    array16-requires
-    array10-requires
-    core-requires
-    split-requires
+    (λ c κs. search needs)
+    (λ c κs. search needs)
+    (λ c κs. search needs)
+    (λ c κs. search needs)
     returns-3)

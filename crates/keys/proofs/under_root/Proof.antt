@@ -1,5 +1,3 @@
--- `keys::under_root` meets its contract.
--- Assumes nothing.
 use mathlib.Core.Bool.{true, false, _&&_}
 use mathlib.Core.Path.{_≡_}
 use denote.Ref.{now}
@@ -10,19 +8,10 @@ use Rattle.standard.specs.Refusals.{long}
 use Rattle.keys.proofs.under_root.Statement.{statement}
 use Rattle.keys.proofs.under_root.Tie as tie
 
-refused16-requires : tie.Need-refused16-requires
-refused16-requires c κs = search needs
-
 returns : tie.Need-returns
 returns c =
     let t : long 16 (now (c .before .before .before .args .root)) && c .before .before .before .args .long ≡ false = not-true _ (c .before .if1 .taken) in
     rw (c .refused16 .ensures, t)
-
-array16-requires : tie.Need-array16-requires
-array16-requires c κs = search needs
-
-core-requires : tie.Need-core-requires
-core-requires c κs = search needs
 
 returns-2 : tie.Need-returns-2
 returns-2 c =
@@ -32,4 +21,10 @@ returns-2 c =
 
 pub under-root-spec : {M : Type 1} → statement M
 under-root-spec =
-    tie.close (tie.spec refused16-requires returns array16-requires core-requires returns-2)
+    tie.close
+    (tie.spec
+    (λ c κs. search needs)
+    returns
+    (λ c κs. search needs)
+    (λ c κs. search needs)
+    returns-2)

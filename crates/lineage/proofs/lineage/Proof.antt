@@ -1,5 +1,3 @@
--- `lineage::lineage` meets its contract.
--- Assumes nothing.
 use lib.ListN.{length}
 use denote.Ref.{now}
 use borrow.Author.Needs.{needs}
@@ -9,29 +7,11 @@ use Rattle.standard.specs.Sizes.{sheetSize}
 use Rattle.lineage.proofs.lineage.Statement.{statement}
 use Rattle.lineage.proofs.lineage.Tie as tie
 
-cast-lengths-and-output : tie.Need-cast-lengths-and-output
-cast-lengths-and-output c = search needs
-
-cast-lengths-and-output-2 : tie.Need-cast-lengths-and-output-2
-cast-lengths-and-output-2 c = search needs
-
-lengths-and-output-requires : tie.Need-lengths-and-output-requires
-lengths-and-output-requires c κs = search needs
-
-refused-requires : tie.Need-refused-requires
-refused-requires c κs = search needs
-
 returns : tie.Need-returns
 returns c =
     let lens = c .before .before in
     let x = lens .before .before .before .args in
     rw (c .refused .ensures) (lengths-refused (now (x .sheet)) (now (x .out)) _ (lens .lengths-and-output .ensures) (c .before .if1 .taken))
-
-scan-requires : tie.Need-scan-requires
-scan-requires c κs = search needs
-
-refused-requires-2 : tie.Need-refused-requires-2
-refused-requires-2 c κs = search needs
 
 returns-2 : tie.Need-returns-2
 returns-2 c =
@@ -48,12 +28,6 @@ write-requires c κs =
     let x = lens .before .before .before .args in
     (records-within sheetSize (length (now (x .sheet))), room (now (x .sheet)) (now (x .out)) _ (lens .lengths-and-output .ensures) (found .before .if1 .left), found .scan .ensures .none (c .before .if2 .left))
 
-mul-t8 : tie.Need-mul-t8
-mul-t8 c = search needs
-
-same-length : tie.Need-same-length
-same-length c = search needs
-
 returns-3 : tie.Need-returns-3
 returns-3 c =
     let made = c .before .before in
@@ -66,15 +40,15 @@ pub lineage-spec : {M : Type 1} → statement M
 lineage-spec =
     tie.close
     (tie.spec
-    cast-lengths-and-output
-    cast-lengths-and-output-2
-    lengths-and-output-requires
-    refused-requires
+    (λ c. search needs)
+    (λ c. search needs)
+    (λ c κs. search needs)
+    (λ c κs. search needs)
     returns
-    scan-requires
-    refused-requires-2
+    (λ c κs. search needs)
+    (λ c κs. search needs)
     returns-2
     write-requires
-    mul-t8
-    same-length
+    (λ c. search needs)
+    (λ c. search needs)
     returns-3)

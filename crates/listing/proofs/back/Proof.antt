@@ -1,5 +1,3 @@
--- `listing::back` meets its contract.
--- Assumes nothing.
 use native.Mathlib.Omega.{arith}
 use borrow.Author.Needs.{needs}
 use Rattle.listing.proofs.ListLaws.{key-short}

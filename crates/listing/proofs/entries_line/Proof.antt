@@ -1,5 +1,3 @@
--- `listing::entries_line` meets its contract.
--- Assumes nothing.
 use borrow.Author.Needs.{needs}
 use Rattle.listing.proofs.ListLaws.{entries-short}
 use Rattle.standard.specs.Listing.{entriesLine}

@@ -1,5 +1,3 @@
--- `listing::entry_line` meets its contract.
--- Assumes nothing.
 use mathlib.Core.List.{List}
 use Prim.Native.Nat.{ℕ}
 use native.Mathlib.Nat.{add-sub-cancel-left}

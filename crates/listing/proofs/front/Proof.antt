@@ -1,5 +1,3 @@
--- `listing::front` meets its contract.
--- Assumes nothing.
 use borrow.Author.Needs.{needs}
 use Rattle.listing.proofs.front.Statement.{statement}
 use Rattle.listing.proofs.front.Tie as tie

@@ -1,5 +1,3 @@
--- `listing::number` meets its contract.
--- Assumes nothing.
 use borrow.Author.Needs.{needs}
 use Rattle.listing.proofs.number.Statement.{statement}
 use Rattle.listing.proofs.number.Tie as tie

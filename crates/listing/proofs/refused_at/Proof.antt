@@ -1,5 +1,3 @@
--- `listing::refused_at` meets its contract.
--- Assumes nothing.
 use borrow.Author.Needs.{needs}
 use Rattle.listing.proofs.refused_at.Statement.{statement}
 use Rattle.listing.proofs.refused_at.Tie as tie

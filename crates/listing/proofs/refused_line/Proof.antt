@@ -1,5 +1,3 @@
--- `listing::refused_line` meets its contract.
--- Assumes nothing.
 use borrow.Author.Needs.{needs}
 use Rattle.listing.proofs.ListLaws.{refused-short}
 use Rattle.standard.specs.Listing.{refusedLine}

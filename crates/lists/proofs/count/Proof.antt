@@ -1,5 +1,3 @@
--- `lists::count` meets its contract.
--- Assumes nothing.
 use native.Mathlib.Nat.{div-zero}
 use borrow.Author.Needs.{needs}
 use Rattle.lists.proofs.count.Statement.{statement}
@@ -8,11 +6,5 @@ use Rattle.lists.proofs.count.Tie as tie
 returns : tie.Need-returns
 returns c = rw (c .if1 .taken, div-zero)
 
-div-result : tie.Need-div-result
-div-result c = search needs
-
-returns-2 : tie.Need-returns-2
-returns-2 c = search needs
-
 pub count-spec : {M : Type 1} → statement M
-count-spec = tie.close (tie.spec returns div-result returns-2)
+count-spec = tie.close (tie.spec returns (λ c. search needs) (λ c. search needs))

@@ -1,5 +1,3 @@
--- `lists::lengths` meets its contract.
--- Assumes nothing.
 use native.Mathlib.Omega.{arith}
 use borrow.Author.Needs.{needs}
 use borrow.Author.Tests.{le-leb, lt-leb}
@@ -7,14 +5,8 @@ use Rattle.lists.proofs.LengthLaws.{records-within, whole, not-whole}
 use Rattle.lists.proofs.lengths.Statement.{statement}
 use Rattle.lists.proofs.lengths.Tie as tie
 
-mul-if1 : tie.Need-mul-if1
-mul-if1 c = search needs
-
 returns : tie.Need-returns
 returns c = rw (lt-leb _ _ (c .if1 .taken))
-
-count-requires : tie.Need-count-requires
-count-requires c κs = search needs
 
 mul-if2 : tie.Need-mul-if2
 mul-if2 c =
@@ -32,4 +24,12 @@ returns-3 c =
     rw (le-leb _ _ (c .before .before .if1 .left), whole (x .size) (x .list) (rw (c .before .count .ensures) at (c .if2 .left)))
 
 pub lengths-spec : {M : Type 1} → statement M
-lengths-spec = tie.close (tie.spec mul-if1 returns count-requires mul-if2 returns-2 returns-3)
+lengths-spec =
+    tie.close
+    (tie.spec
+    (λ c. search needs)
+    returns
+    (λ c κs. search needs)
+    mul-if2
+    returns-2
+    returns-3)

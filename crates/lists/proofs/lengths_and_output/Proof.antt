@@ -1,5 +1,3 @@
--- `lists::lengths_and_output` meets its contract.
--- Assumes nothing.
 use Prim.Native.Nat.{_*_, _/_, _≤_}
 use mathlib.Core.Path.{sym, _∙_}
 use native.Mathlib.Nat.{mul-le-mul}
@@ -10,16 +8,10 @@ use Rattle.lists.proofs.LengthLaws.{few-records, output-last, output-te
 use Rattle.lists.proofs.lengths_and_output.Statement.{statement}
 use Rattle.lists.proofs.lengths_and_output.Tie as tie
 
-lengths-requires : tie.Need-lengths-requires
-lengths-requires c κs = search needs
-
 returns : tie.Need-returns
 returns c =
     let x = c .before .before .args in
     output-last (x .size) (x .list) (x .to) (x .out) _ (c .before .lengths .ensures) (c .if1 .taken)
-
-count-requires : tie.Need-count-requires
-count-requires c κs = search needs
 
 mul-if2 : tie.Need-mul-if2
 mul-if2 c =
@@ -43,4 +35,12 @@ returns-3 c =
     rw (← output-tested (x .size) (x .list) (x .to) (x .out) _ (tested .lengths .ensures) (c .before .before .if1 .left), le-leb _ _ (rw (c .before .count .ensures) at (c .if2 .left)))
 
 pub lengths-and-output-spec : {M : Type 1} → statement M
-lengths-and-output-spec = tie.close (tie.spec lengths-requires returns count-requires mul-if2 returns-2 returns-3)
+lengths-and-output-spec =
+    tie.close
+    (tie.spec
+    (λ c κs. search needs)
+    returns
+    (λ c κs. search needs)
+    mul-if2
+    returns-2
+    returns-3)

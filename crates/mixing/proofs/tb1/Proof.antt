@@ -1,5 +1,3 @@
--- `mixing::tb1` meets its contract.
--- Assumes nothing.
 use native.Mathlib.Omega.{arith}
 use borrow.Author.Needs.{needs}
 use borrow.Author.Tests.{ltb-true}
@@ -9,12 +7,6 @@ use Rattle.standard.specs.Mixing.{tb1Call}
 use Rattle.mixing.proofs.tb1.Statement.{statement}
 use Rattle.mixing.proofs.tb1.Tie as tie
 
-wide-requires : tie.Need-wide-requires
-wide-requires c κs = search needs
-
-refused16-requires : tie.Need-refused16-requires
-refused16-requires c κs = search needs
-
 returns : tie.Need-returns
 unfolding tb1Call
 returns c = rw (c .refused16 .ensures, failed (c .before .before .wide .ensures) (c .before .if1 .taken))
@@ -23,9 +15,6 @@ fits-in-requires : tie.Need-fits-in-requires
 fits-in-requires c κs =
     let x = c .before .before .args in
     omega (arith, wide-split (x .width) (passed (c .before .wide .ensures) (c .if1 .left)))
-
-refused16-requires-2 : tie.Need-refused16-requires-2
-refused16-requires-2 c κs = search needs
 
 returns-2 : tie.Need-returns-2
 unfolding tb1Call
@@ -49,11 +38,11 @@ pub tb1-spec : {M : Type 1} → statement M
 tb1-spec =
     tie.close
     (tie.spec
-    wide-requires
-    refused16-requires
+    (λ c κs. search needs)
+    (λ c κs. search needs)
     returns
     fits-in-requires
-    refused16-requires-2
+    (λ c κs. search needs)
     returns-2
     repeated-requires
     returns-3)

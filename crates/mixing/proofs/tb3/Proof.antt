@@ -1,5 +1,3 @@
--- `mixing::tb3` meets its contract.
--- Assumes nothing.
 use native.Mathlib.Omega.{arith}
 use borrow.Author.Needs.{needs}
 use borrow.Author.Tests.{eq-eqb, ne-eqb, ltb-true}
@@ -9,18 +7,9 @@ use Rattle.standard.specs.Mixing.{tb3, tb3Call}
 use Rattle.mixing.proofs.tb3.Statement.{statement}
 use Rattle.mixing.proofs.tb3.Tie as tie
 
-refused16-requires : tie.Need-refused16-requires
-refused16-requires c κs = search needs
-
 returns : tie.Need-returns
 unfolding tb3Call
 returns c = rw (c .refused16 .ensures, ne-eqb _ _ (c .before .if1 .taken))
-
-wide-requires : tie.Need-wide-requires
-wide-requires c κs = search needs
-
-refused16-requires-2 : tie.Need-refused16-requires-2
-refused16-requires-2 c κs = search needs
 
 returns-2 : tie.Need-returns-2
 unfolding tb3Call
@@ -32,26 +21,17 @@ fits-in-requires c κs =
     let x = c .before .before .before .before .args in
     omega (arith, wide-split (x .width) (passed (c .before .wide .ensures) (c .if2 .left)))
 
-refused16-requires-3 : tie.Need-refused16-requires-3
-refused16-requires-3 c κs = search needs
-
 returns-3 : tie.Need-returns-3
 unfolding tb3Call
 returns-3 c =
     let x = c .before .before .before in
     rw (c .refused163 .ensures, eq-eqb _ _ (x .before .before .if1 .left), passed (x .before .wide .ensures) (x .if2 .left), failed (c .before .before .fits-in .ensures) (c .before .if3 .taken))
 
-array16-requires : tie.Need-array16-requires
-array16-requires c κs = search needs
-
 repeated-requires : tie.Need-repeated-requires
 repeated-requires c κs =
     let x = c .before .before .before in
     let s = wide-split _ (passed (x .before .wide .ensures) (x .if2 .left)) in
     (s .0, s .1, ltb-true _ _ (passed (c .before .before .fits-in .ensures) (c .before .if3 .left)))
-
-xor16-requires : tie.Need-xor16-requires
-xor16-requires c κs = search needs
 
 returns-4 : tie.Need-returns-4
 unfolding tb3Call tb3
@@ -64,15 +44,15 @@ pub tb3-spec : {M : Type 1} → statement M
 tb3-spec =
     tie.close
     (tie.spec
-    refused16-requires
+    (λ c κs. search needs)
     returns
-    wide-requires
-    refused16-requires-2
+    (λ c κs. search needs)
+    (λ c κs. search needs)
     returns-2
     fits-in-requires
-    refused16-requires-3
+    (λ c κs. search needs)
     returns-3
-    array16-requires
+    (λ c κs. search needs)
     repeated-requires
-    xor16-requires
+    (λ c κs. search needs)
     returns-4)

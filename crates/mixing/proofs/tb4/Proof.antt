@@ -1,29 +1,12 @@
--- `mixing::tb4` meets its contract.
--- Assumes nothing.
 use borrow.Author.Needs.{needs}
 use Rattle.standard.proofs.BytesLaws.{failed, passed}
 use Rattle.standard.specs.Mixing.{tb4Call}
 use Rattle.mixing.proofs.tb4.Statement.{statement}
 use Rattle.mixing.proofs.tb4.Tie as tie
 
-both-long-requires : tie.Need-both-long-requires
-both-long-requires c κs = search needs
-
-refused10-requires : tie.Need-refused10-requires
-refused10-requires c κs = search needs
-
 returns : tie.Need-returns
 unfolding tb4Call
 returns c = rw (c .refused10 .ensures, failed (c .before .before .both-long .ensures) (c .before .if1 .taken))
-
-array10-requires : tie.Need-array10-requires
-array10-requires c κs = search needs
-
-array10-requires-2 : tie.Need-array10-requires-2
-array10-requires-2 c κs = search needs
-
-mix4-requires : tie.Need-mix4-requires
-mix4-requires c κs = search needs
 
 returns-2 : tie.Need-returns-2
 unfolding tb4Call
@@ -35,10 +18,10 @@ pub tb4-spec : {M : Type 1} → statement M
 tb4-spec =
     tie.close
     (tie.spec
-    both-long-requires
-    refused10-requires
+    (λ c κs. search needs)
+    (λ c κs. search needs)
     returns
-    array10-requires
-    array10-requires-2
-    mix4-requires
+    (λ c κs. search needs)
+    (λ c κs. search needs)
+    (λ c κs. search needs)
     returns-2)

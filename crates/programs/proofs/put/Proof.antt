@@ -1,5 +1,3 @@
--- `programs::put` meets its contract.
--- Assumes nothing.
 use mathlib.Core.Bool.{true≢false}
 use mathlib.Core.Path.{sym}
 use native.Mathlib.Omega.{arith}

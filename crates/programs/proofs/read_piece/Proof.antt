@@ -1,5 +1,3 @@
--- `programs::read_piece` meets its contract.
--- Assumes nothing.
 use Prim.Native.Nat.{_≤_}
 use native.Mathlib.Omega.{arith}
 use lib.ListN.{length, take, length-append, length-take}

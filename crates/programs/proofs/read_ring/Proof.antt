@@ -1,5 +1,3 @@
--- `programs::read_ring` meets its contract.
--- Assumes nothing.
 use mathlib.Core.Path.{_≡_, refl}
 use Prim.Native.Nat.{zero-le}
 use borrow.Author.Needs.{needs}

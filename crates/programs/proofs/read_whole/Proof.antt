@@ -1,5 +1,3 @@
--- `programs::read_whole` meets its contract.
--- Assumes nothing.
 use mathlib.Core.List.{List}
 use Prim.Native.Nat.{ℕ, _≤_}
 use native.Mathlib.Omega.{arith}

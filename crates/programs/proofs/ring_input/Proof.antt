@@ -1,5 +1,3 @@
--- `programs::ring_input` meets its contract.
--- Assumes nothing.
 use mathlib.Core.Path.{refl}
 use Rattle.programs.proofs.ring_input.Statement.{statement}
 use Rattle.programs.proofs.ring_input.Tie as tie

@@ -1,5 +1,3 @@
--- `records::open_fault` meets its contract.
--- Assumes nothing.
 use mathlib.Core.Bool.{true, false, not}
 use mathlib.Core.List.{List}
 use mathlib.Core.Path.{_≡_, sym, ap, _∙_}
@@ -13,21 +11,6 @@ use Rattle.standard.specs.Seals.{clear, form, opened}
 use Rattle.records.proofs.open_fault.Statement.{statement}
 use Rattle.records.proofs.open_fault.Tie as tie
 
-array21-requires : tie.Need-array21-requires
-array21-requires c κs = search needs
-
-array-read-from-byte : tie.Need-array-read-from-byte
-array-read-from-byte c = search needs
-
-from-byte-requires : tie.Need-from-byte-requires
-from-byte-requires c κs = search needs
-
-enum-known-kind : tie.Need-enum-known-kind
-enum-known-kind c = search needs
-
-enum-told : tie.Need-enum-told
-enum-told c = search needs
-
 returns : tie.Need-returns
 returns c =
     let found = c .before .before in
@@ -36,21 +19,6 @@ returns c =
     let t = now (x .rec) in
     let e = named-by t (copy .array21 .result) (ap (λ (y : List ℕ). y ! 0) (copy .array21 .ensures)) (found .from-byte .ensures) ∙ c .enum-told .given .1 in
     (open-unknown (now (x .ring)) t e, look-unknown t e)
-
-sealed-head-requires : tie.Need-sealed-head-requires
-sealed-head-requires c κs = search needs
-
-version-of-requires : tie.Need-version-of-requires
-version-of-requires c κs = search needs
-
-core-key-requires : tie.Need-core-key-requires
-core-key-requires c κs = search needs
-
-text-part-requires : tie.Need-text-part-requires
-text-part-requires c κs = search needs
-
-flag-of-requires : tie.Need-flag-of-requires
-flag-of-requires c κs = search needs
 
 returns-2 : tie.Need-returns-2
 returns-2 c =
@@ -90,16 +58,16 @@ pub open-fault-spec : {M : Type 1} → statement M
 open-fault-spec =
     tie.close
     (tie.spec
-    array21-requires
-    array-read-from-byte
-    from-byte-requires
-    enum-known-kind
-    enum-told
+    (λ c κs. search needs)
+    (λ c. search needs)
+    (λ c κs. search needs)
+    (λ c. search needs)
+    (λ c. search needs)
     returns
-    sealed-head-requires
-    version-of-requires
-    core-key-requires
-    text-part-requires
-    flag-of-requires
+    (λ c κs. search needs)
+    (λ c κs. search needs)
+    (λ c κs. search needs)
+    (λ c κs. search needs)
+    (λ c κs. search needs)
     returns-2
     returns-3)

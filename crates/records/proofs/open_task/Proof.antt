@@ -1,5 +1,3 @@
--- `records::open_task` meets its contract.
--- Assumes nothing.
 use mathlib.Core.List.{List}
 use mathlib.Core.Path.{ap, _∙_}
 use Prim.Native.Nat.{ℕ}
@@ -9,30 +7,6 @@ use Rattle.records.proofs.StepLaws.{key-taken}
 use Rattle.standard.specs.Bytes.{part}
 use Rattle.records.proofs.open_task.Statement.{statement}
 use Rattle.records.proofs.open_task.Tie as tie
-
-array21-requires : tie.Need-array21-requires
-array21-requires c κs = search needs
-
-sealed-head-requires : tie.Need-sealed-head-requires
-sealed-head-requires c κs = search needs
-
-array-read-kind-of : tie.Need-array-read-kind-of
-array-read-kind-of c = search needs
-
-kind-of-requires : tie.Need-kind-of-requires
-kind-of-requires c κs = search needs
-
-version-of-requires : tie.Need-version-of-requires
-version-of-requires c κs = search needs
-
-core-key-requires : tie.Need-core-key-requires
-core-key-requires c κs = search needs
-
-text-part-requires : tie.Need-text-part-requires
-text-part-requires c κs = search needs
-
-with8-requires : tie.Need-with8-requires
-with8-requires c κs = search needs
 
 returns : tie.Need-returns
 returns c =
@@ -52,12 +26,12 @@ pub open-task-spec : {M : Type 1} → statement M
 open-task-spec =
     tie.close
     (tie.spec
-    array21-requires
-    sealed-head-requires
-    array-read-kind-of
-    kind-of-requires
-    version-of-requires
-    core-key-requires
-    text-part-requires
-    with8-requires
+    (λ c κs. search needs)
+    (λ c κs. search needs)
+    (λ c. search needs)
+    (λ c κs. search needs)
+    (λ c κs. search needs)
+    (λ c κs. search needs)
+    (λ c κs. search needs)
+    (λ c κs. search needs)
     returns)

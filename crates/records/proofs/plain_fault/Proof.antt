@@ -1,5 +1,3 @@
--- `records::plain_fault` meets its contract.
--- Assumes nothing.
 use mathlib.Core.List.{List}
 use mathlib.Core.Path.{_≡_, sym, ap, _∙_}
 use Prim.Native.Nat.{ℕ}
@@ -11,33 +9,12 @@ use Rattle.standard.specs.Seals.{form}
 use Rattle.records.proofs.plain_fault.Statement.{statement}
 use Rattle.records.proofs.plain_fault.Tie as tie
 
-array18-requires : tie.Need-array18-requires
-array18-requires c κs = search needs
-
-array-read-from-byte : tie.Need-array-read-from-byte
-array-read-from-byte c = search needs
-
-from-byte-requires : tie.Need-from-byte-requires
-from-byte-requires c κs = search needs
-
-enum-known-kind : tie.Need-enum-known-kind
-enum-known-kind c = search needs
-
-enum-told : tie.Need-enum-told
-enum-told c = search needs
-
 returns : tie.Need-returns
 returns c =
     let found = c .before .before in
     let copy = found .before in
     let rec = now (copy .before .before .args .rec) in
     plain-unknown rec (named-by rec (copy .array18 .result) (ap (λ (x : List ℕ). x ! 0) (copy .array18 .ensures)) (found .from-byte .ensures) ∙ c .enum-told .given .1)
-
-body-part-requires : tie.Need-body-part-requires
-body-part-requires c κs = search needs
-
-body-fault-requires : tie.Need-body-fault-requires
-body-fault-requires c κs = search needs
 
 returns-2 : tie.Need-returns-2
 returns-2 c =
@@ -52,12 +29,12 @@ pub plain-fault-spec : {M : Type 1} → statement M
 plain-fault-spec =
     tie.close
     (tie.spec
-    array18-requires
-    array-read-from-byte
-    from-byte-requires
-    enum-known-kind
-    enum-told
+    (λ c κs. search needs)
+    (λ c. search needs)
+    (λ c κs. search needs)
+    (λ c. search needs)
+    (λ c. search needs)
     returns
-    body-part-requires
-    body-fault-requires
+    (λ c κs. search needs)
+    (λ c κs. search needs)
     returns-2)

@@ -1,47 +1,9 @@
--- `records::put_opened` meets its contract.
--- Assumes nothing.
 use mathlib.Core.Path.{_∙_}
 use denote.Ref.{now}
 use borrow.Author.Needs.{needs}
 use Rattle.records.proofs.StepLaws.{opened-put}
 use Rattle.records.proofs.put_opened.Statement.{statement}
 use Rattle.records.proofs.put_opened.Tie as tie
-
-array21-requires : tie.Need-array21-requires
-array21-requires c κs = search needs
-
-sealed-head-requires : tie.Need-sealed-head-requires
-sealed-head-requires c κs = search needs
-
-array-read-kind-of : tie.Need-array-read-kind-of
-array-read-kind-of c = search needs
-
-kind-of-requires : tie.Need-kind-of-requires
-kind-of-requires c κs = search needs
-
-identity-of-requires : tie.Need-identity-of-requires
-identity-of-requires c κs = search needs
-
-reveal-requires : tie.Need-reveal-requires
-reveal-requires c κs = search needs
-
-with-identity-requires : tie.Need-with-identity-requires
-with-identity-requires c κs = search needs
-
-body-of-requires : tie.Need-body-of-requires
-body-of-requires c κs = search needs
-
-plain-record-requires : tie.Need-plain-record-requires
-plain-record-requires c κs = search needs
-
-slice-aggregate-copy : tie.Need-slice-aggregate-copy
-slice-aggregate-copy c = search needs
-
-copy-requires : tie.Need-copy-requires
-copy-requires c κs = search needs
-
-same-length : tie.Need-same-length
-same-length c = search needs
 
 returns : tie.Need-returns
 returns c =
@@ -60,16 +22,16 @@ pub put-opened-spec : {M : Type 1} → statement M
 put-opened-spec =
     tie.close
     (tie.spec
-    array21-requires
-    sealed-head-requires
-    array-read-kind-of
-    kind-of-requires
-    identity-of-requires
-    reveal-requires
-    with-identity-requires
-    body-of-requires
-    plain-record-requires
-    slice-aggregate-copy
-    copy-requires
-    same-length
+    (λ c κs. search needs)
+    (λ c κs. search needs)
+    (λ c. search needs)
+    (λ c κs. search needs)
+    (λ c κs. search needs)
+    (λ c κs. search needs)
+    (λ c κs. search needs)
+    (λ c κs. search needs)
+    (λ c κs. search needs)
+    (λ c. search needs)
+    (λ c κs. search needs)
+    (λ c. search needs)
     returns)

@@ -1,38 +1,9 @@
--- `records::put_sealed` meets its contract.
--- Assumes nothing.
 use mathlib.Core.Path.{_∙_}
 use denote.Ref.{now}
 use borrow.Author.Needs.{needs}
 use Rattle.records.proofs.StepLaws.{sealed-put}
 use Rattle.records.proofs.put_sealed.Statement.{statement}
 use Rattle.records.proofs.put_sealed.Tie as tie
-
-array18-requires : tie.Need-array18-requires
-array18-requires c κs = search needs
-
-plain-head-requires : tie.Need-plain-head-requires
-plain-head-requires c κs = search needs
-
-identity-of-requires : tie.Need-identity-of-requires
-identity-of-requires c κs = search needs
-
-hide-requires : tie.Need-hide-requires
-hide-requires c κs = search needs
-
-with-identity-requires : tie.Need-with-identity-requires
-with-identity-requires c κs = search needs
-
-sealed-record-requires : tie.Need-sealed-record-requires
-sealed-record-requires c κs = search needs
-
-slice-aggregate-copy : tie.Need-slice-aggregate-copy
-slice-aggregate-copy c = search needs
-
-copy-requires : tie.Need-copy-requires
-copy-requires c κs = search needs
-
-same-length : tie.Need-same-length
-same-length c = search needs
 
 returns : tie.Need-returns
 returns c =
@@ -49,13 +20,13 @@ pub put-sealed-spec : {M : Type 1} → statement M
 put-sealed-spec =
     tie.close
     (tie.spec
-    array18-requires
-    plain-head-requires
-    identity-of-requires
-    hide-requires
-    with-identity-requires
-    sealed-record-requires
-    slice-aggregate-copy
-    copy-requires
-    same-length
+    (λ c κs. search needs)
+    (λ c κs. search needs)
+    (λ c κs. search needs)
+    (λ c κs. search needs)
+    (λ c κs. search needs)
+    (λ c κs. search needs)
+    (λ c. search needs)
+    (λ c κs. search needs)
+    (λ c. search needs)
     returns)

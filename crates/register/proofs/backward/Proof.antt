@@ -1,5 +1,3 @@
--- `register::backward` meets its contract.
--- Assumes nothing.
 use mathlib.Core.Path.{_≡_, refl, ap}
 use Prim.Native.Nat.{_-_, _≤_, zero-le}
 use native.Mathlib.Omega.{arith}
@@ -21,28 +19,10 @@ loop-holds : tie.Need-loop-holds Inv-loop μ-loop
 unfolding a backward
 loop-holds c = (zero-le, refl, refl)
 
-sub-step-back : tie.Need-sub-step-back Inv-loop μ-loop
-sub-step-back c = omega arith
-
-mul-step-back : tie.Need-mul-step-back Inv-loop μ-loop
-mul-step-back c = omega arith
-
-array-read-step-back : tie.Need-array-read-step-back Inv-loop μ-loop
-array-read-step-back c = omega arith
-
 step-back-requires : tie.Need-step-back-requires Inv-loop μ-loop
 step-back-requires c κs =
     let at = c .before .before .loop in
     rotation-most _ (15 - at .i) (at .inv .1) (omega arith)
-
-round-under-requires : tie.Need-round-under-requires Inv-loop μ-loop
-round-under-requires c κs = search needs
-
-add-i : tie.Need-add-i Inv-loop μ-loop
-add-i c = omega arith
-
-loop-less : tie.Need-loop-less Inv-loop μ-loop
-loop-less c = omega arith
 
 loop-again : tie.Need-loop-again Inv-loop μ-loop
 unfolding S
@@ -63,12 +43,12 @@ backward-spec =
     Inv-loop
     μ-loop
     loop-holds
-    sub-step-back
-    mul-step-back
-    array-read-step-back
+    (λ c. omega arith)
+    (λ c. omega arith)
+    (λ c. omega arith)
     step-back-requires
-    round-under-requires
-    add-i
-    loop-less
+    (λ c κs. search needs)
+    (λ c. omega arith)
+    (λ c. omega arith)
     loop-again
     returns)

@@ -1,24 +1,7 @@
--- `register::crypt` meets its contract.
--- Assumes nothing.
 use borrow.Author.Needs.{needs}
 use Rattle.register.proofs.StepLaws.{encrypted, decrypted}
 use Rattle.register.proofs.crypt.Statement.{statement}
 use Rattle.register.proofs.crypt.Tie as tie
-
-split-requires : tie.Need-split-requires
-split-requires c κs = search needs
-
-backward-requires : tie.Need-backward-requires
-backward-requires c κs = search needs
-
-joined-requires : tie.Need-joined-requires
-joined-requires c κs = search needs
-
-onward-requires : tie.Need-onward-requires
-onward-requires c κs = search needs
-
-joined-requires-2 : tie.Need-joined-requires-2
-joined-requires-2 c κs = search needs
 
 returns : tie.Need-returns
 returns c =
@@ -40,10 +23,10 @@ pub crypt-spec : {M : Type 1} → statement M
 crypt-spec =
     tie.close
     (tie.spec
-    split-requires
-    backward-requires
-    joined-requires
-    onward-requires
-    joined-requires-2
+    (λ c κs. search needs)
+    (λ c κs. search needs)
+    (λ c κs. search needs)
+    (λ c κs. search needs)
+    (λ c κs. search needs)
     returns
     returns-2)

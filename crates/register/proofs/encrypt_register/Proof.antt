@@ -1,21 +1,12 @@
--- `register::encrypt_register` meets its contract.
--- Assumes nothing.
 use borrow.Author.Needs.{needs}
 use Rattle.register.specs.Steps.{cryptCall}
 use Rattle.standard.specs.Hurdle.{encryptCall}
 use Rattle.register.proofs.encrypt_register.Statement.{statement}
 use Rattle.register.proofs.encrypt_register.Tie as tie
 
-crypted-requires : tie.Need-crypted-requires
-crypted-requires c κs = search needs
-
 returns : tie.Need-returns
 unfolding cryptCall encryptCall
 returns c = c .crypted .ensures
 
 pub encrypt-register-spec : {M : Type 1} → statement M
-encrypt-register-spec =
-    tie.close
-    (tie.spec
-    crypted-requires
-    returns)
+encrypt-register-spec = tie.close (tie.spec (λ c κs. search needs) returns)

@@ -1,5 +1,3 @@
--- `register::onward` meets its contract.
--- Assumes nothing.
 use mathlib.Core.Path.{_≡_, refl, ap}
 use Prim.Native.Nat.{_-_, _≤_, zero-le}
 use native.Mathlib.Omega.{arith}
@@ -21,25 +19,10 @@ loop-holds : tie.Need-loop-holds Inv-loop μ-loop
 unfolding a onward
 loop-holds c = (zero-le, refl, refl)
 
-round-under-requires : tie.Need-round-under-requires Inv-loop μ-loop
-round-under-requires c κs = search needs
-
-mul-step : tie.Need-mul-step Inv-loop μ-loop
-mul-step c = omega arith
-
-array-read-step : tie.Need-array-read-step Inv-loop μ-loop
-array-read-step c = omega arith
-
 step-requires : tie.Need-step-requires Inv-loop μ-loop
 step-requires c κs =
     let at = c .before .before .before .before .before .loop in
     rotation-most _ (at .i) (at .inv .1) (omega arith)
-
-add-i : tie.Need-add-i Inv-loop μ-loop
-add-i c = omega arith
-
-loop-less : tie.Need-loop-less Inv-loop μ-loop
-loop-less c = omega arith
 
 loop-again : tie.Need-loop-again Inv-loop μ-loop
 unfolding S
@@ -60,11 +43,11 @@ onward-spec =
     Inv-loop
     μ-loop
     loop-holds
-    round-under-requires
-    mul-step
-    array-read-step
+    (λ c κs. search needs)
+    (λ c. omega arith)
+    (λ c. omega arith)
     step-requires
-    add-i
-    loop-less
+    (λ c. omega arith)
+    (λ c. omega arith)
     loop-again
     returns)

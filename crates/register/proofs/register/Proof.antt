@@ -1,5 +1,3 @@
--- `register::register` meets its contract.
--- Assumes nothing.
 use Prim.Native.Nat.{_%_}
 use native.Mathlib.Omega.{arith}
 use denote.Ref.{now}
@@ -11,18 +9,9 @@ use Rattle.standard.specs.Register.{registerCall}
 use Rattle.register.proofs.register.Statement.{statement}
 use Rattle.register.proofs.register.Tie as tie
 
-refused16-requires : tie.Need-refused16-requires
-refused16-requires c κs = search needs
-
 returns : tie.Need-returns
 unfolding registerCall
 returns c = rw (c .refused16 .ensures, ne-eqb _ _ (c .before .if1 .taken))
-
-array16-requires : tie.Need-array16-requires
-array16-requires c κs = search needs
-
-turned-requires : tie.Need-turned-requires
-turned-requires c κs = omega arith
 
 returns-2 : tie.Need-returns-2
 unfolding registerCall
@@ -36,8 +25,8 @@ pub register-spec : {M : Type 1} → statement M
 register-spec =
     tie.close
     (tie.spec
-    refused16-requires
+    (λ c κs. search needs)
     returns
-    array16-requires
-    turned-requires
+    (λ c κs. search needs)
+    (λ c κs. omega arith)
     returns-2)

@@ -1,5 +1,3 @@
--- `register::turned` meets its contract.
--- Assumes nothing.
 use mathlib.Core.Path.{_≡_, refl}
 use Prim.Native.Nat.{_-_, _≤_, zero-le}
 use native.Mathlib.Omega.{arith}
@@ -19,22 +17,10 @@ loop-holds : tie.Need-loop-holds Inv-loop μ-loop
 unfolding a turned
 loop-holds c = (zero-le, refl, refl)
 
-mul-step : tie.Need-mul-step Inv-loop μ-loop
-mul-step c = omega arith
-
-array-read-step : tie.Need-array-read-step Inv-loop μ-loop
-array-read-step c = omega arith
-
 step-requires : tie.Need-step-requires Inv-loop μ-loop
 step-requires c κs =
     let at = c .before .before .loop in
     rotation-most _ (at .i) (at .inv .1) (omega arith)
-
-add-i : tie.Need-add-i Inv-loop μ-loop
-add-i c = omega arith
-
-loop-less : tie.Need-loop-less Inv-loop μ-loop
-loop-less c = omega arith
 
 loop-again : tie.Need-loop-again Inv-loop μ-loop
 loop-again c =
@@ -54,10 +40,10 @@ turned-spec =
     Inv-loop
     μ-loop
     loop-holds
-    mul-step
-    array-read-step
+    (λ c. omega arith)
+    (λ c. omega arith)
     step-requires
-    add-i
-    loop-less
+    (λ c. omega arith)
+    (λ c. omega arith)
     loop-again
     returns)

@@ -1,5 +1,3 @@
--- `seals::open_if` meets its contract.
--- Assumes nothing.
 use borrow.Author.Needs.{needs}
 use borrow.Author.Tests.{not-true, not-false}
 use Rattle.seals.specs.Steps.{unsealedBody}
@@ -10,9 +8,6 @@ returns : tie.Need-returns
 unfolding unsealedBody
 returns c = rw (not-true (c .before .args .long) (c .if1 .taken))
 
-open-text-requires : tie.Need-open-text-requires
-open-text-requires c κs = search needs
-
 returns-2 : tie.Need-returns-2
 unfolding unsealedBody
 returns-2 c =
@@ -20,4 +15,4 @@ returns-2 c =
     rw (o .is, o .told, not-false (c .before .before .before .args .long) (c .before .before .if1 .left))
 
 pub open-if-spec : {M : Type 1} → statement M
-open-if-spec = tie.close (tie.spec returns open-text-requires returns-2)
+open-if-spec = tie.close (tie.spec returns (λ c κs. search needs) returns-2)

@@ -1,21 +1,13 @@
--- `seals::seal_if` meets its contract.
--- Assumes nothing.
 use borrow.Author.Needs.{needs}
 use borrow.Author.Tests.{not-true, not-false}
 use Rattle.seals.proofs.seal_if.Statement.{statement}
 use Rattle.seals.proofs.seal_if.Tie as tie
 
-refused15-requires : tie.Need-refused15-requires
-refused15-requires c κs = search needs
-
 returns : tie.Need-returns
 returns c = rw (c .refused15 .ensures, not-true (c .before .before .args .long) (c .before .if1 .taken))
-
-seal-body-requires : tie.Need-seal-body-requires
-seal-body-requires c κs = search needs
 
 returns-2 : tie.Need-returns-2
 returns-2 c = rw (c .seal-body .ensures, not-false (c .before .before .args .long) (c .before .if1 .left))
 
 pub seal-if-spec : {M : Type 1} → statement M
-seal-if-spec = tie.close (tie.spec refused15-requires returns seal-body-requires returns-2)
+seal-if-spec = tie.close (tie.spec (λ c κs. search needs) returns (λ c κs. search needs) returns-2)

@@ -1,28 +1,8 @@
--- `seals::ta32` meets its contract.
--- Assumes nothing.
 use borrow.Author.Needs.{needs}
 use Rattle.seals.proofs.AnswerLaws.{key10-part, opened-part, key-out}
 use Rattle.standard.specs.Seals.{form31, unseal, fails, ta32Call}
 use Rattle.seals.proofs.ta32.Statement.{statement}
 use Rattle.seals.proofs.ta32.Tie as tie
-
-both-long-requires : tie.Need-both-long-requires
-both-long-requires c κs = search needs
-
-array10-requires : tie.Need-array10-requires
-array10-requires c κs = search needs
-
-key10-requires : tie.Need-key10-requires
-key10-requires c κs = search needs
-
-array15-requires : tie.Need-array15-requires
-array15-requires c κs = search needs
-
-open-if-requires : tie.Need-open-if-requires
-open-if-requires c κs = search needs
-
-key-part-requires : tie.Need-key-part-requires
-key-part-requires c κs = search needs
 
 returns : tie.Need-returns
 unfolding ta32Call unseal fails
@@ -36,10 +16,10 @@ pub ta32-spec : {M : Type 1} → statement M
 ta32-spec =
     tie.close
     (tie.spec
-    both-long-requires
-    array10-requires
-    key10-requires
-    array15-requires
-    open-if-requires
-    key-part-requires
+    (λ c κs. search needs)
+    (λ c κs. search needs)
+    (λ c κs. search needs)
+    (λ c κs. search needs)
+    (λ c κs. search needs)
+    (λ c κs. search needs)
     returns)

@@ -1,5 +1,3 @@
--- `seals::ta52` meets its contract.
--- Assumes nothing.
 use mathlib.Core.Path.{refl}
 use borrow.Author.Needs.{needs}
 use Rattle.seals.proofs.AnswerLaws.{number-out}
@@ -8,15 +6,6 @@ use Rattle.standard.specs.Seals.{form51, unseal, fails, ta52Call}
 use Rattle.seals.proofs.ta52.Statement.{statement}
 use Rattle.seals.proofs.ta52.Tie as tie
 
-open16-requires : tie.Need-open16-requires
-open16-requires c κs = search needs
-
-key-part-requires : tie.Need-key-part-requires
-key-part-requires c κs = search needs
-
-number51-requires : tie.Need-number51-requires
-number51-requires c κs = search needs
-
 returns : tie.Need-returns
 unfolding ta52Call unseal fails
 returns c =
@@ -24,4 +13,4 @@ returns c =
     rw (c .number51 .ensures, c .before .key-part .ensures) (number-out (o .result) form51 _ (λ b. b ! 11) refl _ (o .ensures))
 
 pub ta52-spec : {M : Type 1} → statement M
-ta52-spec = tie.close (tie.spec open16-requires key-part-requires number51-requires returns)
+ta52-spec = tie.close (tie.spec (λ c κs. search needs) (λ c κs. search needs) (λ c κs. search needs) returns)

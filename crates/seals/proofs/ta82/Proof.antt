@@ -1,20 +1,9 @@
--- `seals::ta82` meets its contract.
--- Assumes nothing.
 use mathlib.Core.Path.{refl}
 use borrow.Author.Needs.{needs}
 use Rattle.seals.proofs.AnswerLaws.{number-out}
 use Rattle.standard.specs.Seals.{form81, unseal, fails, number2, ta82Call}
 use Rattle.seals.proofs.ta82.Statement.{statement}
 use Rattle.seals.proofs.ta82.Tie as tie
-
-open16-requires : tie.Need-open16-requires
-open16-requires c κs = search needs
-
-key-part-requires : tie.Need-key-part-requires
-key-part-requires c κs = search needs
-
-number81-requires : tie.Need-number81-requires
-number81-requires c κs = search needs
 
 returns : tie.Need-returns
 unfolding ta82Call unseal fails
@@ -23,4 +12,4 @@ returns c =
     rw (c .number81 .ensures, c .before .key-part .ensures) (number-out (o .result) form81 _ number2 refl _ (o .ensures))
 
 pub ta82-spec : {M : Type 1} → statement M
-ta82-spec = tie.close (tie.spec open16-requires key-part-requires number81-requires returns)
+ta82-spec = tie.close (tie.spec (λ c κs. search needs) (λ c κs. search needs) (λ c κs. search needs) returns)

@@ -1,17 +1,12 @@
--- `seals::ta92` meets its contract.
--- Assumes nothing.
 use borrow.Author.Needs.{needs}
 use Rattle.seals.proofs.AnswerLaws.{group-key-out}
 use Rattle.standard.specs.Seals.{form81, unseal, fails, ta92Call}
 use Rattle.seals.proofs.ta92.Statement.{statement}
 use Rattle.seals.proofs.ta92.Tie as tie
 
-open16-requires : tie.Need-open16-requires
-open16-requires c κs = search needs
-
 returns : tie.Need-returns
 unfolding ta92Call unseal fails
 returns c = group-key-out (c .before .open16 .result) form81 _ _ (c .before .open16 .ensures)
 
 pub ta92-spec : {M : Type 1} → statement M
-ta92-spec = tie.close (tie.spec open16-requires returns)
+ta92-spec = tie.close (tie.spec (λ c κs. search needs) returns)

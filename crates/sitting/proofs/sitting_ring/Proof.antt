@@ -1,5 +1,3 @@
--- `sitting::sitting_ring` meets its contract.
--- Assumes nothing.
 use mathlib.Core.Path.{_≡_, ap, _∙_}
 use native.Mathlib.Omega.{arith}
 use lib.ListN.{length}
@@ -14,69 +12,9 @@ use Rattle.sitting.proofs.SittingLaws.{sitting-recipe}
 use Rattle.sitting.proofs.sitting_ring.Statement.{statement}
 use Rattle.sitting.proofs.sitting_ring.Tie as tie
 
-refused-ring-requires : tie.Need-refused-ring-requires
-refused-ring-requires c κs = search needs
-
 returns : tie.Need-returns
 unfolding sittingRing
 returns c = rw (c .refused-ring .ensures, ne-eqb _ _ (c .before .if1 .taken))
-
-shared-slice-read-wide : tie.Need-shared-slice-read-wide
-shared-slice-read-wide c = search needs
-
-wide-requires : tie.Need-wide-requires
-wide-requires c κs = search needs
-
-array16-requires : tie.Need-array16-requires
-array16-requires c κs = search needs
-
-ten-requires : tie.Need-ten-requires
-ten-requires c κs = search needs
-
-ten-requires-2 : tie.Need-ten-requires-2
-ten-requires-2 c κs = search needs
-
-ten-requires-3 : tie.Need-ten-requires-3
-ten-requires-3 c κs = search needs
-
-ten-requires-4 : tie.Need-ten-requires-4
-ten-requires-4 c κs = search needs
-
-ten-requires-5 : tie.Need-ten-requires-5
-ten-requires-5 c κs = search needs
-
-sub-array12 : tie.Need-sub-array12
-sub-array12 c = search needs
-
-part-array12-start : tie.Need-part-array12-start
-part-array12-start c = search needs
-
-part-array12-end : tie.Need-part-array12-end
-part-array12-end c = search needs
-
-array12-requires : tie.Need-array12-requires
-array12-requires c κs = search needs
-
-shared-slice-read-pair : tie.Need-shared-slice-read-pair
-shared-slice-read-pair c = search needs
-
-shared-slice-read-pair-2 : tie.Need-shared-slice-read-pair-2
-shared-slice-read-pair-2 c = search needs
-
-pair-requires : tie.Need-pair-requires
-pair-requires c κs = search needs
-
-shared-slice-read-pair-3 : tie.Need-shared-slice-read-pair-3
-shared-slice-read-pair-3 c = search needs
-
-shared-slice-read-pair-4 : tie.Need-shared-slice-read-pair-4
-shared-slice-read-pair-4 c = search needs
-
-pair-requires-2 : tie.Need-pair-requires-2
-pair-requires-2 c κs = search needs
-
-ring-of-requires : tie.Need-ring-of-requires
-ring-of-requires c κs = search needs
 
 returns-2 : tie.Need-returns-2
 returns-2 c =
@@ -95,25 +33,25 @@ pub sitting-ring-spec : {M : Type 1} → statement M
 sitting-ring-spec =
     tie.close
     (tie.spec
-    refused-ring-requires
+    (λ c κs. search needs)
     returns
-    shared-slice-read-wide
-    wide-requires
-    array16-requires
-    ten-requires
-    ten-requires-2
-    ten-requires-3
-    ten-requires-4
-    ten-requires-5
-    sub-array12
-    part-array12-start
-    part-array12-end
-    array12-requires
-    shared-slice-read-pair
-    shared-slice-read-pair-2
-    pair-requires
-    shared-slice-read-pair-3
-    shared-slice-read-pair-4
-    pair-requires-2
-    ring-of-requires
+    (λ c. search needs)
+    (λ c κs. search needs)
+    (λ c κs. search needs)
+    (λ c κs. search needs)
+    (λ c κs. search needs)
+    (λ c κs. search needs)
+    (λ c κs. search needs)
+    (λ c κs. search needs)
+    (λ c. search needs)
+    (λ c. search needs)
+    (λ c. search needs)
+    (λ c κs. search needs)
+    (λ c. search needs)
+    (λ c. search needs)
+    (λ c κs. search needs)
+    (λ c. search needs)
+    (λ c. search needs)
+    (λ c κs. search needs)
+    (λ c κs. search needs)
     returns-2)

@@ -1,5 +1,3 @@
--- `sitting::ten` meets its contract.
--- Assumes nothing.
 use mathlib.Core.Path.{ap, _∙_}
 use denote.Ref.{now}
 use borrow.Author.Needs.{needs}
@@ -7,21 +5,6 @@ use Rattle.standard.proofs.BytesLaws.{lent-part}
 use Rattle.standard.specs.Bytes.{part}
 use Rattle.sitting.proofs.ten.Statement.{statement}
 use Rattle.sitting.proofs.ten.Tie as tie
-
-add-array10 : tie.Need-add-array10
-add-array10 c = search needs
-
-sub-array10 : tie.Need-sub-array10
-sub-array10 c = search needs
-
-part-array10-start : tie.Need-part-array10-start
-part-array10-start c = search needs
-
-part-array10-end : tie.Need-part-array10-end
-part-array10-end c = search needs
-
-array10-requires : tie.Need-array10-requires
-array10-requires c κs = search needs
 
 returns : tie.Need-returns
 returns c =
@@ -31,4 +14,10 @@ returns c =
 pub ten-spec : {M : Type 1} → statement M
 ten-spec =
     tie.close
-    (tie.spec add-array10 sub-array10 part-array10-start part-array10-end array10-requires returns)
+    (tie.spec
+    (λ c. search needs)
+    (λ c. search needs)
+    (λ c. search needs)
+    (λ c. search needs)
+    (λ c κs. search needs)
+    returns)

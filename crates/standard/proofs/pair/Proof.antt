@@ -1,19 +1,11 @@
--- `standard::pair` meets its contract.
--- Assumes nothing.
 use mathlib.Core.Path.{refl}
 use borrow.Author.Needs.{needs}
 use Rattle.standard.proofs.BytesLaws.{pair-bytes}
 use Rattle.standard.proofs.pair.Statement.{statement}
 use Rattle.standard.proofs.pair.Tie as tie
 
-mul-result : tie.Need-mul-result
-mul-result c = search needs
-
-add-result : tie.Need-add-result
-add-result c = search needs
-
 returns : tie.Need-returns
 returns c = (refl, pair-bytes (c .args .high) (c .args .low) (search needs) (search needs))
 
 pub pair-spec : {M : Type 1} → statement M
-pair-spec = tie.close (tie.spec mul-result add-result returns)
+pair-spec = tie.close (tie.spec (λ c. search needs) (λ c. search needs) returns)

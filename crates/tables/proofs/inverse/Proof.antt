@@ -1,5 +1,3 @@
--- `tables::inverse` meets its contract.
--- Assumes nothing.
 use mathlib.Core.Path.{_≡_, refl}
 use Prim.Native.Nat.{_-_, _≤_, zero-le}
 use native.Mathlib.Omega.{arith}
@@ -18,9 +16,6 @@ abbrev μ-loop : tie.MeasureT-loop
 loop-holds : tie.Need-loop-holds Inv-loop μ-loop
 loop-holds c = (zero-le, placed-none _ refl)
 
-array-read-y : tie.Need-array-read-y Inv-loop μ-loop
-array-read-y c = omega arith
-
 -- S has bytes, and the table has a place for each
 cast-y : tie.Need-cast-y Inv-loop μ-loop
 unfolding S
@@ -35,12 +30,6 @@ unfolding S
 array-write-out c =
     let at = c .before .loop in
     omega (arith, permuted (at .i) (omega arith) .s-byte, at .inv .1 .long)
-
-add-i : tie.Need-add-i Inv-loop μ-loop
-add-i c = omega arith
-
-loop-less : tie.Need-loop-less Inv-loop μ-loop
-loop-less c = omega arith
 
 loop-again : tie.Need-loop-again Inv-loop μ-loop
 unfolding S
@@ -61,11 +50,11 @@ inverse-spec =
     Inv-loop
     μ-loop
     loop-holds
-    array-read-y
+    (λ c. omega arith)
     cast-y
     cast-out
     array-write-out
-    add-i
-    loop-less
+    (λ c. omega arith)
+    (λ c. omega arith)
     loop-again
     returns)

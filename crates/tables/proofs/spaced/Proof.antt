@@ -1,5 +1,3 @@
--- `tables::spaced` meets its contract.
--- Assumes nothing.
 use mathlib.Core.List.{List, _++_}
 use mathlib.Core.Path.{_≡_, ap, _∙_}
 use Prim.Native.Nat.{ℕ, _-_, _≤_, zero-le}

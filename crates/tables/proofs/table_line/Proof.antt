@@ -1,5 +1,3 @@
--- `tables::table_line` meets its contract.
--- Assumes nothing.
 use mathlib.Core.Path.{_≡_}
 use native.Mathlib.Omega.{arith}
 use lib.ListN.{length, length-take}

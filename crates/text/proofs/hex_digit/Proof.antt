@@ -1,5 +1,3 @@
--- `text::hex_digit` meets its contract.
--- Assumes nothing.
 use borrow.Author.Needs.{needs}
 use borrow.Author.Tests.{lt-ltb, le-ltb}
 use Rattle.standard.specs.Text.{hexDigit}

@@ -1,5 +1,3 @@
--- `books::convert::convert_one` meets its contract.
--- Assumes nothing.
 use mathlib.Core.List.{List}
 use mathlib.Core.Path.{ap, _∙_}
 use Prim.Native.Nat.{ℕ}
@@ -11,18 +9,6 @@ use Rattle.cores.specs.declared.CoreOutput15.{CoreOutput15}
 use Rattle.lists.specs.Walks.{putAt}
 use Rattle.books.proofs.convert.convert_one.Statement.{statement}
 use Rattle.books.proofs.convert.convert_one.Tie as tie
-
-task-at-requires : tie.Need-task-at-requires
-task-at-requires c κs = search needs
-
-core-requires : tie.Need-core-requires
-core-requires c κs = search needs
-
-put-at-requires : tie.Need-put-at-requires
-put-at-requires c κs = search needs
-
-same-length : tie.Need-same-length
-same-length c = search needs
 
 returns : tie.Need-returns
 returns c =
@@ -36,4 +22,10 @@ returns c =
 
 pub convert-one-spec : {M : Type 1} → statement M
 convert-one-spec =
-    tie.close (tie.spec task-at-requires core-requires put-at-requires same-length returns)
+    tie.close
+    (tie.spec
+    (λ c κs. search needs)
+    (λ c κs. search needs)
+    (λ c κs. search needs)
+    (λ c. search needs)
+    returns)

@@ -1,5 +1,3 @@
--- `books::convert::put_at` meets its contract.
--- Assumes nothing.
 use mathlib.Core.List.{List}
 use mathlib.Core.Path.{_≡_, sym, ap, ap₂, _∙_}
 use Prim.Native.Nat.{ℕ}
@@ -14,18 +12,6 @@ use Rattle.standard.specs.Lists.{recordAt}
 use Rattle.books.proofs.convert.put_at.Statement.{statement}
 use Rattle.books.proofs.convert.put_at.Tie as tie
 
-size-requires : tie.Need-size-requires
-size-requires c κs = search needs
-
-cast-size : tie.Need-cast-size
-cast-size c = search needs
-
-to-requires : tie.Need-to-requires
-to-requires c κs = search needs
-
-cast-to : tie.Need-cast-to
-cast-to c = search needs
-
 mul-a : tie.Need-mul-a
 mul-a c = omega (arith, fits (sizeOf (c .before .before .before .before .args .way)) (c .before .before .before .before .args .i) (c .before .before .before .before .args .n) (c .before .size .result) _ (c .before .size .ensures) (c .before .before .before .before .pre .0) (c .before .before .before .before .pre .1))
 
@@ -35,32 +21,14 @@ mul-b c = omega (arith, fits (toOf (c .before .before .before .before .args .way
 add-put : tie.Need-add-put
 add-put c = omega (arith, fits (sizeOf (c .before .before .before .before .before .args .way)) (c .before .before .before .before .before .args .i) (c .before .before .before .before .before .args .n) (c .before .before .size .result) _ (c .before .before .size .ensures) (c .before .before .before .before .before .pre .0) (c .before .before .before .before .before .pre .1))
 
-sub-put : tie.Need-sub-put
-sub-put c = search needs
-
-part-put-start : tie.Need-part-put-start
-part-put-start c = search needs
-
 part-put-end : tie.Need-part-put-end
 part-put-end c = omega (arith, fits (sizeOf (c .before .before .before .before .before .args .way)) (c .before .before .before .before .before .args .i) (c .before .before .before .before .before .args .n) (c .before .before .size .result) _ (c .before .before .size .ensures) (c .before .before .before .before .before .pre .0) (c .before .before .before .before .before .pre .1))
 
 add-put-2 : tie.Need-add-put-2
 add-put-2 c = omega (arith, fits (toOf (c .before .before .before .before .before .before .args .way)) (c .before .before .before .before .before .before .args .i) (c .before .before .before .before .before .before .args .n) (c .before .before .to .result) _ (c .before .before .to .ensures) (c .before .before .before .before .before .before .pre .0) (c .before .before .before .before .before .before .pre .2))
 
-sub-put-2 : tie.Need-sub-put-2
-sub-put-2 c = search needs
-
-part-put-start-2 : tie.Need-part-put-start-2
-part-put-start-2 c = search needs
-
 part-put-end-2 : tie.Need-part-put-end-2
 part-put-end-2 c = omega (arith, fits (toOf (c .before .before .before .before .before .before .args .way)) (c .before .before .before .before .before .before .args .i) (c .before .before .before .before .before .before .args .n) (c .before .before .to .result) _ (c .before .before .to .ensures) (c .before .before .before .before .before .before .pre .0) (c .before .before .before .before .before .before .pre .2))
-
-put-requires : tie.Need-put-requires
-put-requires c κs = search needs
-
-same-length : tie.Need-same-length
-same-length c = search needs
 
 returns : tie.Need-returns
 returns c =
@@ -81,20 +49,20 @@ pub put-at-spec : {M : Type 1} → statement M
 put-at-spec =
     tie.close
     (tie.spec
-    size-requires
-    cast-size
-    to-requires
-    cast-to
+    (λ c κs. search needs)
+    (λ c. search needs)
+    (λ c κs. search needs)
+    (λ c. search needs)
     mul-a
     mul-b
     add-put
-    sub-put
-    part-put-start
+    (λ c. search needs)
+    (λ c. search needs)
     part-put-end
     add-put-2
-    sub-put-2
-    part-put-start-2
+    (λ c. search needs)
+    (λ c. search needs)
     part-put-end-2
-    put-requires
-    same-length
+    (λ c κs. search needs)
+    (λ c. search needs)
     returns)

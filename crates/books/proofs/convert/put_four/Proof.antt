@@ -1,5 +1,3 @@
--- `books::convert::put_four` meets its contract.
--- Assumes nothing.
 use borrow.Author.Needs.{needs}
 use Rattle.books.proofs.convert.put_four.Statement.{statement}
 use Rattle.books.proofs.convert.put_four.Tie as tie

@@ -1,5 +1,3 @@
--- `books::convert::task_at` meets its contract.
--- Assumes nothing.
 use mathlib.Core.Path.{_≡_, ap, _∙_}
 use Prim.Native.Nat.{ℕ}
 use native.Mathlib.Omega.{arith}
@@ -13,29 +11,14 @@ use Rattle.standard.specs.Lists.{recordAt}
 use Rattle.books.proofs.convert.task_at.Statement.{statement}
 use Rattle.books.proofs.convert.task_at.Tie as tie
 
-size-requires : tie.Need-size-requires
-size-requires c κs = search needs
-
-cast-size : tie.Need-cast-size
-cast-size c = search needs
-
 mul-a : tie.Need-mul-a
 mul-a c = omega (arith, fits (sizeOf (c .before .before .args .way)) (c .before .before .args .i) (c .before .before .args .n) (c .size .result) _ (c .size .ensures) (c .before .before .pre .0) (c .before .before .pre .1))
 
 add-task : tie.Need-add-task
 add-task c = omega (arith, fits (sizeOf (c .before .before .args .way)) (c .before .before .args .i) (c .before .before .args .n) (c .size .result) _ (c .size .ensures) (c .before .before .pre .0) (c .before .before .pre .1))
 
-sub-task : tie.Need-sub-task
-sub-task c = search needs
-
-part-task-start : tie.Need-part-task-start
-part-task-start c = search needs
-
 part-task-end : tie.Need-part-task-end
 part-task-end c = omega (arith, fits (sizeOf (c .before .before .args .way)) (c .before .before .args .i) (c .before .before .args .n) (c .size .result) _ (c .size .ensures) (c .before .before .pre .0) (c .before .before .pre .1))
-
-task-requires : tie.Need-task-requires
-task-requires c κs = search needs
 
 returns : tie.Need-returns
 returns c =
@@ -50,12 +33,12 @@ pub task-at-spec : {M : Type 1} → statement M
 task-at-spec =
     tie.close
     (tie.spec
-    size-requires
-    cast-size
+    (λ c κs. search needs)
+    (λ c. search needs)
     mul-a
     add-task
-    sub-task
-    part-task-start
+    (λ c. search needs)
+    (λ c. search needs)
     part-task-end
-    task-requires
+    (λ c κs. search needs)
     returns)

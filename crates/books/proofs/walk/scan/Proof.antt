@@ -1,5 +1,3 @@
--- `books::walk::scan` meets its contract.
--- Assumes nothing.
 use mathlib.Core.Path.{sym, _∙_}
 use denote.Ref.{now}
 use borrow.Author.Needs.{needs}
@@ -7,14 +5,8 @@ use Rattle.books.proofs.WayLaws.{plain-looks}
 use Rattle.books.proofs.walk.scan.Statement.{statement}
 use Rattle.books.proofs.walk.scan.Tie as tie
 
-enum-told : tie.Need-enum-told
-enum-told c = search needs
-
 scan-plain-requires : tie.Need-scan-plain-requires
 scan-plain-requires c κs = rw (c .enum-told .given .1) at (c .before .before .before .pre)
-
-enum-told-2 : tie.Need-enum-told-2
-enum-told-2 c = search needs
 
 scan-sealed-requires : tie.Need-scan-sealed-requires
 scan-sealed-requires c κs = rw (c .enum-told2 .given .1) at (c .before .before .before .pre)
@@ -31,4 +23,10 @@ returns-2 c = rw (c .before .enum-told2 .given .1) (c .scan-sealed .ensures)
 pub scan-spec : {M : Type 1} → statement M
 scan-spec =
     tie.close
-    (tie.spec enum-told scan-plain-requires enum-told-2 scan-sealed-requires returns returns-2)
+    (tie.spec
+    (λ c. search needs)
+    scan-plain-requires
+    (λ c. search needs)
+    scan-sealed-requires
+    returns
+    returns-2)

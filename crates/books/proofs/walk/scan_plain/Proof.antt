@@ -31,34 +31,10 @@ at c =
 loop-holds : tie.Need-loop-holds Inv-loop μ-loop
 loop-holds c = (zero-le, clean-none _)
 
-mul-a : tie.Need-mul-a Inv-loop μ-loop
-mul-a c = search needs
-
-add-plain-fault : tie.Need-add-plain-fault Inv-loop μ-loop
-add-plain-fault c = search needs
-
-sub-plain-fault : tie.Need-sub-plain-fault Inv-loop μ-loop
-sub-plain-fault c = search needs
-
-part-plain-fault-start : tie.Need-part-plain-fault-start Inv-loop μ-loop
-part-plain-fault-start c = search needs
-
-part-plain-fault-end : tie.Need-part-plain-fault-end Inv-loop μ-loop
-part-plain-fault-end c = search needs
-
-plain-fault-requires : tie.Need-plain-fault-requires Inv-loop μ-loop
-plain-fault-requires c κs = search needs
-
 returns : tie.Need-returns Inv-loop μ-loop
 returns c =
     let turn = c .before .before .before in
     (stopped-at _ _ (turn .before .loop .index) _ (turn .loop-test .taken) (turn .before .loop .inv .1) (at (c .before)) (c .if1 .taken), refl)
-
-add-index : tie.Need-add-index Inv-loop μ-loop
-add-index c = search needs
-
-loop-less : tie.Need-loop-less Inv-loop μ-loop
-loop-less c = search needs
 
 loop-again : tie.Need-loop-again Inv-loop μ-loop
 loop-again c =
@@ -75,14 +51,14 @@ scan-plain-spec =
     Inv-loop
     μ-loop
     loop-holds
-    mul-a
-    add-plain-fault
-    sub-plain-fault
-    part-plain-fault-start
-    part-plain-fault-end
-    plain-fault-requires
+    (λ c. search needs)
+    (λ c. search needs)
+    (λ c. search needs)
+    (λ c. search needs)
+    (λ c. search needs)
+    (λ c κs. search needs)
     returns
-    add-index
-    loop-less
+    (λ c. search needs)
+    (λ c. search needs)
     loop-again
     returns-2)

@@ -47,24 +47,6 @@ took c = c .open-fault .ensures .1 ∙ ap openLook (part-is c)
 loop-holds : tie.Need-loop-holds Inv-loop μ-loop
 loop-holds c = (zero-le, clean-none _, refl)
 
-mul-a : tie.Need-mul-a Inv-loop μ-loop
-mul-a c = search needs
-
-add-open-fault : tie.Need-add-open-fault Inv-loop μ-loop
-add-open-fault c = search needs
-
-sub-open-fault : tie.Need-sub-open-fault Inv-loop μ-loop
-sub-open-fault c = search needs
-
-part-open-fault-start : tie.Need-part-open-fault-start Inv-loop μ-loop
-part-open-fault-start c = search needs
-
-part-open-fault-end : tie.Need-part-open-fault-end Inv-loop μ-loop
-part-open-fault-end c = search needs
-
-open-fault-requires : tie.Need-open-fault-requires Inv-loop μ-loop
-open-fault-requires c κs = search needs
-
 add-runs : tie.Need-add-runs Inv-loop μ-loop
 add-runs c =
     let i = c .before .before .before .before .loop in
@@ -84,12 +66,6 @@ returns c =
       stopped-at _ _ (i .index) _ h (i .inv .1) (at look) (c .if1 .taken),
       ap₂ _+_ (i .inv .2) (took look) ∙ sym (pass-stopped g l (x .n) (i .index) h (i .inv .1) (λ z. c .if1 .taken (at look ∙ z))),
     )
-
-add-index : tie.Need-add-index Inv-loop μ-loop
-add-index c = search needs
-
-loop-less : tie.Need-loop-less Inv-loop μ-loop
-loop-less c = search needs
 
 loop-again : tie.Need-loop-again Inv-loop μ-loop
 loop-again c =
@@ -119,15 +95,15 @@ scan-sealed-spec =
     Inv-loop
     μ-loop
     loop-holds
-    mul-a
-    add-open-fault
-    sub-open-fault
-    part-open-fault-start
-    part-open-fault-end
-    open-fault-requires
+    (λ c. search needs)
+    (λ c. search needs)
+    (λ c. search needs)
+    (λ c. search needs)
+    (λ c. search needs)
+    (λ c κs. search needs)
     add-runs
     returns
-    add-index
-    loop-less
+    (λ c. search needs)
+    (λ c. search needs)
     loop-again
     returns-2)

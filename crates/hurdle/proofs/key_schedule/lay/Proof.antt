@@ -1,5 +1,3 @@
--- `hurdle::key_schedule::lay` meets its contract.
--- Assumes nothing.
 use mathlib.Core.Path.{_≡_, refl, _∙_}
 use Prim.Native.Nat.{_+_, _-_, _*_, _≤_, zero-le}
 use native.Mathlib.Nat.{add-zero}
@@ -25,17 +23,8 @@ Inv-loop rots ms twice keys₀ i₀ keys i = (i ≤ 16) × (length keys ≡ 192)
 abbrev μ-loop : tie.MeasureT-loop
 μ-loop rots ms twice keys₀ i₀ keys i = 16 - i
 
-doubled-requires : tie.Need-doubled-requires Inv-loop2 μ-loop2 Inv-loop μ-loop
-doubled-requires c κs = search needs
-
 loop-holds : tie.Need-loop-holds Inv-loop2 μ-loop2 Inv-loop μ-loop
 loop-holds c = (zero-le, refl, refl)
-
-mul-from : tie.Need-mul-from Inv-loop2 μ-loop2 Inv-loop μ-loop
-mul-from c = omega arith
-
-array-read-from : tie.Need-array-read-from Inv-loop2 μ-loop2 Inv-loop μ-loop
-array-read-from c = omega arith
 
 add-from : tie.Need-add-from Inv-loop2 μ-loop2 Inv-loop μ-loop
 unfolding rotations
@@ -46,36 +35,6 @@ unfolding rotations
 loop2-holds c =
     let at = c .before .loop in
     (zero-le, at .inv .1, refl, omega (arith, rotation (at .i) (omega arith) .1), rw (add-zero (at .i * 12)) (at .inv .2))
-
-add-keys : tie.Need-add-keys Inv-loop2 μ-loop2 Inv-loop μ-loop
-add-keys c = omega arith
-
-array-read-keys : tie.Need-array-read-keys Inv-loop2 μ-loop2 Inv-loop μ-loop
-array-read-keys c = omega arith
-
-mul-keys : tie.Need-mul-keys Inv-loop2 μ-loop2 Inv-loop μ-loop
-mul-keys c = omega arith
-
-add-keys-2 : tie.Need-add-keys-2 Inv-loop2 μ-loop2 Inv-loop μ-loop
-add-keys-2 c = omega arith
-
-array-read-keys-2 : tie.Need-array-read-keys-2 Inv-loop2 μ-loop2 Inv-loop μ-loop
-array-read-keys-2 c = omega arith
-
-mul-keys-2 : tie.Need-mul-keys-2 Inv-loop2 μ-loop2 Inv-loop μ-loop
-mul-keys-2 c = omega arith
-
-add-keys-3 : tie.Need-add-keys-3 Inv-loop2 μ-loop2 Inv-loop μ-loop
-add-keys-3 c = omega arith
-
-array-write-keys : tie.Need-array-write-keys Inv-loop2 μ-loop2 Inv-loop μ-loop
-array-write-keys c = omega arith
-
-add-j : tie.Need-add-j Inv-loop2 μ-loop2 Inv-loop μ-loop
-add-j c = omega arith
-
-loop2-less : tie.Need-loop2-less Inv-loop2 μ-loop2 Inv-loop μ-loop
-loop2-less c = omega arith
 
 loop2-again : tie.Need-loop2-again Inv-loop2 μ-loop2 Inv-loop μ-loop
 unfolding rotations masks
@@ -92,12 +51,6 @@ loop2-again c =
           (fill-next (l2 .keys) (made rotations masks twice) (i * 12 + l2 .j) _ (omega arith)
           (made-at rotations masks twice i (l2 .j) _ (omega arith) refl) (l2 .inv .4)),
     )
-
-add-i : tie.Need-add-i Inv-loop2 μ-loop2 Inv-loop μ-loop
-add-i c = omega arith
-
-loop-less : tie.Need-loop-less Inv-loop2 μ-loop2 Inv-loop μ-loop
-loop-less c = omega arith
 
 loop-again : tie.Need-loop-again Inv-loop2 μ-loop2 Inv-loop μ-loop
 loop-again c =
@@ -122,24 +75,24 @@ lay-spec =
     μ-loop2
     Inv-loop
     μ-loop
-    doubled-requires
+    (λ c κs. search needs)
     loop-holds
-    mul-from
-    array-read-from
+    (λ c. omega arith)
+    (λ c. omega arith)
     add-from
     loop2-holds
-    add-keys
-    array-read-keys
-    mul-keys
-    add-keys-2
-    array-read-keys-2
-    mul-keys-2
-    add-keys-3
-    array-write-keys
-    add-j
-    loop2-less
+    (λ c. omega arith)
+    (λ c. omega arith)
+    (λ c. omega arith)
+    (λ c. omega arith)
+    (λ c. omega arith)
+    (λ c. omega arith)
+    (λ c. omega arith)
+    (λ c. omega arith)
+    (λ c. omega arith)
+    (λ c. omega arith)
     loop2-again
-    add-i
-    loop-less
+    (λ c. omega arith)
+    (λ c. omega arith)
     loop-again
     returns)

@@ -1,18 +1,7 @@
--- `hurdle::lanes::crypt4` meets its contract.
--- Assumes nothing.
 use borrow.Author.Needs.{needs}
 use Rattle.hurdle.proofs.RoundLaws.{crypted}
 use Rattle.hurdle.proofs.lanes.crypt4.Statement.{statement}
 use Rattle.hurdle.proofs.lanes.crypt4.Tie as tie
-
-splits-requires : tie.Need-splits-requires
-splits-requires c κs = search needs
-
-rounds-requires : tie.Need-rounds-requires
-rounds-requires c κs = search needs
-
-joins-requires : tie.Need-joins-requires
-joins-requires c κs = search needs
 
 returns : tie.Need-returns
 returns c =
@@ -26,4 +15,4 @@ returns c =
     )
 
 pub crypt4-spec : {M : Type 1} → statement M
-crypt4-spec = tie.close (tie.spec splits-requires rounds-requires joins-requires returns)
+crypt4-spec = tie.close (tie.spec (λ c κs. search needs) (λ c κs. search needs) (λ c κs. search needs) returns)

@@ -1,23 +1,9 @@
--- `hurdle::lanes::fs` meets its contract.
--- Assumes nothing.
 use denote.Ref.{now}
 use borrow.Author.Needs.{needs}
 use Rattle.hurdle.proofs.RoundLaws.{f-made}
 use Rattle.hurdle.specs.Steps.{bytes4}
 use Rattle.hurdle.proofs.lanes.fs.Statement.{statement}
 use Rattle.hurdle.proofs.lanes.fs.Tie as tie
-
-firsts-requires : tie.Need-firsts-requires
-firsts-requires c κs = search needs
-
-seconds-requires : tie.Need-seconds-requires
-seconds-requires c κs = search needs
-
-thirds-requires : tie.Need-thirds-requires
-thirds-requires c κs = search needs
-
-gathers-requires : tie.Need-gathers-requires
-gathers-requires c κs = search needs
 
 returns : tie.Need-returns
 returns c =
@@ -38,8 +24,8 @@ pub fs-spec : {M : Type 1} → statement M
 fs-spec =
     tie.close
     (tie.spec
-    firsts-requires
-    seconds-requires
-    thirds-requires
-    gathers-requires
+    (λ c κs. search needs)
+    (λ c κs. search needs)
+    (λ c κs. search needs)
+    (λ c κs. search needs)
     returns)

@@ -1,5 +1,3 @@
--- `hurdle::lanes::rounds` meets its contract.
--- Assumes nothing.
 use mathlib.Core.Path.{_≡_}
 use Prim.Native.Nat.{_-_, _≤_, zero-le}
 use native.Mathlib.Omega.{arith}
@@ -22,24 +20,6 @@ abbrev μ-loop : tie.MeasureT-loop
 
 loop-holds : tie.Need-loop-holds Inv-loop μ-loop
 loop-holds c = (zero-le, turned-none, turned-none, turned-none, turned-none)
-
-place-requires : tie.Need-place-requires Inv-loop μ-loop
-place-requires c κs = omega arith
-
-mul-fs : tie.Need-mul-fs Inv-loop μ-loop
-mul-fs c = omega arith
-
-fs-requires : tie.Need-fs-requires Inv-loop μ-loop
-fs-requires c κs = omega arith
-
-xors-requires : tie.Need-xors-requires Inv-loop μ-loop
-xors-requires c κs = tt
-
-add-i : tie.Need-add-i Inv-loop μ-loop
-add-i c = omega arith
-
-loop-less : tie.Need-loop-less Inv-loop μ-loop
-loop-less c = omega arith
 
 loop-again : tie.Need-loop-again Inv-loop μ-loop
 unfolding S
@@ -68,11 +48,11 @@ rounds-spec =
     Inv-loop
     μ-loop
     loop-holds
-    place-requires
-    mul-fs
-    fs-requires
-    xors-requires
-    add-i
-    loop-less
+    (λ c κs. omega arith)
+    (λ c. omega arith)
+    (λ c κs. omega arith)
+    (λ c κs. tt)
+    (λ c. omega arith)
+    (λ c. omega arith)
     loop-again
     returns)

@@ -1,18 +1,10 @@
--- `hurdle::round::place` meets its contract.
--- Assumes nothing.
 use native.Mathlib.Omega.{arith}
 use borrow.Author.Needs.{needs}
 use Rattle.hurdle.proofs.round.place.Statement.{statement}
 use Rattle.hurdle.proofs.round.place.Tie as tie
 
-sub-result : tie.Need-sub-result
-sub-result c = search needs
-
 returns : tie.Need-returns
 returns c = (rw (c .if1 .taken), omega arith)
 
-returns-2 : tie.Need-returns-2
-returns-2 c = search needs
-
 pub place-spec : {M : Type 1} → statement M
-place-spec = tie.close (tie.spec sub-result returns returns-2)
+place-spec = tie.close (tie.spec (λ c. search needs) returns (λ c. search needs))

@@ -1,14 +1,9 @@
--- `hurdle::round::round_under` meets its contract.
--- Assumes nothing.
 use denote.Ref.{now}
 use borrow.Author.Needs.{needs}
 use Rattle.hurdle.proofs.RoundLaws.{round-words}
 use Rattle.standard.specs.Bytes.{part}
 use Rattle.hurdle.proofs.round.round_under.Statement.{statement}
 use Rattle.hurdle.proofs.round.round_under.Tie as tie
-
-f-requires : tie.Need-f-requires
-f-requires c κs = search needs
 
 returns : tie.Need-returns
 returns c =
@@ -17,4 +12,4 @@ returns c =
     round-words (now (x .s)) (part 4 12 (now (x .q))) (x .h .l) (x .h .r) (called .f .result) (called .f .ensures)
 
 pub round-under-spec : {M : Type 1} → statement M
-round-under-spec = tie.close (tie.spec f-requires returns)
+round-under-spec = tie.close (tie.spec (λ c κs. search needs) returns)

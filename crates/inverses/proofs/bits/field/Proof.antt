@@ -1,25 +1,8 @@
--- `inverses::bits::field` meets its contract.
--- Assumes nothing.
 use borrow.Author.Needs.{needs}
 use Rattle.inverses.proofs.BitLaws.{shl-one, shl-pos, cut-fits}
 use Rattle.standard.specs.Inverses.{field}
 use Rattle.inverses.proofs.bits.field.Statement.{statement}
 use Rattle.inverses.proofs.bits.field.Tie as tie
-
-number-requires : tie.Need-number-requires
-number-requires c κs = search needs
-
-add-result : tie.Need-add-result
-add-result c = search needs
-
-sub-result : tie.Need-sub-result
-sub-result c = search needs
-
-shr-result : tie.Need-shr-result
-shr-result c = search needs
-
-shl-result : tie.Need-shl-result
-shl-result c = search needs
 
 rem-result : tie.Need-rem-result
 rem-result c = shl-pos (c .before .args .width) (c .before .pre .1)
@@ -35,11 +18,11 @@ pub field-spec : {M : Type 1} → statement M
 field-spec =
     tie.close
     (tie.spec
-    number-requires
-    add-result
-    sub-result
-    shr-result
-    shl-result
+    (λ c κs. search needs)
+    (λ c. search needs)
+    (λ c. search needs)
+    (λ c. search needs)
+    (λ c. search needs)
     rem-result
     cast-result
     returns)

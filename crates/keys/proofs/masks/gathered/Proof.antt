@@ -1,5 +1,3 @@
--- `keys::masks::gathered` meets its contract.
--- Assumes nothing.
 use mathlib.Core.Path.{_≡_, refl, _∙_}
 use native.Mathlib.Omega.{arith}
 use lib.ListN.{length, length-set}
@@ -17,9 +15,6 @@ abbrev μ-loop : tie.MeasureT-loop
 loop-holds : tie.Need-loop-holds Inv-loop μ-loop
 loop-holds c = (refl, gather-none (c .args .mask) (c .args .t2))
 
-sub-i : tie.Need-sub-i Inv-loop μ-loop
-sub-i c = omega arith
-
 cast-if1 : tie.Need-cast-if1 Inv-loop μ-loop
 cast-if1 c = omega (arith, c .before .loop .inv .1 .few)
 
@@ -29,26 +24,17 @@ shr-if1 c = omega (arith, c .before .loop .inv .1 .few)
 sub-out : tie.Need-sub-out Inv-loop μ-loop
 sub-out c = omega (arith, c .before .before .loop .inv .1 .few)
 
-array-read-out : tie.Need-array-read-out Inv-loop μ-loop
-array-read-out c = omega arith
-
 array-write-out : tie.Need-array-write-out Inv-loop μ-loop
 array-write-out c = omega (arith, c .before .before .loop .inv .1 .few)
 
 add-k : tie.Need-add-k Inv-loop μ-loop
 add-k c = omega (arith, c .before .before .loop .inv .1 .few)
 
-loop-less : tie.Need-loop-less Inv-loop μ-loop
-loop-less c = omega arith
-
 loop-again : tie.Need-loop-again Inv-loop μ-loop
 unfolding bit
 loop-again c =
     let at = c .before .before .loop in
     (length-set (at .out) _ _ ∙ at .inv .0, gather-more (at .inv .1) (omega arith) (c .if1 .taken))
-
-loop-less-2 : tie.Need-loop-less-2 Inv-loop μ-loop
-loop-less-2 c = omega arith
 
 loop-again-2 : tie.Need-loop-again-2 Inv-loop μ-loop
 unfolding bit
@@ -66,15 +52,15 @@ gathered-spec =
     Inv-loop
     μ-loop
     loop-holds
-    sub-i
+    (λ c. omega arith)
     cast-if1
     shr-if1
     sub-out
-    array-read-out
+    (λ c. omega arith)
     array-write-out
     add-k
-    loop-less
+    (λ c. omega arith)
     loop-again
-    loop-less-2
+    (λ c. omega arith)
     loop-again-2
     returns)

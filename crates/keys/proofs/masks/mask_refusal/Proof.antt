@@ -1,5 +1,3 @@
--- `keys::masks::mask_refusal` meets its contract.
--- Assumes nothing.
 use mathlib.Core.Bool.{true, false, _&&_}
 use mathlib.Core.Path.{_≡_}
 use lib.Count.{ones}

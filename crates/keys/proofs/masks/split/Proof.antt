@@ -1,5 +1,3 @@
--- `keys::masks::split` meets its contract.
--- Assumes nothing.
 use borrow.Author.Needs.{needs}
 use Rattle.keys.proofs.masks.split.Statement.{statement}
 use Rattle.keys.proofs.masks.split.Tie as tie

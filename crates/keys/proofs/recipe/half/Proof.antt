@@ -1,5 +1,3 @@
--- `keys::recipe::half` meets its contract.
--- Assumes nothing.
 use mathlib.Core.Bool.{true, false}
 use mathlib.Core.Path.{_≡_}
 use borrow.Author.Needs.{needs}
@@ -11,15 +9,6 @@ use Rattle.keys.proofs.recipe.half.Tie as tie
 returns : tie.Need-returns
 returns c = let t : c .before .args .runs ≡ false = not-true _ (c .if1 .taken) in rw t
 
-core-requires : tie.Need-core-requires
-core-requires c κs = search needs
-
-core-requires-2 : tie.Need-core-requires-2
-core-requires-2 c κs = search needs
-
-split-requires : tie.Need-split-requires
-split-requires c κs = search needs
-
 returns-2 : tie.Need-returns-2
 returns-2 c =
     let start = c .before .before .before in
@@ -28,4 +17,11 @@ returns-2 c =
     rw (c .split .ensures, whole-split (x .response-mask) (x .key-mask) _ (search needs) (search needs) (start .before .pre), c .before .core2 .ensures, c .before .before .core .ensures, t)
 
 pub half-spec : {M : Type 1} → statement M
-half-spec = tie.close (tie.spec returns core-requires core-requires-2 split-requires returns-2)
+half-spec =
+    tie.close
+    (tie.spec
+    returns
+    (λ c κs. search needs)
+    (λ c κs. search needs)
+    (λ c κs. search needs)
+    returns-2)

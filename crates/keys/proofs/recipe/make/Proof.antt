@@ -1,5 +1,3 @@
--- `keys::recipe::make` meets its contract.
--- Assumes nothing.
 use mathlib.Core.Path.{_≡_}
 use borrow.Author.Needs.{needs}
 use Rattle.standard.specs.Derivation.{half1, half2}
@@ -7,33 +5,6 @@ use Rattle.standard.specs.Mixing.{tb4}
 use Rattle.keys.proofs.RecipeLaws.{ring-made}
 use Rattle.keys.proofs.recipe.make.Statement.{statement}
 use Rattle.keys.proofs.recipe.make.Tie as tie
-
-half-requires : tie.Need-half-requires
-half-requires c κs = search needs
-
-reversed-requires : tie.Need-reversed-requires
-reversed-requires c κs = search needs
-
-half-requires-2 : tie.Need-half-requires-2
-half-requires-2 c κs = search needs
-
-mix4-requires : tie.Need-mix4-requires
-mix4-requires c κs = search needs
-
-core-requires : tie.Need-core-requires
-core-requires c κs = search needs
-
-joined-requires : tie.Need-joined-requires
-joined-requires c κs = search needs
-
-mix7-requires : tie.Need-mix7-requires
-mix7-requires c κs = search needs
-
-joined-requires-2 : tie.Need-joined-requires-2
-joined-requires-2 c κs = search needs
-
-halves-requires : tie.Need-halves-requires
-halves-requires c κs = search needs
 
 returns : tie.Need-returns
 returns c =
@@ -53,13 +24,13 @@ pub make-spec : {M : Type 1} → statement M
 make-spec =
     tie.close
     (tie.spec
-    half-requires
-    reversed-requires
-    half-requires-2
-    mix4-requires
-    core-requires
-    joined-requires
-    mix7-requires
-    joined-requires-2
-    halves-requires
+    (λ c κs. search needs)
+    (λ c κs. search needs)
+    (λ c κs. search needs)
+    (λ c κs. search needs)
+    (λ c κs. search needs)
+    (λ c κs. search needs)
+    (λ c κs. search needs)
+    (λ c κs. search needs)
+    (λ c κs. search needs)
     returns)

@@ -1,5 +1,3 @@
--- `lineage::fault::parents_fault` meets its contract.
--- Assumes nothing.
 use native.Mathlib.Omega.{arith}
 use denote.Ref.{now}
 use borrow.Author.Tests.{not-true, not-false}
@@ -7,12 +5,6 @@ use Rattle.lineage.proofs.SheetLaws.{both-below, not-before, other-leng
 use borrow.Author.Needs.{needs}
 use Rattle.lineage.proofs.fault.parents_fault.Statement.{statement}
 use Rattle.lineage.proofs.fault.parents_fault.Tie as tie
-
-first-parent-requires : tie.Need-first-parent-requires
-first-parent-requires c κs = search needs
-
-second-parent-requires : tie.Need-second-parent-requires
-second-parent-requires c κs = search needs
 
 returns : tie.Need-returns
 returns c =
@@ -24,23 +16,11 @@ record-at-requires c κs =
     let q = both-below (c .before .before .first-parent .result) (c .before .second-parent .result) (c .before .before .before .before .args .i) (not-false _ (c .if1 .left)) in
     omega (arith, q .0)
 
-key-length-requires : tie.Need-key-length-requires
-key-length-requires c κs = search needs
-
 record-at-requires-2 : tie.Need-record-at-requires-2
 record-at-requires-2 c κs =
     let tested = c .before .before in
     let q = both-below (tested .before .before .first-parent .result) (tested .before .second-parent .result) (tested .before .before .before .before .args .i) (not-false _ (tested .if1 .left)) in
     omega (arith, q .1)
-
-key-length-requires-2 : tie.Need-key-length-requires-2
-key-length-requires-2 c κs = search needs
-
-array-read-derived-length : tie.Need-array-read-derived-length
-array-read-derived-length c = search needs
-
-derived-length-requires : tie.Need-derived-length-requires
-derived-length-requires c κs = search needs
 
 returns-2 : tie.Need-returns-2
 returns-2 c =
@@ -62,14 +42,14 @@ pub parents-fault-spec : {M : Type 1} → statement M
 parents-fault-spec =
     tie.close
     (tie.spec
-    first-parent-requires
-    second-parent-requires
+    (λ c κs. search needs)
+    (λ c κs. search needs)
     returns
     record-at-requires
-    key-length-requires
+    (λ c κs. search needs)
     record-at-requires-2
-    key-length-requires-2
-    array-read-derived-length
-    derived-length-requires
+    (λ c κs. search needs)
+    (λ c. search needs)
+    (λ c κs. search needs)
     returns-2
     returns-3)

@@ -1,5 +1,3 @@
--- `lineage::sheet::derived_length` meets its contract.
--- Assumes nothing.
 use borrow.Author.Tests.{le-leb, lt-leb}
 use Rattle.lineage.proofs.sheet.derived_length.Statement.{statement}
 use Rattle.lineage.proofs.sheet.derived_length.Tie as tie

@@ -1,5 +1,3 @@
--- `lineage::value::derive` meets its contract.
--- Assumes nothing.
 use mathlib.Core.Path.{_≡_, ap, _∙_}
 use mathlib.Core.List.{List}
 use Prim.Native.Nat.{ℕ, _-_}
@@ -10,48 +8,6 @@ use Rattle.standard.specs.Lineage.{derived}
 use borrow.Author.Needs.{needs}
 use Rattle.lineage.proofs.value.derive.Statement.{statement}
 use Rattle.lineage.proofs.value.derive.Tie as tie
-
-slice-aggregate-array10 : tie.Need-slice-aggregate-array10
-slice-aggregate-array10 c = search needs
-
-array10-requires : tie.Need-array10-requires
-array10-requires c κs = search needs
-
-slice-aggregate-array10-2 : tie.Need-slice-aggregate-array10-2
-slice-aggregate-array10-2 c = search needs
-
-array10-requires-2 : tie.Need-array10-requires-2
-array10-requires-2 c κs = search needs
-
-core-requires : tie.Need-core-requires
-core-requires c κs = search needs
-
-reversed-requires : tie.Need-reversed-requires
-reversed-requires c κs = search needs
-
-core-requires-2 : tie.Need-core-requires-2
-core-requires-2 c κs = search needs
-
-core-requires-3 : tie.Need-core-requires-3
-core-requires-3 c κs = search needs
-
-mix4-requires : tie.Need-mix4-requires
-mix4-requires c κs = search needs
-
-slice-aggregate-array16 : tie.Need-slice-aggregate-array16
-slice-aggregate-array16 c = search needs
-
-array16-requires : tie.Need-array16-requires
-array16-requires c κs = search needs
-
-combined-requires : tie.Need-combined-requires
-combined-requires c κs = search needs
-
-slice-aggregate-array16-2 : tie.Need-slice-aggregate-array16-2
-slice-aggregate-array16-2 c = search needs
-
-array16-requires-2 : tie.Need-array16-requires-2
-array16-requires-2 c κs = search needs
 
 returns : tie.Need-returns
 returns c =
@@ -94,20 +50,20 @@ pub derive-spec : {M : Type 1} → statement M
 derive-spec =
     tie.close
     (tie.spec
-    slice-aggregate-array10
-    array10-requires
-    slice-aggregate-array10-2
-    array10-requires-2
-    core-requires
-    reversed-requires
-    core-requires-2
-    core-requires-3
-    mix4-requires
-    slice-aggregate-array16
-    array16-requires
-    combined-requires
-    slice-aggregate-array16-2
-    array16-requires-2
+    (λ c. search needs)
+    (λ c κs. search needs)
+    (λ c. search needs)
+    (λ c κs. search needs)
+    (λ c κs. search needs)
+    (λ c κs. search needs)
+    (λ c κs. search needs)
+    (λ c κs. search needs)
+    (λ c κs. search needs)
+    (λ c. search needs)
+    (λ c κs. search needs)
+    (λ c κs. search needs)
+    (λ c. search needs)
+    (λ c κs. search needs)
     returns
     returns-2
     returns-3

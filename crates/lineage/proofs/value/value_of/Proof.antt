@@ -1,5 +1,3 @@
--- `lineage::value::value_of` meets its contract.
--- Assumes nothing.
 use mathlib.Core.Path.{sym, ap, _∙_}
 use mathlib.Core.List.{List}
 use Prim.Native.Nat.{ℕ}
@@ -15,24 +13,12 @@ use borrow.Author.Needs.{needs}
 use Rattle.lineage.proofs.value.value_of.Statement.{statement}
 use Rattle.lineage.proofs.value.value_of.Tie as tie
 
-record-at-requires : tie.Need-record-at-requires
-record-at-requires c κs = search needs
-
-array-read-if1 : tie.Need-array-read-if1
-array-read-if1 c = search needs
-
-given-requires : tie.Need-given-requires
-given-requires c κs = search needs
-
 returns : tie.Need-returns
 returns c =
     let made = c .before .before in
     let x = made .before .before .before .args in
     c .given .ensures ∙ ap (part 6 16) (made .record-at .ensures)
     ∙ value-given (now (x .sheet)) (now (x .values)) (x .i) (ap (λ (p : List ℕ). p ! 0) (sym (made .record-at .ensures)) ∙ c .before .if1 .taken)
-
-first-parent-requires : tie.Need-first-parent-requires
-first-parent-requires c κs = search needs
 
 value-at-requires : tie.Need-value-at-requires
 value-at-requires c κs =
@@ -42,9 +28,6 @@ value-at-requires c κs =
     let q = parents-before (now (start .args .sheet)) (start .args .i) (start .pre .2) (λ z. c .before .if1 .left (ap (λ (p : List ℕ). p ! 0) e ∙ z)) in
     omega (arith, c .first-parent .ensures ∙ ap parent1 e, q .0)
 
-second-parent-requires : tie.Need-second-parent-requires
-second-parent-requires c κs = search needs
-
 value-at-requires-2 : tie.Need-value-at-requires-2
 value-at-requires-2 c κs =
     let made = c .before .before .before .before in
@@ -52,12 +35,6 @@ value-at-requires-2 c κs =
     let e = made .record-at .ensures in
     let q = parents-before (now (start .args .sheet)) (start .args .i) (start .pre .2) (λ z. c .before .before .before .if1 .left (ap (λ (p : List ℕ). p ! 0) e ∙ z)) in
     omega (arith, c .second-parent .ensures ∙ ap parent2 e, q .1)
-
-array-read-derive : tie.Need-array-read-derive
-array-read-derive c = search needs
-
-derive-requires : tie.Need-derive-requires
-derive-requires c κs = search needs
 
 returns-2 : tie.Need-returns-2
 returns-2 c =
@@ -75,14 +52,14 @@ pub value-of-spec : {M : Type 1} → statement M
 value-of-spec =
     tie.close
     (tie.spec
-    record-at-requires
-    array-read-if1
-    given-requires
+    (λ c κs. search needs)
+    (λ c. search needs)
+    (λ c κs. search needs)
     returns
-    first-parent-requires
+    (λ c κs. search needs)
     value-at-requires
-    second-parent-requires
+    (λ c κs. search needs)
     value-at-requires-2
-    array-read-derive
-    derive-requires
+    (λ c. search needs)
+    (λ c κs. search needs)
     returns-2)

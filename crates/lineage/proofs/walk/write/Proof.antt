@@ -28,32 +28,11 @@ value-of-requires c κs =
     let turn = c .before in
     (search needs, omega (arith, turn .before .loop .inv .1 .kept), turn .before .before .before .before .pre .2 (turn .before .loop .i) (turn .loop-test .taken))
 
-mul-b : tie.Need-mul-b Inv-loop μ-loop
-mul-b c = search needs
-
-slice-aggregate-copy : tie.Need-slice-aggregate-copy Inv-loop μ-loop
-slice-aggregate-copy c = search needs
-
-add-copy : tie.Need-add-copy Inv-loop μ-loop
-add-copy c = search needs
-
-sub-copy : tie.Need-sub-copy Inv-loop μ-loop
-sub-copy c = search needs
-
 part-copy-start : tie.Need-part-copy-start Inv-loop μ-loop
 part-copy-start c = omega (arith, c .before .before .before .before .loop .inv .1 .kept)
 
 part-copy-end : tie.Need-part-copy-end Inv-loop μ-loop
 part-copy-end c = omega (arith, c .before .before .before .before .loop .inv .1 .kept)
-
-copy-requires : tie.Need-copy-requires Inv-loop μ-loop
-copy-requires c κs = search needs
-
-add-i : tie.Need-add-i Inv-loop μ-loop
-add-i c = search needs
-
-loop-less : tie.Need-loop-less Inv-loop μ-loop
-loop-less c = search needs
 
 loop-again : tie.Need-loop-again Inv-loop μ-loop
 loop-again c =
@@ -86,15 +65,15 @@ write-spec =
     μ-loop
     loop-holds
     value-of-requires
-    mul-b
-    slice-aggregate-copy
-    add-copy
-    sub-copy
+    (λ c. search needs)
+    (λ c. search needs)
+    (λ c. search needs)
+    (λ c. search needs)
     part-copy-start
     part-copy-end
-    copy-requires
-    add-i
-    loop-less
+    (λ c κs. search needs)
+    (λ c. search needs)
+    (λ c. search needs)
     loop-again
     same-length
     returns)

@@ -1,5 +1,3 @@
--- `listing::answer::answer_text` meets its contract.
--- Assumes nothing.
 use borrow.Author.Needs.{needs}
 use Rattle.listing.proofs.ListLaws.{answer-refused, answer-wrote}
 use Rattle.listing.proofs.answer.answer_text.Statement.{statement}

@@ -1,5 +1,3 @@
--- `listing::answer::counted_line` meets its contract.
--- Assumes nothing.
 use borrow.Author.Needs.{needs}
 use Rattle.listing.proofs.ListLaws.{counted-line-short}
 use Rattle.standard.specs.Programs.{countedLine}

@@ -1,5 +1,3 @@
--- `listing::answer::meaning` meets its contract.
--- Assumes nothing.
 use mathlib.Core.Path.{refl}
 use borrow.Author.Needs.{needs}
 use Rattle.listing.proofs.ListLaws.{said, unsaid}

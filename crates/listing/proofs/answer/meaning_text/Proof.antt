@@ -1,5 +1,3 @@
--- `listing::answer::meaning_text` meets its contract.
--- Assumes nothing.
 use borrow.Author.Needs.{needs}
 use Rattle.standard.specs.Programs.{meaningText}
 use Rattle.text.proofs.LineLaws.{append}

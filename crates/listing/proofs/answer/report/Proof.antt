@@ -1,5 +1,3 @@
--- `listing::answer::report` meets its contract.
--- Assumes nothing.
 use borrow.Author.Needs.{needs}
 use Rattle.listing.proofs.answer.report.Statement.{statement}
 use Rattle.listing.proofs.answer.report.Tie as tie

@@ -1,5 +1,3 @@
--- `listing::answer::report_counted` meets its contract.
--- Assumes nothing.
 use borrow.Author.Needs.{needs}
 use Rattle.listing.proofs.answer.report_counted.Statement.{statement}
 use Rattle.listing.proofs.answer.report_counted.Tie as tie

@@ -1,5 +1,3 @@
--- `listing::answer::wrote_text` meets its contract.
--- Assumes nothing.
 use borrow.Author.Needs.{needs}
 use Rattle.standard.specs.Programs.{wroteText}
 use Rattle.text.proofs.LineLaws.{append}

@@ -1,57 +1,7 @@
--- `mixing::fields::cell` meets its contract.
--- Assumes nothing.
 use borrow.Author.Needs.{needs}
 use Rattle.mixing.proofs.FieldLaws.{cell-halves}
 use Rattle.mixing.proofs.fields.cell.Statement.{statement}
 use Rattle.mixing.proofs.fields.cell.Tie as tie
-
-mul-left : tie.Need-mul-left
-mul-left c = search needs
-
-add-left : tie.Need-add-left
-add-left c = search needs
-
-mul-left-2 : tie.Need-mul-left-2
-mul-left-2 c = search needs
-
-add-left-2 : tie.Need-add-left-2
-add-left-2 c = search needs
-
-mul-left-3 : tie.Need-mul-left-3
-mul-left-3 c = search needs
-
-add-left-3 : tie.Need-add-left-3
-add-left-3 c = search needs
-
-mul-right : tie.Need-mul-right
-mul-right c = search needs
-
-add-right : tie.Need-add-right
-add-right c = search needs
-
-mul-right-2 : tie.Need-mul-right-2
-mul-right-2 c = search needs
-
-add-right-2 : tie.Need-add-right-2
-add-right-2 c = search needs
-
-mul-right-3 : tie.Need-mul-right-3
-mul-right-3 c = search needs
-
-add-right-3 : tie.Need-add-right-3
-add-right-3 c = search needs
-
-mul-right-4 : tie.Need-mul-right-4
-mul-right-4 c = search needs
-
-add-right-4 : tie.Need-add-right-4
-add-right-4 c = search needs
-
-halves10-requires : tie.Need-halves10-requires
-halves10-requires c κs = search needs
-
-xor10-requires : tie.Need-xor10-requires
-xor10-requires c κs = search needs
 
 returns : tie.Need-returns
 returns c =
@@ -63,20 +13,20 @@ pub cell-spec : {M : Type 1} → statement M
 cell-spec =
     tie.close
     (tie.spec
-    mul-left
-    add-left
-    mul-left-2
-    add-left-2
-    mul-left-3
-    add-left-3
-    mul-right
-    add-right
-    mul-right-2
-    add-right-2
-    mul-right-3
-    add-right-3
-    mul-right-4
-    add-right-4
-    halves10-requires
-    xor10-requires
+    (λ c. search needs)
+    (λ c. search needs)
+    (λ c. search needs)
+    (λ c. search needs)
+    (λ c. search needs)
+    (λ c. search needs)
+    (λ c. search needs)
+    (λ c. search needs)
+    (λ c. search needs)
+    (λ c. search needs)
+    (λ c. search needs)
+    (λ c. search needs)
+    (λ c. search needs)
+    (λ c. search needs)
+    (λ c κs. search needs)
+    (λ c κs. search needs)
     returns)

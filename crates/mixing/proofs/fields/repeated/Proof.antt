@@ -1,5 +1,3 @@
--- `mixing::fields::repeated` meets its contract.
--- Assumes nothing.
 use mathlib.Core.Path.{_≡_, refl, sym, _∙_}
 use Prim.Native.Nat.{_-_, _*_, _≤_, zero-le}
 use native.Mathlib.Nat.{mod-lt}
@@ -18,9 +16,6 @@ Inv-loop value width twice out₀ i₀ out i = (i ≤ 16) × (length out ≡ 16)
 abbrev μ-loop : tie.MeasureT-loop
 μ-loop value width twice out₀ i₀ out i = 16 - i
 
-shl-twice : tie.Need-shl-twice Inv-loop μ-loop
-shl-twice c = omega arith
-
 add-twice : tie.Need-add-twice Inv-loop μ-loop
 add-twice c =
     let v = c .args .value in
@@ -30,35 +25,8 @@ add-twice c =
 loop-holds : tie.Need-loop-holds Inv-loop μ-loop
 loop-holds c = (zero-le, refl, refl)
 
-mul-right : tie.Need-mul-right Inv-loop μ-loop
-mul-right c = omega arith
-
-sub-right : tie.Need-sub-right Inv-loop μ-loop
-sub-right c = omega arith
-
-mul-right-2 : tie.Need-mul-right-2 Inv-loop μ-loop
-mul-right-2 c = omega arith
-
-rem-right : tie.Need-rem-right Inv-loop μ-loop
-rem-right c = omega arith
-
 sub-right-2 : tie.Need-sub-right-2 Inv-loop μ-loop
 sub-right-2 c = omega (arith, mod-lt (8 * c .before .loop .i) {m = c .before .before .args .width} (omega arith))
-
-shr-out : tie.Need-shr-out Inv-loop μ-loop
-shr-out c = omega arith
-
-cast-out : tie.Need-cast-out Inv-loop μ-loop
-cast-out c = omega arith
-
-array-write-out : tie.Need-array-write-out Inv-loop μ-loop
-array-write-out c = omega arith
-
-add-i : tie.Need-add-i Inv-loop μ-loop
-add-i c = omega arith
-
-loop-less : tie.Need-loop-less Inv-loop μ-loop
-loop-less c = omega arith
 
 loop-again : tie.Need-loop-again Inv-loop μ-loop
 loop-again c =
@@ -85,18 +53,18 @@ repeated-spec =
     (tie.spec
     Inv-loop
     μ-loop
-    shl-twice
+    (λ c. omega arith)
     add-twice
     loop-holds
-    mul-right
-    sub-right
-    mul-right-2
-    rem-right
+    (λ c. omega arith)
+    (λ c. omega arith)
+    (λ c. omega arith)
+    (λ c. omega arith)
     sub-right-2
-    shr-out
-    cast-out
-    array-write-out
-    add-i
-    loop-less
+    (λ c. omega arith)
+    (λ c. omega arith)
+    (λ c. omega arith)
+    (λ c. omega arith)
+    (λ c. omega arith)
     loop-again
     returns)

@@ -1,39 +1,7 @@
--- `records::parts::core_key` meets its contract.
--- Assumes nothing.
 use borrow.Author.Needs.{needs}
 use Rattle.standard.specs.Seals.{key10, key16}
 use Rattle.records.proofs.parts.core_key.Statement.{statement}
 use Rattle.records.proofs.parts.core_key.Tie as tie
-
-ring-key-requires : tie.Need-ring-key-requires
-ring-key-requires c κs = search needs
-
-enum-told : tie.Need-enum-told
-enum-told c = search needs
-
-first10-requires : tie.Need-first10-requires
-first10-requires c κs = search needs
-
-key10-requires : tie.Need-key10-requires
-key10-requires c κs = search needs
-
-enum-told-2 : tie.Need-enum-told-2
-enum-told-2 c = search needs
-
-key16-requires : tie.Need-key16-requires
-key16-requires c κs = search needs
-
-enum-told-3 : tie.Need-enum-told-3
-enum-told-3 c = search needs
-
-key16-requires-2 : tie.Need-key16-requires-2
-key16-requires-2 c κs = search needs
-
-enum-told-4 : tie.Need-enum-told-4
-enum-told-4 c = search needs
-
-key16-requires-3 : tie.Need-key16-requires-3
-key16-requires-3 c κs = search needs
 
 returns : tie.Need-returns
 unfolding key10
@@ -56,16 +24,16 @@ pub core-key-spec : {M : Type 1} → statement M
 core-key-spec =
     tie.close
     (tie.spec
-    ring-key-requires
-    enum-told
-    first10-requires
-    key10-requires
-    enum-told-2
-    key16-requires
-    enum-told-3
-    key16-requires-2
-    enum-told-4
-    key16-requires-3
+    (λ c κs. search needs)
+    (λ c. search needs)
+    (λ c κs. search needs)
+    (λ c κs. search needs)
+    (λ c. search needs)
+    (λ c κs. search needs)
+    (λ c. search needs)
+    (λ c κs. search needs)
+    (λ c. search needs)
+    (λ c κs. search needs)
     returns
     returns-2
     returns-3

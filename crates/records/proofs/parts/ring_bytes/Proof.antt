@@ -1,5 +1,3 @@
--- `records::parts::ring_bytes` meets its contract.
--- Assumes nothing.
 use mathlib.Core.Path.{_∙_}
 use denote.Ref.{now}
 use borrow.Author.Needs.{needs}
@@ -8,14 +6,8 @@ use Rattle.standard.specs.Sizes.{ringSize}
 use Rattle.records.proofs.parts.ring_bytes.Statement.{statement}
 use Rattle.records.proofs.parts.ring_bytes.Tie as tie
 
-slice-aggregate-copy : tie.Need-slice-aggregate-copy
-slice-aggregate-copy c = search needs
-
-copy-requires : tie.Need-copy-requires
-copy-requires c κs = search needs
-
 returns : tie.Need-returns
 returns c = c .before .copy .ensures ∙ over-zeros ringSize (now (c .before .before .before .before .args .s))
 
 pub ring-bytes-spec : {M : Type 1} → statement M
-ring-bytes-spec = tie.close (tie.spec slice-aggregate-copy copy-requires returns)
+ring-bytes-spec = tie.close (tie.spec (λ c. search needs) (λ c κs. search needs) returns)

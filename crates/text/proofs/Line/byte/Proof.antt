@@ -1,5 +1,3 @@
--- `text::Line::byte` meets its contract.
--- Assumes nothing.
 use borrow.Author.Needs.{needs}
 use borrow.Author.Tests.{lt-ltb, le-ltb}
 use Rattle.text.specs.Lines.{_▸_}

@@ -1,5 +1,3 @@
--- `text::Line::hex_byte` meets its contract.
--- Assumes nothing.
 use mathlib.Core.List.{[], _∷_}
 use Prim.Native.Nat.{_/_, _%_}
 use borrow.Author.Needs.{needs}

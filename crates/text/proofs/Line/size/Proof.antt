@@ -1,5 +1,3 @@
--- `text::Line::size` meets its contract.
--- Assumes nothing.
 use mathlib.Core.Path.{_≡_}
 use lib.ListN.{length}
 use borrow.Author.Needs.{needs}

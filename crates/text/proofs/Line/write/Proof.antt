@@ -1,5 +1,3 @@
--- `text::Line::write` meets its contract.
--- Assumes nothing.
 use native.Mathlib.Omega.{arith}
 use denote.Ref.{now}
 use borrow.Author.Needs.{needs}

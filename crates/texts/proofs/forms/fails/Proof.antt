@@ -1,5 +1,3 @@
--- `texts::forms::fails` meets its contract.
--- Assumes nothing.
 use Prim.Native.Nat.{_<_}
 use borrow.Author.Needs.{needs}
 use Rattle.texts.proofs.PadLaws.{fails-bit}

@@ -1,32 +1,6 @@
--- `texts::forms::input_of` meets its contract.
--- Assumes nothing.
 use borrow.Author.Needs.{needs}
 use Rattle.texts.proofs.forms.input_of.Statement.{statement}
 use Rattle.texts.proofs.forms.input_of.Tie as tie
-
-enum-told : tie.Need-enum-told
-enum-told c = search needs
-
-input31-requires : tie.Need-input31-requires
-input31-requires c κs = search needs
-
-enum-told-2 : tie.Need-enum-told-2
-enum-told-2 c = search needs
-
-input51-requires : tie.Need-input51-requires
-input51-requires c κs = search needs
-
-enum-told-3 : tie.Need-enum-told-3
-enum-told-3 c = search needs
-
-input81-requires : tie.Need-input81-requires
-input81-requires c κs = search needs
-
-enum-told-4 : tie.Need-enum-told-4
-enum-told-4 c = search needs
-
-input81-requires-2 : tie.Need-input81-requires-2
-input81-requires-2 c κs = search needs
 
 returns : tie.Need-returns
 returns c = rw (c .before .enum-told .given .1) (c .input31 .ensures)
@@ -44,14 +18,14 @@ pub input-of-spec : {M : Type 1} → statement M
 input-of-spec =
     tie.close
     (tie.spec
-    enum-told
-    input31-requires
-    enum-told-2
-    input51-requires
-    enum-told-3
-    input81-requires
-    enum-told-4
-    input81-requires-2
+    (λ c. search needs)
+    (λ c κs. search needs)
+    (λ c. search needs)
+    (λ c κs. search needs)
+    (λ c. search needs)
+    (λ c κs. search needs)
+    (λ c. search needs)
+    (λ c κs. search needs)
     returns
     returns-2
     returns-3

@@ -1,21 +1,7 @@
--- `texts::text::open_text` meets its contract.
--- Assumes nothing.
 use borrow.Author.Needs.{needs}
 use Rattle.standard.specs.Seals.{opened}
 use Rattle.texts.proofs.text.open_text.Statement.{statement}
 use Rattle.texts.proofs.text.open_text.Tie as tie
-
-with8-requires : tie.Need-with8-requires
-with8-requires c κs = search needs
-
-bl2-requires : tie.Need-bl2-requires
-bl2-requires c κs = search needs
-
-body-of-requires : tie.Need-body-of-requires
-body-of-requires c κs = search needs
-
-failed-of-requires : tie.Need-failed-of-requires
-failed-of-requires c κs = search needs
 
 returns : tie.Need-returns
 unfolding opened
@@ -28,4 +14,10 @@ returns c =
 
 pub open-text-spec : {M : Type 1} → statement M
 open-text-spec =
-    tie.close (tie.spec with8-requires bl2-requires body-of-requires failed-of-requires returns)
+    tie.close
+    (tie.spec
+    (λ c κs. search needs)
+    (λ c κs. search needs)
+    (λ c κs. search needs)
+    (λ c κs. search needs)
+    returns)
