@@ -75,8 +75,8 @@ PLANTED: dict[str, bytes] = {
     "RAND1 and RAND2 exchanged": sealed_with(rand1=S.rand2, rand2=S.rand1),
     "RAND1 for RAND2": sealed_with(rand2=S.rand1),
     "RAND2 for RAND1": sealed_with(rand1=S.rand2),
-    "RAND1 reversed": sealed_with(rand1=S.rand1[::-1]),
-    "RAND2 reversed": sealed_with(rand2=S.rand2[::-1]),
+    "TA12's challenge reversed (RAND1)": sealed_with(rand1=S.rand1[::-1]),
+    "TA22's challenge reversed (RAND2)": sealed_with(rand2=S.rand2[::-1]),
     "RS and RSO exchanged": sealed_with(rs=S.rso, rso=S.rs),
     "RS for RSO": sealed_with(rso=S.rs),
     "RSO for RS": sealed_with(rs=S.rso),
@@ -356,7 +356,7 @@ class Command(Case):
         model = self.file("model.txt", (CLASS / "model.txt").read_text())
         sitting = read_sitting(str(drawn))
         slips = {
-            "RAND1 reversed": sitting._replace(rand1=sitting.rand1[::-1]),
+            "TA12's challenge reversed (RAND1)": sitting._replace(rand1=sitting.rand1[::-1]),
             "RS for RSO": sitting._replace(rso=sitting.rs),
             "group key reversed": sitting._replace(group_key=sitting.group_key[::-1]),
         }

@@ -613,7 +613,7 @@ class Instances:
     def still_holds(self) -> Instance:
         """The book under the ring of each mistake, sealed and opened."""
         mistakes: dict[str, dict[str, Callable[..., Any]]] = {
-            "RAND2 reversed": {"inputs": lambda steps, s: s._replace(rand2=s.rand2[::-1])},
+            "challenge reversed": {"inputs": lambda steps, s: s._replace(rand2=s.rand2[::-1])},
             "last byte ⊕": {"last_byte": lambda steps, inserted: xored(inserted)},
         }
         rows: list[tuple[str, Any]] = []
