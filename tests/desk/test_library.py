@@ -4,11 +4,14 @@ from __future__ import annotations
 
 import array
 import ctypes
+import io
 import mmap
 import os
 import subprocess
 import sys
+import time
 import unittest
+from contextlib import redirect_stderr
 from unittest import mock
 
 import taa1
@@ -60,15 +63,119 @@ class Finding(Case):
         tb7 = ("call", "tb7", "--group-key", "00" * 12)
         self.fails(2, said + "No such file or directory", *tb7, env=environment)
 
-    def test_making(self) -> None:
-        """Without rt and an archive, a line says what is missing."""
-        (self.folder / "crates" / "engine").mkdir(parents=True)
-        (self.folder / "target").mkdir()
+
+class Making(Case):
+    """In a small repository of its own, with stand-ins for rt and cc that say they ran."""
+
+    RT = "#!/bin/sh\necho rt $* >>ran\necho archive >>target/staticlib/libengine.a\n"
+    CC = '#!/bin/sh\necho cc >>ran\n/bin/cp target/staticlib/libengine.a "$3"\n'
+
+    def setUp(self) -> None:
+        """Sources of a minute ago, and no engine yet."""
+        super().setUp()
+        self.target = self.folder / "target"
+        (self.target / "staticlib").mkdir(parents=True)
+        self.commands = self.folder / "bin"
+        self.commands.mkdir()
+        self.put("rt", self.RT)
+        self.put("cc", self.CC)
+        self.source = self.folder / "crates" / "engine" / "src" / "lib.rt"
+        self.edit = self.folder / "crates" / "engine" / "must-fail" / "one.edit"
+        for path in (self.source, self.edit):
+            path.parent.mkdir(parents=True)
+            path.touch()
+        (self.folder / "crates.txt").touch()
+        before = time.time() - 60
+        for folder, _, names in os.walk(self.folder / "crates"):
+            for name in (".", *names):
+                os.utime(os.path.join(folder, name), (before, before))
+        os.utime(self.folder / "crates.txt", (before, before))
+
+    def put(self, name: str, text: str) -> None:
+        """A command."""
+        self.commands.joinpath(name).write_text(text)
+        self.commands.joinpath(name).chmod(0o755)
+
+    def made(self) -> tuple[list[str], str]:
+        """What ran, and what was said."""
+        ran = self.folder / "ran"
+        ran.write_text("")
         with mock.patch.object(library, "repository", lambda: self.folder), mock.patch.dict(
-            os.environ, {"PATH": "", library.VARIABLE: ""}
-        ), mock.patch.object(library, "PACKAGE", self.folder), mock.patch("sys.stderr"):
-            with self.assertRaisesRegex(taa1.LibraryError, "not made: rt is not on the PATH"):
+            os.environ, {"PATH": str(self.commands), library.VARIABLE: ""}
+        ), mock.patch.object(library, "PACKAGE", self.folder / "package"):
+            with redirect_stderr(io.StringIO()) as said:
                 library.make()
+        return ran.read_text().splitlines(), said.getvalue()
+
+    def test_first(self) -> None:
+        ran, said = self.made()
+        self.assertEqual(ran, ["rt staticlib engine", "cc"])
+        self.assertEqual(said, "proving and compiling the engine, some minutes\n")
+        self.assertEqual((self.target / library.NAME).read_text(), "archive\n")
+        self.assertEqual(self.made(), ([], ""))
+
+    def test_changed_source(self) -> None:
+        """A source that is changed, added or removed, or the list of crates; but no edit."""
+        self.made()
+        for change in (
+            self.source.touch,
+            (self.source.parent / "other.rt").touch,
+            (self.source.parent / "other.rt").unlink,
+            (self.folder / "crates.txt").touch,
+        ):
+            with self.subTest(change):
+                time.sleep(0.05)
+                change()
+                ran, said = self.made()
+                self.assertEqual(ran, ["rt staticlib engine", "cc"])
+                self.assertTrue(said.startswith("its sources have changed: proving"))
+                self.assertEqual(self.made(), ([], ""))
+        time.sleep(0.05)
+        self.edit.touch()
+        self.assertEqual(self.made(), ([], ""))
+
+    def test_changed_meanwhile(self) -> None:
+        self.put("rt", self.RT + ": >crates/engine/src/lib.rt\n")
+        self.made()
+        self.put("rt", self.RT)
+        self.assertEqual(self.made()[0], ["rt staticlib engine", "cc"])
+        self.assertEqual(self.made(), ([], ""))
+
+    def test_made_elsewhere(self) -> None:
+        """An archive younger than its sources only wants to be linked."""
+        self.made()
+        time.sleep(0.05)
+        self.source.touch()
+        time.sleep(0.05)
+        (self.target / "staticlib" / "libengine.a").write_text("other\n")
+        self.assertEqual(self.made(), (["cc"], ""))
+        self.assertEqual((self.target / library.NAME).read_text(), "other\n")
+        self.assertEqual(self.made(), ([], ""))
+
+    def test_without_rt(self) -> None:
+        """The old engine goes on, and a line says so, each time; without one, a line says what is missing."""
+        self.made()
+        time.sleep(0.05)
+        self.source.touch()
+        (self.commands / "rt").unlink()
+        old = "taa1: the engine is older than its sources, and rt, which makes it, is not on the PATH\n"
+        self.assertEqual(self.made(), ([], old))
+        self.assertEqual(self.made(), ([], old))
+        (self.target / library.NAME).unlink()
+        (self.target / "staticlib" / "libengine.a").unlink()
+        with self.assertRaisesRegex(taa1.LibraryError, "not made: rt is not on the PATH"):
+            self.made()
+
+    def test_not_proved(self) -> None:
+        """Where rt fails, no engine is used, and the shared object stays as it was."""
+        self.made()
+        time.sleep(0.05)
+        self.source.touch()
+        self.put("rt", "#!/bin/sh\nexit 1\n")
+        for _ in range(2):
+            with self.assertRaisesRegex(taa1.LibraryError, "not made: rt staticlib engine failed"):
+                self.made()
+        self.assertEqual((self.target / library.NAME).read_text(), "archive\n")
 
 
 class Values(unittest.TestCase):

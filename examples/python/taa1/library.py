@@ -6,6 +6,7 @@ import os
 import shutil
 import subprocess
 import sys
+import time
 from pathlib import Path
 
 VARIABLE = "TAA1_LIBRARY"
@@ -51,29 +52,61 @@ def _run(*command: str, folder: Path) -> None:
         raise LibraryError(f"the shared object is not made: {' '.join(command)} failed")
 
 
-def make() -> None:
-    """Makes the repository's shared object where it is missing or older than the archive.
+def _moment(path: Path) -> int:
+    """When a file was written last, in nanoseconds; 0 where there is none."""
+    try:
+        return path.stat().st_mtime_ns
+    except FileNotFoundError:
+        return 0
 
-    The archive is made, too, where it is missing: `rt staticlib engine` proves
-    and compiles the engine, which takes some minutes.
+
+def _changed(folder: str) -> int:
+    """When a folder, or what it holds, was changed last; must-fail edits are no sources.
+
+    A folder's own moment tells that something in it was added, renamed or removed.
+    """
+    last = os.stat(folder).st_mtime_ns
+    with os.scandir(folder) as entries:
+        for entry in entries:
+            if not entry.is_dir():
+                last = max(last, entry.stat(follow_symlinks=False).st_mtime_ns)
+            elif entry.name != "must-fail":
+                last = max(last, _changed(entry.path))
+    return last
+
+
+def make() -> None:
+    """Makes the repository's shared object where it is missing, or older than its sources.
+
+    `rt staticlib engine` proves and compiles what has changed, which takes half a
+    minute to some minutes. Where it is not installed, the engine that is there goes
+    on, and a line says that it is an old one.
     """
     root = repository()
     if root is None or os.environ.get(VARIABLE) or (PACKAGE / NAME).exists():
         return
     library = root / "target" / NAME
     archive = root / "target" / "staticlib" / "libengine.a"
-    if not archive.exists():
-        if library.exists():
-            return
-        print("proving and compiling the engine, some minutes", file=sys.stderr)
-        _run("rt", "staticlib", "engine", folder=root)
-    if library.exists() and library.stat().st_mtime >= archive.stat().st_mtime:
+    made = max(_moment(library), _moment(archive))
+    if made < max(_changed(str(root / "crates")), _moment(root / "crates.txt")):
+        if made and shutil.which("rt") is None:
+            said = "the engine is older than its sources, and rt, which makes it, is not on the PATH"
+            print(f"taa1: {said}", file=sys.stderr)
+        else:
+            found = "its sources have changed: " if made else ""
+            print(f"{found}proving and compiling the engine, some minutes", file=sys.stderr)
+            start = time.time_ns()
+            _run("rt", "staticlib", "engine", folder=root)
+            os.utime(archive, ns=(start, start))  # so that a change meanwhile is noticed
+    moment = _moment(archive)
+    if _moment(library) >= moment:
         return
-    made = library.with_name(f".{NAME}.{os.getpid()}")
+    new = library.with_name(f".{NAME}.{os.getpid()}")
     try:
         whole = ("-Wl,--whole-archive", str(archive), "-Wl,--no-whole-archive")
-        _run("cc", "-shared", "-o", str(made), *whole, folder=root)
-        os.chmod(made, 0o755)
-        os.replace(made, library)
+        _run("cc", "-shared", "-o", str(new), *whole, folder=root)
+        os.chmod(new, 0o755)
+        os.utime(new, ns=(moment, moment))
+        os.replace(new, library)
     finally:
-        made.unlink(missing_ok=True)
+        new.unlink(missing_ok=True)
