@@ -29,6 +29,18 @@ runpy.run_path(sys.argv[0], run_name="__main__")
 """
 
 
+def wait_for(run: subprocess.Popen[bytes], which: str, number: int) -> None:
+    """Waits until a process catches (SigCgt) or ignores (SigIgn) a signal, or has ended:
+    before that the interpreter starts, which may take long on a busy machine."""
+    end = time.monotonic() + 60
+    while run.poll() is None and time.monotonic() < end:
+        with open(f"/proc/{run.pid}/status", encoding="ascii") as status:
+            mask = next(line.split()[1] for line in status if line.startswith(which))
+        if int(mask, 16) >> number - 1 & 1:
+            return
+        time.sleep(0.01)
+
+
 class Lines(Case):
     """A signal at every line of the module that writes files."""
 
@@ -126,7 +138,8 @@ class Command(Case):
         for part in range(1, 8):
             for number in (signal.SIGINT, signal.SIGTERM, signal.SIGHUP):
                 run = subprocess.Popen(command, cwd=self.folder, stdout=subprocess.DEVNULL, stderr=subprocess.PIPE)
-                time.sleep(whole * part / 8)
+                wait_for(run, "SigCgt", signal.SIGTERM)
+                time.sleep(whole * (part - 1) / 8)
                 run.send_signal(number)
                 error = (run.communicate()[1] or b"").decode()
                 self.assertIn((run.returncode, error), (
@@ -144,7 +157,7 @@ class Command(Case):
         code += "import os; os.execv(sys.argv[1], sys.argv[1:])"
         command = [sys.executable, "-c", code, *COMMAND, "list"]
         run = subprocess.Popen(command, stdin=subprocess.PIPE, stdout=subprocess.PIPE, stderr=subprocess.PIPE)
-        time.sleep(0.5)
+        wait_for(run, "SigIgn", signal.SIGINT)
         run.send_signal(signal.SIGINT)
         out, error = run.communicate(b"", timeout=60)
         self.assertEqual((run.returncode, out, error), (0, b"entries 0\n", b""))
