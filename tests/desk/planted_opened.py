@@ -160,6 +160,11 @@ def _opening() -> List[Slip]:
             bl2=_bl2(_restored, lambda left, opened, first: opened[:7]),
         ),
         slip(
+            "bl2-blocks-alone",
+            "each of BL2's blocks decrypted by itself, with no ⊕ at all",
+            bl2=_bl2(lambda left, opened: left, lambda left, opened, first: opened[:7]),
+        ),
+        slip(
             "bl2-unrestored",
             "BL2's left block decrypted with the zero byte in it",
             bl2=_bl2(lambda left, opened: left, _chained),

@@ -182,6 +182,7 @@ OPENING = {
     "three-bits": "three zero bits not checked",
     "whole-byte": "three zero bits not checked, and taken into the number",
     "bl2-unchained": "no chaining in BL2",
+    "bl2-blocks-alone": "no chaining in BL2, each block decrypted by itself",
     "bl2-unrestored": "left block's zero byte kept in BL2",
     "bl2-all-restored": "left block ⊕ the whole right one in BL2",
     "bl2-output-chained": "BL2 chained with the left output",

@@ -12,7 +12,7 @@ from taa1.mark import Sheet
 from taa1.opened import OpenedMarker
 from taa1.records import KINDS, SEALED, split
 from taa1.sheets import sheet_text
-from taa1.slips import SLIPS, opened
+from taa1.slips import OPENING_SLIPS, SLIPS, opened
 from taa1.working import Steps
 
 SEALED_BOOK = seal()
@@ -127,6 +127,62 @@ class Lines(unittest.TestCase):
         lines = [line.partition(" kind ")[2] for line in TRUE]
         made = [f"kind {line}" if line else TRUE[index] for index, line in enumerate(lines)]
         self.assertTrue(mark(*made).perfect)
+
+    def test_left_out(self) -> None:
+        """Where entries are left out, lines are about those that they are most like, whether
+        they have no numbers, are counted on, or are in another order."""
+        fields = [line.partition(" kind ")[2] for line in TRUE]
+        for left_out in ((0,), (5,), (2, 6), (0, 2, 6, 11)):
+            kept = [i for i in range(12) if i not in left_out and i not in (2, 6)]
+            bare = [f"kind {fields[i]}" for i in kept]
+            missing = tuple(sorted({2, 6, *left_out}))
+            for lines in (bare, [f"entry {i} {line}" for i, line in enumerate(bare)], bare[::-1]):
+                sheet = mark(*lines)
+                self.assertEqual((sheet.right, sheet.missing, sheet.extra), (len(kept), missing, 0))
+                assert sheet.flags is not None
+                self.assertEqual((sheet.flags.missed, sheet.flags.left_out), ((), (2, 6)))
+                self.assertEqual(sheet.slips, ())
+            lines = [*bare, "entry 2 flag", "entry 6 flag"]
+            self.assertEqual(mark(*lines).missing, tuple(i for i in left_out if i not in (2, 6)))
+
+    def test_left_out_and_wrong(self) -> None:
+        """A slip is found also where nothing is right and the lines have no numbers."""
+        slip = next(slip for slip in OPENING_SLIPS if slip.name == "identity reversed")
+        made = opened(Steps(DESK, slip.altered), RING, split(DAMAGED, SEALED))
+        lines = [
+            f"kind {o.kind} identity {o.identity:06x} version {o.version} "
+            f"key {o.key.hex()} number {'-' if o.number is None else o.number}"
+            for i, o in enumerate(made)
+            if i not in (0, 2, 6)
+        ]
+        (found,) = mark(*lines).slips
+        self.assertEqual((found.name, len(found.entries)), ("identity reversed", 9))
+
+    def test_flag_words(self) -> None:
+        """A flag that is said to be clear is not taken as set, and MF is the flag."""
+        for words in ("flag", "MF", "mf = 1", "flag yes", "flagged", "flag is set", "manipulated"):
+            self.assertTrue(but(2, f"entry 2 {words}").perfect, words)
+        clear = ("no flag", "flag not set", "flag is not set", "flag no", "flag ok", "flag unset")
+        for words in (*clear, "no flag set", "MF 0", "not flagged", "flag off"):
+            sheet = but(2, f"entry 2 {words}")
+            assert sheet.flags is not None
+            self.assertEqual((sheet.right, sheet.flags.missed), (11, (2,)), words)
+            self.assertIn("entry 2: flag missed: 1 of 5 checks", sheet_text(sheet))
+            self.assertTrue(but(3, f"{TRUE[3]} {words}").perfect, words)
+            sheet = but(3, f"entry 3 {words}")
+            assert sheet.flags is not None
+            self.assertEqual((sheet.right, sheet.flags.invented, sheet.slips), (11, (), ()), words)
+            self.assertIn("  entry 3: line 4: a clear flag, and no fields\n", sheet_text(sheet))
+
+    def test_unread_flag(self) -> None:
+        """Of a line that can't be read nothing is taken: no point, no flag, no slip."""
+        for words in ("broken", "flag maybe", "no flag unset", "flag not", "perhaps flag", ""):
+            for index in (2, 3):
+                sheet = but(index, f"entry {index} {words}")
+                assert sheet.flags is not None
+                self.assertEqual((sheet.right, sheet.slips), (11, ()), words)
+                self.assertEqual((sheet.flags.missed, sheet.flags.invented), ((), ()), words)
+                self.assertIn(f"  entry {index}: line {index + 1}: ", sheet_text(sheet))
 
     def test_no_book(self) -> None:
         for data, said in (

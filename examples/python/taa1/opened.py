@@ -36,7 +36,10 @@ from .slips import EXCHANGED, opened, work_opened
 from .working import Opened, Steps, ring_of
 
 FLAG = "flag"  # the part of an entry that says whether its flag is set
-SET = {"set": True, "true": True, "1": True, "clear": False, "false": False, "0": False}
+FLAGS = {FLAG, "flagged", "mf", "manipulated"}  # the words for it
+SET = {word: True for word in ("set", "true", "yes", "on", "1")}
+SET.update({word: False for word in ("clear", "unset", "false", "no", "off", "ok", "0")})
+NOT = {"no", "not"}
 
 
 class Answer(NamedTuple):
@@ -45,6 +48,13 @@ class Answer(NamedTuple):
     flag: Optional[bool]  # None: it can't say it
     entry: Optional[Entry] = None  # None: it says no more, or what can't be read
     problem: str = ""  # why it can't be read
+
+
+class Line(NamedTuple):
+    """What a line says."""
+
+    about: Optional[int]  # the entry that it names; None: it names none
+    answer: Answer
 
 
 class Read(NamedTuple):
@@ -133,6 +143,15 @@ class OpenedMarker:
                 f"this looks like no plain book: {len(data)} bytes, where a record has {PLAIN}"
             )
         records = split(data, PLAIN)
+        answers = {}
+        for index, at in self._paired(records).items():
+            known = records[index][0] in KINDS
+            entry = Entry.of(records[index]) if known else None
+            answers[at] = Answer(None, entry, "" if known else "there is no such kind")
+        return Read(answers, len(records) - len(answers), how=how, in_bytes=True)
+
+    def _paired(self, records: list[bytes]) -> dict[int, int]:
+        """For each plain record the entry that it is, or is most like."""
         model = [_entry(opened).data for opened in self.truth]
         signs: dict[bytes, list[int]] = defaultdict(list)
         places: dict[bytes, list[int]] = defaultdict(list)
@@ -140,61 +159,78 @@ class OpenedMarker:
             places[record].append(index)
             for part in (record[1:4], record[6:]):
                 signs[part].append(index)
-        pairs = pair(
+        return pair(
             records,
             model,
             places,
             lambda r: {i: 1 for part in (r[1:4], r[6:]) for i in signs.get(part, ())},
             lambda r: [],
             lambda r, i: (r[0] == model[i][0]) + (r[4:6] == model[i][4:6]),
-        )
-        answers = {}
-        for index, at in pairs.entries.items():
-            known = records[index][0] in KINDS
-            entry = Entry.of(records[index]) if known else None
-            answers[at] = Answer(None, entry, "" if known else "there is no such kind")
-        return Read(answers, len(records) - len(answers), how=how, in_bytes=True)
+        ).entries
 
     def _lines(self, text: str, how: str) -> Read:
-        """Lines of entries and flags. One without an index is about the next entry."""
-        answers: dict[int, Answer] = {}
+        """Lines of entries and flags, which are about the entries that they name, or about
+        those that they are most like: whichever makes more of them right."""
+        lines: list[Line] = []
         problems: list[str] = []
-        extra, last = 0, -1
         for number, line in texts.lines_of(text):
-            words = line.lower().replace(":", " ").replace(",", " ").split()
-            index = last + 1
-            if words[0] == "entry" and words[1:] and words[1].isdecimal() and len(words[1]) < 10:
+            words = _words(line)
+            index = None
+            if words[:1] == ["entry"] and words[1:] and words[1].isdecimal() and len(words[1]) < 10:
                 index, words = int(words[1]), words[2:]
-            elif words[0] == "entry":
+            elif words[:1] == ["entry"]:
                 problems.append(f"line {number}: no number behind entry")
                 continue
             elif not is_answer(line):
-                if words[0] != "entries":
+                if words[:1] != ["entries"]:
                     problems.append(f"line {number}: it is about no entry, and is not read")
                 continue
-            last = index
-            if index in answers:
-                extra += 1
-            else:
-                answers[index] = _answer(words, number)
-        if self._counted_from_1(answers):
-            answers = {index - 1: answer for index, answer in answers.items()}
-            how += ", whose entries are counted from 1"
-        beyond = [index for index in answers if index >= len(self.truth)]
-        for index in beyond:
-            del answers[index]
-        return Read(answers, extra + len(beyond), tuple(problems), how)
+            lines.append(Line(index, _answer(words, number)))
+        readings = [
+            Read(self._numbered(lines, 0), how=how),
+            Read(self._numbered(lines, 1), how=how + ", whose entries are counted from 1"),
+            Read(self._matched(lines), how=how + ", each taken for the entry that it is most like"),
+        ]
+        best = max(readings, key=lambda reading: self._likeness(reading.answers))
+        return best._replace(extra=len(lines) - len(best.answers), problems=tuple(problems))
 
-    def _counted_from_1(self, answers: dict[int, Answer]) -> bool:
-        """Whether every line is about the entry before the one that it names."""
-        if 0 in answers or max(answers, default=0) != len(self.truth):
-            return False
-        return self._right(answers, 1) > self._right(answers, 0)
+    def _numbered(self, lines: list[Line], start: int) -> dict[int, Answer]:
+        """Lines about the entries that they name, counted from here. One that names none is
+        about the next entry."""
+        answers: dict[int, Answer] = {}
+        last = -1
+        for index, answer in lines:
+            last = last + 1 if index is None else index - start
+            if 0 <= last < len(self.truth):
+                answers.setdefault(last, answer)
+        return answers
 
-    def _right(self, answers: dict[int, Answer], start: int) -> int:
-        """How many answers are right if the entries are counted from here."""
-        at = ((index - start, answer) for index, answer in answers.items())
-        return sum(i < len(self.truth) and _state(self.truth[i], answer) == "right" for i, answer in at)
+    def _matched(self, lines: list[Line]) -> dict[int, Answer]:
+        """Lines about the entries that their fields are most like. One without fields is
+        about the entry that it names, or about the next one."""
+        full = [at for at, line in enumerate(lines) if line.answer.entry]
+        records = [entry.data for at in full for entry in [lines[at].answer.entry] if entry]
+        about = {full[index]: place for index, place in self._paired(records).items()}
+        answers = {place: lines[at].answer for at, place in about.items()}
+        last = -1
+        for at, (index, answer) in enumerate(lines):
+            if at in about:
+                last = about[at]
+            elif not answer.entry:
+                last = last + 1 if index is None else index
+                if last < len(self.truth):
+                    answers.setdefault(last, answer)
+        return answers
+
+    def _likeness(self, answers: dict[int, Answer]) -> tuple[int, int]:
+        """How many answers are right, and how many fields."""
+        right = fields = 0
+        for index, answer in answers.items():
+            truth = self.truth[index]
+            right += _state(truth, answer) == "right"
+            if answer.entry:
+                fields += len(Entry._fields) - len(differences(answer.entry, _entry(truth)))
+        return right, fields
 
     # ---- marking
 
@@ -315,7 +351,7 @@ class OpenedMarker:
             tuple(truth),
             tuple(index for index in truth if said.get(index) is False),
             tuple(index for index, flag in sorted(said.items()) if flag and index not in truth),
-            tuple(index for index in truth if not read.in_bytes and index not in said),
+            tuple(index for index in truth if not read.in_bytes and said.get(index) is None),
             tuple(index for index in truth if read.in_bytes),
         )
 
@@ -325,10 +361,10 @@ class OpenedMarker:
         note, differ = "", ()  # type: tuple[str, tuple[Difference, ...]]
         if state == "unsaid":
             note = "the flag is set, which bytes can't say"
+        elif state == "wrong" and truth.failed and answer.flag is False:
+            note = f"flag missed: {failed_checks(truth.kind, _bits(truth.failed))}"
         elif state == "wrong" and answer.problem:
             note = answer.problem
-        elif state == "wrong" and truth.failed:
-            note = f"flag missed: {failed_checks(truth.kind, _bits(truth.failed))}"
         elif state == "wrong" and answer.flag:
             note = "flag invented"
         elif state == "wrong" and answer.entry:
@@ -347,39 +383,56 @@ def _unsealed(desk: Desk, ring: Ring, record: bytes) -> Opened:
     )
 
 
+def _words(line: str) -> list[str]:
+    """The words of a line, in small letters."""
+    return line.lower().translate(str.maketrans(":,;=", "    ")).split()
+
+
 def is_answer(line: str) -> bool:
     """Whether a line is about an entry."""
-    words = line.lower().split()
-    return words[0] == "entry" or FLAG in words or words[0] != "entries" and texts.is_lines(line)
+    words = _words(line)
+    if not words or words[0] == "entries":
+        return False
+    return words[0] == "entry" or not FLAGS.isdisjoint(words) or texts.is_lines(line)
 
 
 def _state(truth: Opened, answer: Answer) -> str:
     """Right, wrong, or unsaid: a flag that bytes can't say."""
-    if truth.failed:
+    if truth.failed and not (answer.flag is None and answer.problem):
         return {True: "right", False: "wrong", None: "unsaid"}[answer.flag]
     return "right" if not answer.flag and answer.entry == _entry(truth) else "wrong"
 
 
 def _answer(words: list[str], line: int) -> Answer:
     """What a line says of an entry, in its words behind the index: the flag, set unless it
-    is said to be clear, the entry's fields, or both."""
-    before, flag, behind = _partition(words)
-    if flag and behind and behind[0] in SET:
-        flag, behind = SET[behind[0]], behind[1:]
-    if flag and not before and not behind:
+    is said to be clear, the entry's fields, or both. Of a line that can't be read, nothing."""
+    flag: Optional[bool] = False
+    said = next((at for at, word in enumerate(words) if word in FLAGS), None)
+    if said is not None:
+        flag, words = _flag(words[:said], words[said + 1 :])
+    if flag and not words:
         return Answer(True)
     try:
-        return Answer(flag, texts.entry_of([*before, *behind]))
+        return Answer(flag, texts.entry_of(words))
     except (ValueError, IndexError) as error:
-        return Answer(flag, None, f"line {line}: {error}")
+        clear = said is not None and flag is False and not words
+        readable = said is not None and texts.has_fields(words)
+        problem = "a clear flag, and no fields" if clear else error
+        return Answer(flag if clear or readable else None, None, f"line {line}: {problem}")
 
 
-def _partition(words: list[str]) -> tuple[list[str], bool, list[str]]:
-    """The words before and behind the flag's."""
-    if FLAG not in words:
-        return words, False, []
-    at = words.index(FLAG)
-    return words[:at], True, words[at + 1 :]
+def _flag(before: list[str], behind: list[str]) -> tuple[bool, list[str]]:
+    """Whether the words around the flag's say that it is set; and the words that are left."""
+    flag = True
+    if before and before[-1] in NOT:
+        flag, before = False, before[:-1]
+    if behind and behind[0] == "is":
+        behind = behind[1:]
+    if flag and behind[:1] == ["not"] and SET.get(" ".join(behind[1:2])):
+        flag, behind = False, behind[2:]
+    elif behind and behind[0] in SET and (flag or SET[behind[0]]):
+        flag, behind = flag and SET[behind[0]], behind[1:]
+    return flag, [*before, *behind]
 
 
 def _entries(plain: bytes) -> list[Entry]:

@@ -734,6 +734,10 @@ OPENING_SLIPS: tuple[Slip, ...] = (
         "first bytes for the key, redundancy left in",
         {"shrunk": lambda steps, data, sizes: data[: sum(sizes)]},
     ),
+    Slip(
+        "no chaining in BL2, each block decrypted by itself",
+        _bl2(lambda left, back: left, lambda left, back, output: back),
+    ),
     Slip("no chaining in BL2", _bl2(_mended, lambda left, back, output: back)),
     Slip(
         "BL2 chained with the left output",

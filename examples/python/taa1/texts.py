@@ -277,6 +277,11 @@ def entry_of(words: list[str]) -> Entry:
     return _entry(_fields(words), any_number=True)
 
 
+def has_fields(words: list[str]) -> bool:
+    """Whether words begin with a field of an entry."""
+    return bool(words) and words[0].lower() in _WORDS
+
+
 def _named(name: str, read: Callable[..., Any], *given: Any) -> Any:
     """A value of a name; a ValueError has it in front."""
     try:
