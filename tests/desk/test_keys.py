@@ -10,6 +10,7 @@ from common import CLASS, DESK, ENTRIES, LINES, PLAIN_BOOK, RING, SITTING, Case,
 from taa1.keysheet import KeyFile, parse
 from taa1.mark import Marker
 from taa1.records import SEALED, split
+from taa1.results import key_result
 from taa1.scheme import DEFAULT, Points, said, score
 from taa1.scheme import parse as parse_scheme
 from taa1.sheets import sheet_text
@@ -50,7 +51,9 @@ class Files(unittest.TestCase):
             ("D = 00", "D for the second time; the first one counts"),
         ):
             read = parse(f"D = 01  # mine\n\n{line}\n")
-            self.assertEqual(read, ({"D": b"\1"}, (f"keys, line 3: {problem}",)))
+            unread = {"O": b""} if line.startswith("O") else {}
+            self.assertEqual(read, ({"D": b"\1", **unread}, (f"keys, line 3: {problem}",)))
+        self.assertEqual(parse("O = 1\nO = 02\n").values, {"O": b"\2"})
 
 
 class Values(unittest.TestCase):
@@ -64,7 +67,36 @@ class Values(unittest.TestCase):
         """A value that is another one of the model's is called so."""
         lines = self.said(key_1=VALUES["key 2"], D=VALUES["D"])
         has, wants = VALUES["key 2"].hex(), VALUES["key 1"].hex()
-        self.assertEqual(lines, [f"  key 1: {has}, not {wants}, which is key 2", "  right: D"])
+        self.assertEqual(lines, [f"  key 1: {has}, which is key 2, not {wants}", "  right: D"])
+
+    def test_unread(self) -> None:
+        """A value that can't be read is handed in, and wrong."""
+        for digits in ("0" * 31, "hello", "0102"):
+            file = parse(f"O = {digits}\nG = {VALUES['G'].hex()}\n")
+            sheet = MARKER.mark("book", b"".join(MODEL), file)
+            self.assertEqual([mark.state for mark in sheet.keys.marks], ["wrong", "right"])
+            made = score(SCHEME, sheet)
+            self.assertEqual((made.sum, made.most, sheet.slips), (13, 15, ()))
+            self.assertEqual(sheet_text(sheet).count("  O: ") + len(sheet.keys.problems), 1)
+            self.assertIn("wrong: ", key_result(sheet.keys.marks[0]))
+
+    def test_idle_side(self) -> None:
+        """What a side has that does not run is not asked for: it gives and costs nothing."""
+        for sides, idle in ((1, "2"), (2, "1")):
+            sitting = SITTING._replace(sides=sides)
+            marker = Marker(DESK, sitting, PLAIN_BOOK)
+            values = {n: v for n, v in Steps(DESK).keys(sitting).items() if v and n[-1] != idle}
+            names = [f"{name} {idle}" for name in ("session key", "response", "key")]
+            zeros = dict(zip(names, (bytes(16), bytes(4), bytes(10))))
+            other = {name: VALUES[name] for name in names}
+            for more in ({}, zeros, other):
+                sheet = marker.mark("book", b"".join(marker.model), KeyFile({**values, **more}))
+                made = score(SCHEME, sheet)
+                self.assertEqual((made.sum, made.most), (12 + 8, 12 + 8))
+                states = {mark.name: mark.state for mark in sheet.keys.marks}
+                self.assertEqual([n for n, s in states.items() if s == "idle"], sorted(more, key=KEYS.index))
+                said = sheet_text(sheet)
+                self.assertEqual(said.count("not asked for, since this side does not run"), len(more))
 
     def test_derived_ring(self) -> None:
         """Without D in the file, the candidate's own D is worked from the own keys."""

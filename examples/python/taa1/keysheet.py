@@ -43,7 +43,7 @@ SHORT = {_short(each): name for name in KEYS for each in (field(name), name)}
 class KeyFile(NamedTuple):
     """What stands in NAME.keys."""
 
-    values: dict[str, bytes]
+    values: dict[str, bytes]  # empty where a line gives one that can't be read
     problems: tuple[str, ...] = ()  # lines that can't be read
 
 
@@ -69,7 +69,8 @@ class KeySheet(NamedTuple):
     @property
     def wrong(self) -> dict[str, bytes]:
         """The values that are not the model's."""
-        return {mark.name: mark.has for mark in self.marks if mark.state in ("wrong", "follows")}
+        states = ("wrong", "follows")
+        return {mark.name: mark.has for mark in self.marks if mark.state in states and mark.has}
 
 
 def parse(text: str) -> KeyFile:
@@ -85,14 +86,16 @@ def parse(text: str) -> KeyFile:
             problem = "no line of the form NAME = HEXADECIMAL"
         elif name is None:
             problem = f"no name {left.strip()!r}: the names are {', '.join(KEYS)}"
-        elif name in values:
+        elif values.get(name):
             problem = f"{name} for the second time; the first one counts"
-        elif bad:
-            problem = f"{name}: {bad[0]!r} is no hexadecimal digit"
-        elif len(digits) % 2 or not digits:
-            problem = f"{name}: {len(digits)} hexadecimal digits, not {2 * LENGTHS[name]}"
         else:
-            values[name] = bytes.fromhex(digits)
+            values[name] = b""
+            if bad:
+                problem = f"{name}: {bad[0]!r} is no hexadecimal digit"
+            elif len(digits) % 2 or not digits:
+                problem = f"{name}: {len(digits)} hexadecimal digits, not {2 * LENGTHS[name]}"
+            else:
+                values[name] = bytes.fromhex(digits)
         if problem:
             problems.append(f"keys, line {number}: {problem}")
     return KeyFile(values, tuple(problems))
@@ -116,13 +119,15 @@ class KeyMarker:
         halves = [side[name] for side in (one, two) for name in ("response", "key")]
         values = (one["session_key"], two["session_key"], *halves, *ring)
         self.model: Keys = dict(zip(KEYS, values))
+        idle = {1: "2", 2: "1"}.get(sitting.sides, "-")
+        self.asked = [name for name in KEYS if not name.endswith(idle)]
 
     def mark(self, file: KeyFile) -> KeySheet:
         """The marks of a candidate's values."""
         own = {
             name: value
             for name, value in file.values.items()
-            if len(value) == LENGTHS[name] and self.model[name] is not None
+            if len(value) == LENGTHS[name] and name in self.asked
         }
         worked = self.steps.keys(self.sitting, own)
         marks = []
@@ -130,7 +135,9 @@ class KeyMarker:
             if name in file.values:
                 has, wants = file.values[name], self.model[name]
                 under: tuple[str, ...] = ()
-                state = "idle" if wants is None else "right" if has == wants else "wrong"
+                state = "right" if has == wants else "wrong"
+                if name not in self.asked:
+                    state, wants = "idle", None
                 if state == "wrong" and has == worked[name]:
                     state = "follows"
                     used = (next(filter(own.get, each), "") for each in PARENTS[name])

@@ -94,6 +94,8 @@ def key_result(mark: KeyMark) -> str:
         return "not asked for: this side does not run"
     if mark.state == "right":
         return "right"
+    if not mark.has:
+        return "wrong: it can't be read"
     length = f": {len(mark.has)} bytes, not {len(mark.wants)}" * (len(mark.has) != len(mark.wants))
     return f"wrong{length}{f': it is {both(mark.also)}' * bool(mark.also)}"
 

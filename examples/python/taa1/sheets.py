@@ -243,10 +243,10 @@ def keys_said(keys: KeySheet) -> list[str]:
         if mark.state == "wrong" and mark.wants is not None:
             also = f", which is {mark.also}" if mark.also else ""
             if len(mark.has) == len(mark.wants):
-                said.append(f"{mark.name}: {mark.has.hex()}, not {mark.wants.hex()}{also}")
-            else:
+                said.append(f"{mark.name}: {mark.has.hex()}{also}, not {mark.wants.hex()}")
+            elif mark.has:  # else a line is said that can't be read
                 length = plural(len(mark.has), "byte")
-                said.append(f"{mark.name}: {length}, not {len(mark.wants)}{also}")
+                said.append(f"{mark.name}: {length}{also}, not {len(mark.wants)}")
         elif mark.state == "follows":
             said.append(f"{mark.name}: wrong, but right under the candidate's own {listed(mark.under)}")
         elif mark.state == "idle":
