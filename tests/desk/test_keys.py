@@ -13,7 +13,7 @@ from taa1.records import SEALED, split
 from taa1.results import key_result
 from taa1.scheme import DEFAULT, Points, said, score
 from taa1.scheme import parse as parse_scheme
-from taa1.sheets import sheet_text
+from taa1.sheets import sheet_text, summary
 from taa1.working import KEYS, Steps
 
 MARKER = Marker(DESK, SITTING, PLAIN_BOOK)
@@ -133,7 +133,24 @@ class Schemes(unittest.TestCase):
             with self.assertRaisesRegex(Exception, f"^scheme, line 1: {problem}$"):
                 parse_scheme(line, "scheme")
         with self.assertRaisesRegex(Exception, "^scheme, line 2: order for the second time$"):
-            parse_scheme("order = 1\norder = 2", "scheme")
+            parse_scheme("order = -1\norder = -2", "scheme")
+
+    def test_signs(self) -> None:
+        """No fault is rewarded, nothing right costs, and a share is no more than all."""
+        for line, wanted in (
+            ("extra = 1", "0 or less, since it costs"),
+            ("order = 1/2", "0 or less, since it costs"),
+            ("follow-through = 2", "0 to 1, a share"),
+            ("follow-through = -1/2", "0 to 1, a share"),
+            ("entry = -1", "0 or more"),
+            ("D = -1", "0 or more"),
+        ):
+            name, value = line.split(" = ")
+            said = f"^scheme, line 1: {name}: {value}, where {wanted} is wanted$"
+            with self.assertRaisesRegex(Exception, said):
+                parse_scheme(line, "scheme")
+        for line in ("extra = 0", "order = 0", "follow-through = 1", "follow-through = 0", "entry = 0"):
+            parse_scheme(line, "scheme")
 
     def test_written(self) -> None:
         written = {"0": "0", "27/2": "13 1/2", "1/3": "1/3", "-1": "-1", "-3/2": "-1 1/2"}
@@ -182,6 +199,19 @@ class Schemes(unittest.TestCase):
         halves = Fraction(1, 2) * (2 + 3)  # two entries; response 1, key 1 and D
         self.assertEqual((made.sum, made.most), (10 + halves + 2 + 1 + 1 + 2 + 1, 24))
         self.assertEqual(points(book, "follow-through = 0", values).sum, made.sum - halves)
+
+    def test_all_right(self) -> None:
+        """Who has every entry right and a key wrong has not all right."""
+        for keys, perfect in (
+            (KeyFile({}), True),
+            (KeyFile(VALUES), True),
+            (KeyFile({**VALUES, "D": bytes(10)}), False),
+            (KeyFile({**VALUES, "O": bytes(2)}), False),
+            (parse("O = 0102030"), False),
+        ):
+            sheet = MARKER.mark("book", b"".join(MODEL), keys)
+            self.assertEqual((sheet.right, sheet.perfect), (12, perfect))
+            self.assertEqual(summary([sheet]).perfect, int(perfect))
 
 
 class Command(Case):

@@ -137,9 +137,11 @@ class Sheet(NamedTuple):
 
     @property
     def perfect(self) -> bool:
-        """Whether the book is the model, in whatever order."""
+        """Whether the book is the model, in whatever order, and every key that was handed
+        in is right."""
         whole_book = not (self.problem or self.refused or self.missing or self.left or self.again)
-        return whole_book and all(entry.state == "right" for entry in self.entries)
+        keys = not self.keys.problems and all(m.state in ("right", "idle") for m in self.keys.marks)
+        return whole_book and keys and all(entry.state == "right" for entry in self.entries)
 
 
 def parts_of(record: bytes) -> dict[str, bytes]:

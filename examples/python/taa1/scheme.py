@@ -34,6 +34,8 @@ order = 0             # each entry in another order than the model's
 """
 
 Scheme = dict[str, Fraction]
+COSTS = ("extra", "order")
+SHARE = "follow-through"
 EXTRA = "extra records"
 
 
@@ -83,11 +85,23 @@ def _read(text: str, where: str, known: Optional[Scheme]) -> Scheme:
             problem = f"{name}: {value!r} is no whole number nor a fraction, as 2, 1/2 or -1"
         else:
             scheme[name] = Fraction("".join(value.split()))
+            problem = _beyond(name, scheme[name])
         if problem:
             wrong.append(f"{where}, line {number}: {problem}")
     if wrong:
         raise Problem(*wrong)
     return scheme
+
+
+def _beyond(name: str, points: Fraction) -> str:
+    """What is wrong with points that would reward a fault, or make what is right cost."""
+    wanted = "0 or more"
+    good = points >= 0
+    if name in COSTS:
+        wanted, good = "0 or less, since it costs", points <= 0
+    elif name == SHARE:
+        wanted, good = "0 to 1, a share", 0 <= points <= 1
+    return "" if good else f"{name}: {said(points)}, where {wanted} is wanted"
 
 
 def said(points: Fraction) -> str:
@@ -109,7 +123,7 @@ def score(scheme: Scheme, sheet: Sheet) -> Points:
         checks = sum(KINDS[sheet.kinds[place]].checks for place in places if place is not None)
         return scheme["entry"] * len(places) + scheme["redundancy byte"] * checks
 
-    share = scheme["follow-through"]
+    share = scheme[SHARE]
     right = [entry.model for entry in sheet.entries if entry.state == "right"]
     following = [entry.model for entry in sheet.entries if entry.follows]
     passed = sum(map(_passed, sheet.entries))
