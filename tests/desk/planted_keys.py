@@ -40,7 +40,7 @@ class KeyFile:
     book: bytes
     slips: Tuple[str, ...]
     mistake: str
-    wrong: Tuple[str, ...]  # the values that are not the model's, where it has one
+    wrong: Tuple[str, ...]  # the values that are not the model's, where one is asked for
     followed: Tuple[str, ...]  # of these, right under the candidate's own keys
     entries_followed: int  # wrong entries that are right under the candidate's own keys
     say: str
@@ -51,8 +51,8 @@ class KeyFile:
         return right(self.exam.sealed, self.book)
 
 
-def values_of(keys: Keys, zeros: bool = False) -> Values:
-    """What a recipe gives to each name; of a half that did not run nothing, or its zeros."""
+def values_of(keys: Keys) -> Values:
+    """What a recipe gives to each name; of a half that did not run, nothing."""
     made = {"D": keys.ring.d, "O": keys.ring.o, "G": keys.ring.g}
     for side, session, response, key in (
         ("1", keys.session1, keys.response1, keys.key1),
@@ -60,7 +60,6 @@ def values_of(keys: Keys, zeros: bool = False) -> Values:
     ):
         if session is not None:
             made[f"session key {side}"] = session
-        if session is not None or zeros:
             made[f"response {side}"], made[f"key {side}"] = response, key
     return {name: made[name] for name in NAMES if name in made}
 
@@ -82,7 +81,8 @@ def followed(of: Exam, values: Values) -> Values:
         if runs is not None and session is not None and len(session) == 16:
             both = RIGHT.ta12(session, challenge, *masks)
             made[f"response {side}"], made[f"key {side}"] = both
-    one, other = values.get("key 1", of.keys.key1), values.get("key 2", of.keys.key2)
+    asked = {one: value for one, value in values.items() if one in values_of(of.keys)}
+    one, other = asked.get("key 1", of.keys.key1), asked.get("key 2", of.keys.key2)
     if len(one) == len(other) == 10:
         made["D"] = RIGHT.tb4(one, other)
     return made
@@ -110,7 +110,7 @@ def planted(
     made_by: Tuple[str, ...] = (),
 ) -> KeyFile:
     """A planted file, with what is wrong in it and what follows from it."""
-    model = values_of(of.keys, zeros=True)
+    model = values_of(of.keys)
     wrong = tuple(one for one in values if one in model and values[one] != model[one])
     own = followed(of, values)
     through = tuple(one for one in wrong if values[one] == own.get(one))
@@ -422,7 +422,7 @@ def _one_sided(of: Exam) -> Iterator[KeyFile]:
         "the half that did not run worked as well, D right",
         {**model, **{name: both[name] for name in named}},
         of.sealed,
-        say=f"side {other} did not run: nothing is said of its session key, the rest is zeros",
+        say=f"side {other} did not run: its values are not asked for",
     )
     yield planted(
         of,
@@ -431,7 +431,7 @@ def _one_sided(of: Exam) -> Iterator[KeyFile]:
         "the zeros of the half that did not run written down",
         {**model, **zeros},
         of.sealed,
-        say="these zeros are right",
+        say="these zeros are not asked for",
     )
 
 

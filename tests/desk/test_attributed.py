@@ -123,8 +123,9 @@ class KeyFiles(unittest.TestCase):
                 sheet = marker(file.exam).mark(file.name, file.book, keys)
                 states = {mark.name: mark.state for mark in sheet.keys.marks}
                 short = {"D"} if file.name == "both/short" else set()
+                unread = {name for name, value in keys.values.items() if not value}
                 wrong = {name for name in states if states[name] in ("wrong", "follows")}
-                self.assertEqual(wrong, set(file.wrong) | short)
+                self.assertEqual(wrong, set(file.wrong) | short | unread)
                 follows = {name for name in states if states[name] == "follows"}
                 self.assertEqual(follows, set(file.followed))
                 self.assertEqual((sheet.right, sheet.following), (file.right, file.entries_followed))
@@ -132,17 +133,13 @@ class KeyFiles(unittest.TestCase):
                 getattr(self, f"_{file.group.replace(' ', '_')}", self._no_slip)(file, sheet)
 
     def _no_slip(self, file: KeyFile, sheet: Sheet) -> None:
-        """Files as such, whose values are the model's."""
+        """Files as such, whose values are the model's, or not asked for."""
         self.assertEqual(sheet.slips, ())
 
     def _edited(self, file: KeyFile, sheet: Sheet) -> None:
         """The slip that gives the file's values or the book's entries, if there is one."""
         slip = said.EDITED_KEYS.get(file.name.partition("/")[2])
         self.assertEqual(named(sheet), {slip} if slip else set())
-
-    def _one_side(self, file: KeyFile, sheet: Sheet) -> None:
-        worked = file.name.endswith("-worked")
-        self.assertEqual(named(sheet), {"both sides for one"} if worked else set())
 
     def _one_step(self, file: KeyFile, sheet: Sheet) -> None:
         """The slip is named with every value and entry that it gives; typing errors have none."""
