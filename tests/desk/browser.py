@@ -31,7 +31,8 @@ POINTS = {"A4": (595.3, 841.9), "letter": (612.0, 792.0)}
 MARGIN = 15 / 25.4 * 72  # of a printed page's sides, in points
 
 # What is wrong with a page: text beyond the edges, over other text, or with a word broken in
-# two, but at a hyphen. It looks at each word's boxes.
+# two, but at a hyphen; or the line around a bold text, through another. It looks at each
+# word's boxes.
 LOOK = """(() => {
   const wide = innerWidth, wrong = [], boxes = [];
   const walk = document.createTreeWalker(document.body, NodeFilter.SHOW_TEXT);
@@ -43,7 +44,7 @@ LOOK = """(() => {
       range.setEnd(node, word.index + word[0].length);
       const found = [...range.getClientRects()].filter(box => box.width && box.height);
       if (found.length > 1 && word[0].length < 40) wrong.push('broken: ' + word[0]);
-      for (const box of found) boxes.push([box, word[0]]);
+      for (const box of found) boxes.push([box, word[0], node]);
     }
   }
   boxes.sort((a, b) => a[0].top - b[0].top);
@@ -55,6 +56,18 @@ LOOK = """(() => {
         wrong.push('over each other: ' + word + ' ' + boxes[next][1]);
     }
   });
+  for (const bold of document.querySelectorAll('b')) {
+    const style = getComputedStyle(bold);
+    if (style.outlineStyle == 'none') continue;
+    const more = parseFloat(style.outlineWidth) + parseFloat(style.outlineOffset);
+    for (const line of bold.getClientRects()) {
+      for (const [box, word, node] of boxes) {
+        if (!bold.contains(node) && box.left < line.right + more && line.left - more < box.right
+            && box.top + 3 < line.bottom && line.top < box.bottom - 3)
+          wrong.push('a line through: ' + word);
+      }
+    }
+  }
   if (!boxes.length) wrong.push('empty');
   return JSON.stringify(wrong);
 })()"""
@@ -208,8 +221,8 @@ def printed(browser: Browser, page: Path, paper: str) -> Printed:
     a heading (at its top lines to write on may follow), and colours, which black and white
     would lose.
     """
-    # A link is not for paper, and a word that may be broken is one word.
-    words = Words(re.sub('<p class="link">.*?</p>|<wbr>', "", page.read_text()))
+    # A word that may be broken is one word.
+    words = Words(page.read_text().replace("<wbr>", ""))
     wrong: list[str] = []
     pdf = browser.print(paper)
     lines = poppler("pdftotext", pdf, "-layout").decode()

@@ -9,10 +9,11 @@ from pathlib import Path
 from typing import ClassVar
 
 from browser import MARGIN, MISSING, PHONE, POINTS, SCREEN, Browser, pictures, poppler, printed
-from common import CLASS, seal, taa1
-from taa1.page import page, text
+from common import CLASS, RING, seal, taa1
+from taa1.page import page, tag, text
 from taa1.pictures import FILLINGS, HEIGHT, STYLE, Part, bar, fillings
 from taa1.records import SEALED, split
+from taa1.working import xor
 
 HEADING = "title = Key management, the winter paper\ndate = 3 December\n"
 BOOK = CLASS / "model.txt"
@@ -34,12 +35,15 @@ def _make(folder: Path) -> None:
     records = split(seal(), SEALED)
     books["e" * 80] = seal()
     books["noise"] = b"\x8f" * 100
-    books["all-wrong"] = b"".join(record[:-1] + bytes([record[-1] ^ 0x55]) for record in records)
+    # Bytes that differ within a group of four digits, in front and behind.
+    wrong = bytes(8) + b"\x55\0\0\xaa" + bytes(8) + b"\x55"
+    books["all-wrong"] = b"".join(xor(record, wrong) for record in records)
     books["many"] = b"".join([*records, *records[:3]])
     for name, data in books.items():
         (folder / f"{name}.book").write_bytes(data)
     (folder / "names").write_text("dee = Deirdre Featherstonehaugh-Cholmondeley of Wotton\n")
     (folder / "ben.keys").write_bytes((CLASS / "ben.keys").read_bytes())
+    (folder / "all-wrong.keys").write_text(f"O = {xor(RING.o, bytes(4) + wrong[8:20]).hex()}\n")
     hand_ins = sorted(folder.glob("*.book"))
     sealed, opened = folder / "sealed", folder / "gil.txt"
     sealed.write_bytes(seal())
@@ -130,9 +134,10 @@ class Looking(unittest.TestCase):
         wide = text("p", "word " * 300, style="white-space: nowrap")
         over = text("p", "one", style="margin-bottom: -2.4em") + text("p", "two")
         broken = text("p", "entries", style="width: 1em")
+        boxed = tag("p", "1" + text("b", "23", style="outline: 1px solid") + "4")
         for width in (SCREEN, PHONE):
             for part, said in ((wide, "cut off: word"), (over, "over each other: one two"),
-                               (broken, "broken: entries")):  # fmt: skip
+                               (broken, "broken: entries"), (boxed, "a line through: 4")):  # fmt: skip
                 self.show(part, width=width)
                 self.assertIn(said, self.browser.look())
         style = "h2, .legend { break-after: auto; } p { height: 210mm; margin: 0; break-inside: avoid; }"

@@ -170,6 +170,11 @@ class Names(Case):
         out = taa1("mark", *INPUTS, *books, "--json", cwd=self.folder).out
         self.assertEqual([s["name"] for s in json.loads(out)["sheets"]], ["Ann Archer", "Bo & Co", "dee"])
         self.assertEqual(json.loads(out)["class"]["absent"], ["Gil Hart"])
+        out = taa1("mark", *INPUTS, *books, "--csv", cwd=self.folder).out
+        rows = list(csv.DictReader(io.StringIO(out.decode())))
+        self.assertEqual([row["candidate"] for row in rows], ["Ann Archer", "Bo & Co", "dee", "Gil Hart"])
+        filled = {head: value for head, value in rows[-1].items() if value}
+        self.assertEqual(filled, {"candidate": "Gil Hart", "problem": "nothing was handed in"})
         text = taa1("mark", *INPUTS, *books, cwd=self.folder).out.decode()
         self.assertIn("\nBo & Co (b.c.hex): 12 of 12 entries right", text)
 

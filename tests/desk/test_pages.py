@@ -11,10 +11,11 @@ from pathlib import Path
 from typing import Optional
 from urllib.parse import unquote_to_bytes
 
-from common import CLASS, Case, taa1
+from common import CLASS, SITTING, Case, seal, taa1
 from taa1.beside import differing
 from taa1.page import grouped
 from taa1.records import SEALED, split
+from taa1.slips import RING_SLIPS
 
 CANDIDATES = ("ann", "ben", "cho", "dee", "eve", "fay")
 VOID = {"meta", "rect", "path", "line", "br", "wbr"}
@@ -106,7 +107,7 @@ class Pages(Case):
         self.assertEqual(index.texts[at + 1 : at + 7], ["3", "3", "3", "-", "-", "-"])
         for name in names[:-1]:
             page = Page(pages / name)
-            self.assertEqual(page.links, ["index.html"])
+            self.assertEqual(page.links, [])
             self.assertGreater(page.count["tr"], 12)
             self.assertIn("Signature", page.texts)
 
@@ -143,6 +144,37 @@ class Pages(Case):
         self.assertEqual(said[said.index(last) :][:2], [last, f"{has[5 * SEALED - 1]:02x}"])
         self.assertEqual(page.marked["b"][-1], f"{has[5 * SEALED - 1]:02x}")
         self.assertEqual(page.marked["u"][-1], f"{wanted[4][-1]:02x}")
+
+    def test_alone(self) -> None:
+        """Nothing leads from a candidate's page to the class, or to another's."""
+        pages = self.mark(CLASS / "ben.book", CLASS / "ann.book")
+        for name in ("ben", "ann"):
+            said = (pages / f"{name}.book.html").read_text()
+            self.assertNotIn("href", said)
+            self.assertNotIn("index.html", said)
+        self.assertIn('href="ben.book.html"', (pages / "index.html").read_text())
+
+    def test_slips_of_inputs(self) -> None:
+        """A slip of the sitting's inputs happens where the altered ones are taken."""
+        taken = {"rand1": "TA12", "rand2": "TA22", "rso": "TA41", "c": "TA61", "group_key": "TB7"}
+        found = {}
+        for slip in RING_SLIPS:
+            if set(slip.altered) == {"inputs"}:
+                made = slip.altered["inputs"](None, SITTING)
+                found[slip.name] = slip.step
+                for name, step in taken.items():
+                    if getattr(made, name) != getattr(SITTING, name):
+                        self.assertIn(step, slip.step[0], slip.name)
+        self.assertEqual(found["TA22's challenge reversed (RAND2)"], ("TA22", "5.7"))
+        self.assertEqual(found["RAND1 and RAND2 exchanged"], ("TA12 and TA22", "5.7"))
+        self.assertEqual(found["RS for RSO"], ("TA41", "5.6.1"))
+        self.assertEqual(found["RS reversed"], ("TA11 and TA21", "5.6"))
+        self.assertEqual(found["root reversed"], ("TA11, TA21 and TA41", "5.6"))
+        self.assertEqual(found["masks exchanged"], ("response and key", "5.7.2"))
+        other = SITTING._replace(rand2=SITTING.rand2[::-1])
+        pages = self.mark(self.file("gus.book", seal(other)))
+        for name in ("gus.book", "index"):
+            self.assertIn("TA22 (clause 5.7)", Page(pages / f"{name}.html").texts)
 
     def test_keys(self) -> None:
         """The keys that were handed in, wrong ones over those that are wanted, and the points."""

@@ -14,7 +14,7 @@ from taa1.engine import Sitting
 from taa1.model import model_answer
 from taa1.names import both
 from taa1.page import grouped
-from taa1.records import SEALED, split
+from taa1.records import PLAIN, SEALED, split
 from taa1.texts import Heading, format_lines, format_sitting, sitting_bytes
 from taa1.working import Steps
 from test_pages import Page
@@ -88,6 +88,18 @@ class Paper(Case):
         for name in ("session key 1", "session key 2", "response 1", "key 2", "D", "O", "G"):
             self.assertIn(both(name), said)
         self.assertIn("The argument\nWhy can a sealed text open to one entry only?", said)
+
+    def test_numbers(self) -> None:
+        """In how many bytes versions and numbers are, for the kinds of the book."""
+        for kinds, wanted in (
+            ((1, 4), "Versions are decimal, two bytes with the high one first."),
+            ((1, 2), "a version is two bytes, a number one byte in kind 2; of two bytes the"),
+            ((3, 6), "a version is two bytes, a number two bytes in kinds 3 and 6; of two bytes the"),
+            (range(1, 7), "a number one byte in kinds 2 and 5, two bytes in kinds 3 and 6; of two bytes the"),
+        ):
+            plain = b"".join(each for each in split(PLAIN_BOOK, PLAIN) if each[0] in kinds)
+            said = as_text(paper.question_paper(examined(SITTING, plain)))
+            self.assertIn(wanted, " ".join(said.split()))
 
     def test_chosen(self) -> None:
         """A mask chooses the bytes that TA12 takes."""

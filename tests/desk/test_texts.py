@@ -118,7 +118,9 @@ class Sittings(Case):
             (8, "response_mask", "6c00"),
         ):
             self.file("f", re.sub(rf"(?m)^({name} *=).*", rf"\1 {value}", NAMED))
-            self.fails(1, f"f: refused {number} ({NAMES[number]})", "ring", "f", cwd=self.folder)
+            done = taa1("ring", "f", cwd=self.folder)
+            self.assertEqual((done.status, done.out), (1, b""))
+            self.assertIn(f"taa1: f: refused {number} ({NAMES[number]})", done.error)
 
 
 class Rings(Case):
@@ -266,6 +268,19 @@ class Books(Case):
         self.fails(1, f"standard input: refused 2 at 0 ({NAMES[2]})", "check", stdin=short)
         long = PLAIN_BOOK[:18] * 1025
         self.fails(1, f"standard input: refused 1 at 0 ({NAMES[1]})", "check", stdin=long)
+
+    def test_masks(self) -> None:
+        """Of masks that are refused it is said which, and why."""
+        for response, key, number, said in (
+            (0x900B, 0x6DB6, 7, "response_mask has 5, not 4"),
+            (0x9009, 0x0000, 7, "key_mask has 0, not 10"),
+            (0xFFFF, 0x6DB4, 7, "response_mask has 16, not 4; key_mask has 9, not 10"),
+            (0x900A, 0x6DB6, 8, "response_mask and key_mask both have bit 1"),
+            (0xC006, 0x6DB6, 8, "response_mask and key_mask both have bit 14, 2, 1"),
+        ):
+            data = sitting_bytes(SITTING._replace(response_mask=response, key_mask=key))
+            error = f"standard input: refused {number} ({NAMES[number]}): {said}"
+            self.fails(1, error, "ring", "-", stdin=data)
 
 
 class Sheets(Case):

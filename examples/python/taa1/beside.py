@@ -11,12 +11,15 @@ from .records import Entry, whole
 HANDED_IN, WANTED = "handed in", "wanted"
 
 # Bytes that differ are bold, with a box where they were handed in and a line where they
-# are wanted. On a phone only fields that differ are shown, each as handed in over as wanted.
+# are wanted; both have room at their sides, so that the box is clear of the next digit and
+# equal places stand over each other. On a phone only fields that differ are shown, each as
+# handed in over as wanted.
 STYLE = """
 .beside { margin-bottom: .2em; table-layout: auto; width: auto; }
 .beside th, .beside td { padding-right: 1.4em; white-space: nowrap; }
 .beside th { font-weight: normal; }
 .beside td:first-child { width: 6em; }
+td b, td u { margin: 0 .2em; }
 td b { outline: 1px solid #000; outline-offset: 1px; }
 td u { font-weight: bold; text-decoration-thickness: 2px; text-underline-offset: 2px; }
 td i { display: inline-block; font-style: normal; width: 5.5em; }

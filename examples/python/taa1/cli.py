@@ -526,7 +526,7 @@ def run_mark(args: argparse.Namespace) -> int:
         return REFUSED if of.unreadable else ACCEPTED
     if args.html is not None:
         content = {
-            name: pages.sheet_page(sheet, reader.wanted, heading.line, INDEX).encode()
+            name: pages.sheet_page(sheet, reader.wanted, heading.line).encode()
             for name, sheet in zip(named, sheets)
         }
         links = [quote(os.fsencode(name)) for name in named]
@@ -536,7 +536,7 @@ def run_mark(args: argparse.Namespace) -> int:
     if args.json:
         _emit_text(args, _json(class_json(sheets, of, heading, who.absent)))
     elif args.csv:
-        _emit_text(args, csv_text(sheets))
+        _emit_text(args, csv_text(sheets, who.absent))
     elif args.html is not None:
         _emit_text(args, summary_text(of))
     else:

@@ -22,6 +22,7 @@ HEADS = (
     "candidate", "file", "entries", *COUNTED, "points", "of points", "opens", "slips", "read as",
     "problem",
 )  # fmt: skip
+NOTHING = "nothing was handed in"
 FORMULA = ("=", "+", "-", "@", "\t", "\r")  # what begins a formula in a spreadsheet
 
 
@@ -77,10 +78,18 @@ def _key(name: str) -> str:
     return name.replace(" ", "_")
 
 
-def csv_text(sheets: Iterable[Sheet]) -> str:
-    """The class."""
+def _absent(name: str) -> Iterable[Any]:
+    """The row of a candidate who handed nothing in."""
+    cells = dict.fromkeys(HEADS, "")
+    cells.update(candidate=name, problem=NOTHING)
+    return map(_cell, cells.values())
+
+
+def csv_text(sheets: Iterable[Sheet], absent: Iterable[str] = ()) -> str:
+    """The class, a row for each candidate; who handed nothing in stands last."""
     text = io.StringIO()
     writer = csv.writer(text, lineterminator="\n")
     writer.writerow(HEADS)
     writer.writerows(_row(sheet) for sheet in sheets)
+    writer.writerows(map(_absent, absent))
     return text.getvalue()

@@ -26,12 +26,13 @@ STYLE = RESULT + beside.STYLE + """
 .points, .points .number { width: auto; }
 .points tr:last-child td { font-weight: bold; }
 .keys td { padding-right: 1.2em; }
+.slips td:nth-child(2) { white-space: nowrap; }
 section h3 { margin: 1em 0 .2em; }
 section p { margin: 0 0 .2em; }
 .sign { break-inside: avoid; margin-top: 2em; }
-@media print { .link { display: none; } }
 @media screen and (max-width: 40em) {
   .keys td:nth-child(2)::before { content: none; }
+  .slips td:nth-child(2) { white-space: normal; }
   .entries td, .entries td.number { display: inline; padding-right: .5em; }
   .entries td:nth-last-child(-n+2)::before { content: none; }
 }
@@ -112,7 +113,7 @@ def _slips(sheet: Sheet) -> Html:
     for slip in sheet.slips:
         name = f"{slip.name} (or: {'; '.join(slip.others)})" if slip.others else slip.name
         rows.append((name, at_step(slip), explains(slip)))
-    return table(("slip", "step", "explains"), rows)
+    return table(("slip", "step", "explains"), rows, "slips")
 
 
 def at_step(slip: Explained) -> str:
@@ -186,8 +187,9 @@ def _missing(sheet: Sheet, wanted: Wanted) -> Html:
     return table(("entry", "kind", both(heads[0]), "version", heads[1]), rows)
 
 
-def sheet_page(sheet: Sheet, wanted: Wanted, heading: str, class_page: str) -> str:
-    """A candidate's page: the result, what explains it, each entry, and where to sign."""
+def sheet_page(sheet: Sheet, wanted: Wanted, heading: str) -> str:
+    """A candidate's page: the result, what explains it, each entry, and where to sign. It is
+    handed to the candidate, so nothing leads from it to the class."""
     file = os.path.basename(sheet.name)
     hand_in = file if sheet.problem else f"{file}, {was_read(sheet)}"
     facts: list[tuple[str, Any]] = [("hand-in", breakable(hand_in))]
@@ -210,5 +212,4 @@ def sheet_page(sheet: Sheet, wanted: Wanted, heading: str, class_page: str) -> s
         parts += [tag("h2", "What is missing"), _missing(sheet, wanted)]
     signature = fields(("Remarks", "Marked by", "Date", "Signature"))
     parts.append(tag("div", signature, class_="sign"))
-    parts.append(tag("p", text("a", "The class", href=class_page), class_="link"))
     return page(sheet.candidate, *parts, above=heading, style=STYLE, made_by=MADE_BY)

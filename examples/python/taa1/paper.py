@@ -133,6 +133,23 @@ def _idle(sides: int) -> list[Block]:
     return [Words(f"{idle} does not run: zeros stand for its key in TB4.")]
 
 
+def _decimals(kinds: Sequence[int]) -> str:
+    """How versions, and the numbers of these kinds, are written, and in how many bytes."""
+    words = {1: "one byte", 2: "two bytes"}
+    of = {size: [str(kind) for kind in kinds if KINDS[kind].number == size] for size in words}
+    said = [
+        f"{words[size]} in {'kinds' if len(found) > 1 else 'kind'} {' and '.join(found)}"
+        for size, found in of.items()
+        if found
+    ]
+    if not said:
+        return "Versions are decimal, two bytes with the high one first."
+    return (
+        "Versions and numbers are decimal: a version is two bytes, "
+        f"a number {', '.join(said)}; of two bytes the high one is first."
+    )
+
+
 def question_paper(of: Examination) -> Document:
     """What is given, and what is asked."""
     kinds = sorted({entry.kind for entry in of.entries})
@@ -169,7 +186,7 @@ def question_paper(of: Examination) -> Document:
         [
             Words(
                 "Bytes are in hexadecimal, the leftmost first; the one at the right end of a "
-                "string is B0. Versions and numbers are decimal, two bytes with the high one first. "
+                f"string is B0. {_decimals(kinds)} "
                 "Write the answers on the form, and the argument behind them."
             ),
             Head("What is given"),

@@ -8,6 +8,7 @@ no cipher: it exchanges, reverses, replaces and leaves out.
 from __future__ import annotations
 
 from itertools import permutations
+from os.path import commonprefix
 from typing import Any, Callable, Iterable, Iterator, Mapping, NamedTuple, Optional
 
 from .desk import Desk
@@ -40,6 +41,19 @@ KEY_STEPS = {"inputs", "reversed_seed", "split", "chosen", "tb4", "tb7", "ring",
 KEY_STEPS |= {name.lower() for name in DERIVING}
 
 
+# The inputs of the sitting that steps take.
+_TAKEN_BY = {
+    "ta11": ("root", "rs"),
+    "ta21": ("root", "rs"),
+    "ta41": ("root", "rso"),
+    "ta12": ("rand1",),
+    "ta22": ("rand2",),
+    "split": ("response_mask", "key_mask"),
+    "tb7": ("group_key",),
+    "ta61": ("c",),
+}
+
+
 class Slip(NamedTuple):
     """A slip: its name, and what it makes of steps, by their methods."""
 
@@ -47,11 +61,18 @@ class Slip(NamedTuple):
     altered: Mapping[str, Alteration]
     family: str = ""  # the name of the slip that it is in some algorithms alone
     algorithms: tuple[str, ...] = ()  # those
+    inputs: tuple[str, ...] = ()  # of the sitting, that it alters
 
     @property
     def step(self) -> tuple[str, str]:
-        """The step at which it happens, and its clause."""
-        return STEPS[next(iter(self.altered), "record")]
+        """The step at which it happens, and its clause; of inputs, the steps that take them."""
+        taking = [method for method, taken in _TAKEN_BY.items() if {*taken} & {*self.inputs}]
+        if not taking:
+            return STEPS[next(iter(self.altered), "record")]
+        names, clauses = zip(*(STEPS[method] for method in taking))
+        shared = commonprefix([clause.split(".") for clause in clauses])
+        most = ", ".join(names[:-1])
+        return f"{most} and {names[-1]}" if most else names[-1], ".".join(shared)
 
     @property
     def kin(self) -> str:
@@ -97,19 +118,23 @@ _TA31_OR_TA61: dict[str, tuple[str, ...]] = {"TA31 and TA32": ("TA31", "TA32"), 
 # ---- the sitting and the ring
 
 
-def _sitting(name: str, change: Callable[[Sitting], Sitting]) -> Slip:
-    return Slip(name, {"inputs": lambda steps, sitting: change(sitting)})
+def _sitting(name: str, change: Callable[[Sitting], Sitting], *inputs: str) -> Slip:
+    return Slip(name, {"inputs": lambda steps, sitting: change(sitting)}, inputs=inputs)
 
 
 def _reversed(name: str, *inputs: str) -> Slip:
     """Inputs of the sitting with their bytes in the other order."""
-    return _sitting(name, lambda s: s._replace(**{each: getattr(s, each)[::-1] for each in inputs}))
+    return _sitting(
+        name, lambda s: s._replace(**{each: getattr(s, each)[::-1] for each in inputs}), *inputs
+    )
 
 
 def _taken(name: str, **taken: str) -> Slip:
     """Inputs of the sitting in the place of others."""
     return _sitting(
-        name, lambda s: s._replace(**{wanted: getattr(s, used) for wanted, used in taken.items()})
+        name,
+        lambda s: s._replace(**{wanted: getattr(s, used) for wanted, used in taken.items()}),
+        *taken,
     )
 
 

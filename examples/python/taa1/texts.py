@@ -10,8 +10,8 @@ import re
 from typing import Any, Callable, Iterator, NamedTuple, Optional
 
 from .calls import CALLS
-from .desk import Desk, refusals
-from .engine import MOST_RECORDS, Refused, Sitting
+from .desk import Desk, RefusedFile, refusals
+from .engine import MOST_RECORDS, Refusal, Refused, Sitting
 from .files import Problem, from_hex, place, read
 from .files import text as as_text
 from .names import KIND_NAMES
@@ -209,8 +209,24 @@ def read_ring(desk: Desk, name: str) -> Ring:
 
 def make_ring(desk: Desk, sitting: Sitting, where: str) -> dict[str, bytes]:
     """The ring of a sitting, and both responses."""
-    with refusals(where):
+    try:
         return desk.call("ring", *sitting)
+    except Refused as refused:
+        raise RefusedFile(where, refused, _masks_said(refused, sitting)) from None
+
+
+def _masks_said(refused: Refused, sitting: Sitting) -> str:
+    """What is wrong with the masks, where they were refused."""
+    masks = {"response_mask": 4, "key_mask": 10}  # the ones that each is to have
+    if refused.number == Refusal.WRONG_MASK:
+        ones = {name: f"{getattr(sitting, name):b}".count("1") for name in masks}
+        wrong = [(name, most) for name, most in masks.items() if ones[name] != most]
+        return "; ".join(f"{name} has {ones[name]}, not {most}" for name, most in wrong)
+    if refused.number == Refusal.SHARED_BIT:
+        both = sitting.response_mask & sitting.key_mask
+        shared = ", ".join(str(bit) for bit in range(15, -1, -1) if both >> bit & 1)
+        return f"response_mask and key_mask both have bit {shared}"
+    return ""
 
 
 # ---- books
