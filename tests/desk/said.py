@@ -174,6 +174,10 @@ ONE_SIDED = {
     ("radio", "sessions-exchanged"): "TA11 for TA21",
     ("network", "sessions-exchanged"): "TA21 for TA11",
     ("radio", "sides-other"): "TA12 alone",
+    ("network", "rands-exchanged"): "RAND2 for RAND1",
+    ("radio", "rands-exchanged"): "RAND1 for RAND2",
+    ("network", "challenges-reversed"): "TA12's challenge reversed (RAND1)",
+    ("radio", "challenges-reversed"): "TA22's challenge reversed (RAND2)",
 }
 OPENING = {
     "zero-at-end": "zero byte put back at the end, not at byte 8",
@@ -223,6 +227,7 @@ EDITED = {
 EDITED_KEYS = {
     "o-right-book-wrong": "G for O",
     "response-key-exchanged": "masks exchanged",
-    "sessions-miscopied": "RS reversed",
+    "keys-exchanged": "keys 1 and 2 exchanged",
+    "sessions-miscopied": "session keys 1 and 2 exchanged",
     "only-d-wrong": "TB4 as a sum",
 }

@@ -69,6 +69,37 @@ class Values(unittest.TestCase):
         has, wants = VALUES["key 2"].hex(), VALUES["key 1"].hex()
         self.assertEqual(lines, [f"  key 1: {has}, which is key 2, not {wants}", "  right: D"])
 
+    def test_exchanged(self) -> None:
+        """Two values exchanged in the list; RS reversed if the rest is worked from them."""
+        for value in ("session key", "response", "key"):
+            one, two = f"{value} 1", f"{value} 2"
+            values = {**VALUES, one: VALUES[two], two: VALUES[one]}
+            (slip,) = MARKER.mark("book", b"".join(MODEL), KeyFile(values)).slips
+            self.assertEqual((slip.name, slip.keys), (f"{value}s 1 and 2 exchanged", (one, two)))
+        sitting = SITTING._replace(rs=SITTING.rs[::-1])
+        made = {name: value or b"" for name, value in Steps(DESK).keys(sitting).items()}
+        (slip,) = MARKER.mark("book", seal(sitting), KeyFile(made)).slips
+        self.assertEqual(slip.name, "RS reversed")
+
+    def test_refuted(self) -> None:
+        """A value that is right under the candidate's own speaks against a slip."""
+        own = {"session key 1": bytes(16)}
+        sitting = SITTING._replace(rand2=SITTING.rand2[::-1])
+        made = {name: value or b"" for name, value in Steps(DESK).keys(sitting, own).items()}
+        (slip,) = MARKER.mark("book", b"".join(MODEL), KeyFile({**made, **own})).slips
+        self.assertEqual((slip.name, slip.others), ("TA22's challenge reversed (RAND2)", ()))
+
+    def test_one_challenge(self) -> None:
+        """Where one side runs, no slip speaks of both challenges."""
+        sitting = SITTING._replace(sides=1)
+        marker = Marker(DESK, sitting, PLAIN_BOOK)
+        for rand1, name in (
+            (SITTING.rand1[::-1], "TA12's challenge reversed (RAND1)"),
+            (SITTING.rand2, "RAND2 for RAND1"),
+        ):
+            (slip,) = marker.mark("book", seal(sitting._replace(rand1=rand1))).slips
+            self.assertEqual((slip.name, slip.others), (name, ()))
+
     def test_unread(self) -> None:
         """A value that can't be read is handed in, and wrong."""
         for digits in ("0" * 31, "hello", "0102"):

@@ -25,6 +25,7 @@ MODEL = MARKER.model
 
 # Exchanged masks make a D of four bytes, and no book; with both sides, the other is no slip.
 NO_BOOK = {"masks exchanged", "both sides for one"}
+NO_BOOK |= {f"{value}s 1 and 2 exchanged" for value in ("session key", "response", "key")}
 
 
 def seal(sitting: Sitting = SITTING, plain: bytes = PLAIN_BOOK) -> bytes:

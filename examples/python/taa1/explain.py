@@ -58,7 +58,12 @@ class Table:
         for part, value in wrong.items():
             for slip in self.given.get((part, value), ()):
                 given[slip].add(part)
-        explains = {slip: parts for slip, parts in given.items() if not parts <= set(weak)}
+        explains = {
+            slip: parts
+            for slip, parts in given.items()
+            if not parts <= set(weak)
+            and (not self.slips[slip].in_writing or parts == self.alters[slip])
+        }
         left: set[Part] = set().union(*explains.values())
         known = left.union(right)
         against = {slip: len(self.alters[slip] & known - parts) for slip, parts in explains.items()}

@@ -16,7 +16,7 @@ from .explain import KEY, Found, Part, Table
 from .model import sides_of
 from .names import field
 from .records import KINDS, Ring
-from .slips import SLIPS
+from .slips import slips_of
 from .texts import lines_of
 from .values import DIGITS, without_0x
 from .working import KEYS, Keys, Steps, ring_of
@@ -71,6 +71,11 @@ class KeySheet(NamedTuple):
         """The values that are not the model's."""
         states = ("wrong", "follows")
         return {mark.name: mark.has for mark in self.marks if mark.state in states and mark.has}
+
+    @property
+    def worked_rightly(self) -> list[Part]:
+        """The values that are the model's, or right under the candidate's own."""
+        return [(KEY, mark.name) for mark in self.marks if mark.state in ("right", "follows")]
 
 
 def parse(text: str) -> KeyFile:
@@ -160,7 +165,7 @@ class KeyMarker:
             return []
         table = Table()
         worked = self.steps.keys(self.sitting, sheet.own)
-        for slip in SLIPS:
+        for slip in slips_of(self.sitting):
             made = Steps(self.desk, slip.altered).keys(self.sitting, sheet.own)
             table.add(slip, {(KEY, n): v for n, v in made.items() if v != worked[n]})
         return table.explain(wrong, [(KEY, m.name) for m in sheet.marks if m.state != "wrong"])

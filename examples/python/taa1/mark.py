@@ -319,7 +319,7 @@ class Marker:
                     wrong[place, part] = value
         entries = set(wrong)
         wrong.update({(KEY, name): value for name, value in keys.wrong.items()})
-        right += [(KEY, mark.name) for mark in keys.marks if mark.state == "right"]
+        right += keys.worked_rightly
         found = self.table.explain(wrong, right)
         rest = set(wrong).difference(*(each.parts for each in found))
         under = self.keys.explain(keys, rest)

@@ -290,7 +290,7 @@ class OpenedMarker:
                 wrong.update({(index, p): v for p, v in said.items() if v != truth[p]})
         entries = set(wrong)
         wrong.update({(KEY, name): value for name, value in keys.wrong.items()})
-        right += [(KEY, mark.name) for mark in keys.marks if mark.state == "right"]
+        right += keys.worked_rightly
         invented = {part for part, value in wrong.items() if part[1] == FLAG and value}
         found = self.table.explain(wrong, right, invented)
         rest = set(wrong).difference(*(each.parts for each in found))

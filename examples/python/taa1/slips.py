@@ -38,6 +38,7 @@ DERIVING = ("TA11", "TA21", "TA41", "TA12", "TA22")
 SEALING = ("TA31", "TA51", "TA81", "TA91")
 # The steps that no seal and no identity has.
 KEY_STEPS = {"inputs", "reversed_seed", "split", "chosen", "tb4", "tb7", "ring", "exp2", "last_byte"}
+KEY_STEPS |= {"listed"}
 KEY_STEPS |= {name.lower() for name in DERIVING}
 
 
@@ -78,6 +79,11 @@ class Slip(NamedTuple):
     def kin(self) -> str:
         """The name that it shares with the slips that are it in some algorithms alone."""
         return self.family or self.name
+
+    @property
+    def in_writing(self) -> bool:
+        """Whether it exchanges what is written down of keys: then both must show it."""
+        return "listed" in self.altered
 
     @property
     def in_keys_alone(self) -> bool:
@@ -177,6 +183,17 @@ def _d_and_zeros(steps: Steps, sitting: Sitting, ring: Ring) -> bytes:
 def _ta41(steps: Steps, sitting: Sitting, derive: Callable[[bytes, bytes], bytes]) -> bytes:
     """O under a session key."""
     return steps.ta41(derive(sitting.root, sitting.rs), sitting.rso)
+
+
+def _listed(value: str) -> Slip:
+    """Both sides' values in each other's place, in the list alone."""
+    one, two = f"{value} 1", f"{value} 2"
+
+    def alter(steps: Steps, keys: Keys) -> Keys:
+        runs = keys["session key 1"] and keys["session key 2"]
+        return {**keys, one: keys[two], two: keys[one]} if runs else keys
+
+    return Slip(f"{value}s 1 and 2 exchanged", {"listed": alter})
 
 
 def _kind_under(kind: int, key: str) -> Slip:
@@ -283,6 +300,9 @@ RING_SLIPS: tuple[Slip, ...] = (
     Slip("group key filled with zeros for its TB7 form", {"tb7": lambda _, key: key + bytes(4)}),
     Slip("zeros and group key for its TB7 form", {"tb7": lambda _, key: bytes(4) + key}),
     Slip("G as X16 of the group key, not TB7", {"tb7": lambda steps, key: steps.x16(key)}),
+    _listed("session key"),
+    _listed("response"),
+    _listed("key"),
 )
 
 
@@ -812,6 +832,20 @@ ANOTHERS: dict[str, Slip] = {
 EXCHANGES = (*EXCHANGED.values(), *ANOTHERS.values())
 
 
+def slips_of(sitting: Sitting) -> list[Slip]:
+    """The slips that can be made with a sitting: where one side does not run, none that
+    alters its challenge, since there is one that does the same to the other's alone."""
+    idle = {1: "rand2", 2: "rand1"}.get(sitting.sides)
+
+    def fits(slip: Slip) -> bool:
+        if idle is None or "inputs" not in slip.altered:
+            return True
+        made: Sitting = slip.altered["inputs"](None, sitting)
+        return made.sides != sitting.sides or getattr(made, idle) == getattr(sitting, idle)
+
+    return list(filter(fits, SLIPS))
+
+
 class Worked(NamedTuple):
     """What a slip makes of the model: the keys and, by their entries, the records that differ."""
 
@@ -838,7 +872,7 @@ def work(desk: Desk, sitting: Sitting, plain: bytes) -> Iterator[Worked]:
     keys = Steps(desk).keys(sitting)
     ring = ring_of(keys)
     model = split(desk.call("seal_book", ring.data, plain)["out"], SEALED)
-    for slip in SLIPS:
+    for slip in slips_of(sitting):
         steps = Steps(desk, slip.altered)
         made = steps.keys(sitting)
         under = ring_of(made)
@@ -875,7 +909,7 @@ def work_opened(desk: Desk, sitting: Sitting, sealed: list[bytes]) -> Iterator[W
     keys = right.keys(sitting)
     ring = ring_of(keys)
     truth = opened(right, ring, sealed)
-    for slip in (*SLIPS, *OPENING_SLIPS):
+    for slip in (*slips_of(sitting), *OPENING_SLIPS):
         steps = Steps(desk, slip.altered)
         made = steps.keys(sitting)
         under, records = ring_of(made), truth

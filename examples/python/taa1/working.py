@@ -63,6 +63,7 @@ STEPS: dict[str, tuple[str, str]] = {
     "tb4": ("TB4", "5.22"),
     "tb7": ("TB7", "5.23"),
     "ring": ("the ring", "01"),
+    "listed": ("the list of keys", "01"),
     "exp1": ("EXP1", "5.4.1"),
     "exp2": ("EXP2", "5.4.2"),
     "last_byte": ("EXP2's last byte", "5.4.2"),
@@ -344,7 +345,11 @@ class Steps:
         d = self.tb4(own.get("key 1", key1), own.get("key 2", key2))
         ring = self.ring(s, d, self.ta41(s.root, s.rso), s.c, self.tb7(s.group_key))
         values = (session1, session2, response1, key1, response2, key2, *ring)
-        return dict(zip(KEYS, values))
+        return self.listed(dict(zip(KEYS, values)))
+
+    def listed(self, keys: Keys) -> Keys:
+        """What is written down of the keys."""
+        return keys
 
     # ---- sealing (5.8, 5.10, 5.14, 5.16)
 
