@@ -178,6 +178,17 @@ class Names(Case):
         text = taa1("mark", *INPUTS, *books, cwd=self.folder).out.decode()
         self.assertIn("\nBo & Co (b.c.hex): 12 of 12 entries right", text)
 
+    def test_listed_twice(self) -> None:
+        """One file with two names in the list is refused; two files are two candidates'."""
+        self.file("ann.book", seal())
+        self.file("list", "ann = Ann\nann.book = Anna\n")
+        args = ("mark", "--candidates", "list", *INPUTS, "ann.book")
+        both = "as ann.book = Anna and as ann = Ann"
+        error = f"ann.book: listed twice among the candidates, {both}"
+        self.fails(2, error, *args, cwd=self.folder)
+        self.file("ann.hex", seal())
+        self.assertEqual(taa1(*args, "ann.hex", cwd=self.folder).status, 0)
+
     def test_bad_list(self) -> None:
         book = self.file("ann.book", seal())
         bad = self.file("list", "ann\n= Ann\nann =\nb = B\nb = C\n")

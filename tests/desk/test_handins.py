@@ -15,7 +15,7 @@ from common import CLASS, DESK, ENTRIES, PLAIN_BOOK, SITTING, Case, here, seal
 from taa1.engine import Sitting
 from taa1.files import MOST_BYTES
 from taa1.forms import FORMS
-from taa1.handins import Reader, page_names
+from taa1.handins import NO_BOOK, Reader, page_names
 from taa1.mark import Marker
 from taa1.records import SEALED, split
 from taa1.sheets import others
@@ -334,9 +334,13 @@ class Command(Case):
         """Each file's reading, and nothing else; the status says if one is not marked."""
         self.file("ann.book", BOOK)
         self.file("ben.hex", BOOK.hex())
-        done = self.mark("ann.book", "ben.hex", "--dry", "--html", "pages")
+        done = self.mark("ann.book", "ben.hex", "--dry")
         said = "ann.book: read as bytes: 12 records\nben.hex: read as hexadecimal: 12 records\n"
         self.assertEqual((done.status, done.out.decode(), done.error), (0, said, ""))
+        for option in (("--html", "pages"), ("--csv",), ("--json",)):
+            done = self.mark("ann.book", "--dry", *option)
+            error = "mark: --dry says how hand-ins are read and marks none, so it takes no"
+            self.assertEqual((done.status, done.error), (2, f"taa1: {error} {option[0]}\n"))
         self.assertFalse((self.folder / "pages").exists())
         self.file("cho.book", PLAIN_BOOK)
         self.file("dee.book", BOOK[:-1])
@@ -404,14 +408,67 @@ class Folders(Case):
         """Its regular, unhidden files, but for *.keys, *.txt and those named beside it."""
         done = self.mark("class", "--dry")
         wanted = [f"class/{name}: read as bytes: 12 records" for name in ("ann.book", "ben.hex", "cho")]
-        left = [".hidden", "ann.keys", "below", "model", "notes.txt"]
-        wanted += [f"class/{name}: left out" for name in left]
+        wanted += [
+            "class/.hidden: left out: hidden",
+            "class/ann.keys: read as the keys of class/ann.book",
+            "class/below: left out: a folder",
+            "class/model: left out here: it is named on the command line",
+            "class/notes.txt: left out: *.txt in a folder (named by itself, it is marked)",
+        ]
         self.assertEqual((done.status, done.out.decode().splitlines()), (0, wanted))
+        self.assertEqual(done.error, "")
+
+    def test_passed_over(self) -> None:
+        """Whatever may be somebody's work and is not marked is named, and its candidate."""
+        (self.room / "dee.keys").write_text("D = 00\n")
+        (self.room / "eve.book").symlink_to("nothing")
+        self.file("names", "ann = Ann\ndee = Dee\neve = Eve\nfay = Fay\nnotes = Ned\n")
+        done = self.mark("class", "--candidates", "names", "--json")
+        said = [
+            f"class/dee.keys: {NO_BOOK}",
+            "class/eve.book: left out: a link to no file",
+            "class/notes.txt: left out: *.txt in a folder (named by itself, it is marked)",
+            "nothing was handed in by Fay",
+            "nothing was marked of what was handed in by Dee (class/dee.keys), Eve (class/eve.book), "
+            "Ned (class/notes.txt)",
+        ]
+        self.assertEqual((done.status, done.error), (0, "".join(f"taa1: {line}\n" for line in said)))
+        self.assertEqual(json.loads(done.out)["class"]["absent"], ["Fay", "Dee", "Eve", "Ned"])
+
+    def test_keys_that_are_no_file(self) -> None:
+        """A link to nothing and a folder in the place of NAME.keys are said, not passed over."""
+        (self.room / "ben.keys").symlink_to("nothing")
+        (self.room / "cho.keys").mkdir()
+        said = self.mark("class/ben.hex", "class/cho").out.decode()
+        for name, what in (("ben", "a link to no file"), ("cho", "a folder")):
+            self.assertIn(f"  class/{name}.keys: {what}, where lines of keys are wanted\n", said)
+
+    def test_twice(self) -> None:
+        """A file is one candidate's, however often it is named; a link to it is another's."""
+        (self.room / "ann2.book").symlink_to("ann.book")
+        books = ("class/ann.book", "class/ann.book", "class/../class/ann.book", "class/ann2.book")
+        done = self.mark(*books, "--json")
+        names = [sheet["candidate"] for sheet in json.loads(done.out)["sheets"]]
+        self.assertEqual(names, ["class/ann.book", "class/ann2.book"])
+        said = "".join(f"taa1: {name}: named more than once, and marked once\n" for name in books[1:3])
+        self.assertEqual((done.status, done.error), (0, said))
+
+    def test_own_pages(self) -> None:
+        """The desk's pages among the hand-ins are no hand-ins, but a candidate's is one."""
+        (self.room / "notes.txt").unlink()
+        for _ in range(2):
+            done = self.mark("class", "--html", "class")
+            self.assertEqual((done.status, done.error), (0, ""))
+            self.assertIn(b"candidates 3: ", done.out)
+        (self.room / "dee.html").write_text("<!DOCTYPE html><title>mine</title>")
+        done = self.mark("class", "--html", "class")
+        self.assertIn(b"candidates 4: ", done.out)
 
     def test_named_beside_it(self) -> None:
         done = self.mark("class", "class/ann.book", "--json")
         names = [sheet["candidate"] for sheet in json.loads(done.out)["sheets"]]
         self.assertEqual(names, ["class/ben.hex", "class/cho", "class/ann.book"])
+        (self.room / "notes.txt").unlink()
         (self.room / "scheme").write_bytes(self.accepted("scheme"))
         for _ in range(2):  # the second time, the first one's sheets are there
             done = self.mark("class", "--scheme", "class/scheme", "-o", "class/marks")
@@ -448,6 +505,7 @@ class Folders(Case):
 
     def test_earlier_pages(self) -> None:
         """Pages of an earlier run are named, and removed with --clean; others are not touched."""
+        (self.room / "notes.txt").unlink()
         pages = self.folder / "pages"
         self.assertEqual(self.mark("class", "--html", "pages").error, "")
         for name in ("model.html", "notes.html"):

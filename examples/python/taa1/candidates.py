@@ -15,10 +15,12 @@ from .texts import lines_of, text_of
 
 
 class Named(NamedTuple):
-    """The candidates' names, in the order of their hand-ins, and who handed nothing in."""
+    """The candidates' names, in the order of their hand-ins, and who handed nothing in, or
+    a file that was left out."""
 
     names: list[str]
     absent: list[str]
+    left_out: dict[str, str]  # the files, by their names
 
 
 def read_list(file: str) -> dict[str, str]:
@@ -41,22 +43,42 @@ def read_list(file: str) -> dict[str, str]:
     return found
 
 
-def named(files: Sequence[str], pages: Sequence[str], listed: dict[str, str]) -> Named:
+def named(
+    files: Sequence[str], pages: Sequence[str], listed: dict[str, str], left_out: Sequence[str] = ()
+) -> Named:
     """Each hand-in's candidate. Where two have the same name, their pages' names, which
     differ, stand behind it."""
-    names, used = [], set()
+    names, used = [], {}
     for file in files:
         key = _listed(os.path.basename(file), listed)
-        used.add(key)
         names.append(listed[key] if key is not None else _of_file(file))
+        if key is not None:
+            used[key] = file
+    _once(used, listed)
+    unused = {key: name for key, name in listed.items() if key not in used}
+    left = {_listed(os.path.basename(file), unused): file for file in reversed(left_out)}
     often = Counter(names)
     return Named(
         [
             f"{name} ({shown(page.removesuffix('.html'))})" if often[name] > 1 else name
             for name, page in zip(names, pages)
         ],
-        [name for key, name in listed.items() if key not in used],
+        [name for key, name in unused.items() if key not in left],
+        {name: left[key] for key, name in unused.items() if key in left},
     )
+
+
+def _once(used: dict[str, str], listed: dict[str, str]) -> None:
+    """A file that is listed with its whole name, and again without its end, has two names."""
+    wrong = []
+    for key, file in used.items():
+        rest = {each: name for each, name in listed.items() if each not in used}
+        other = _listed(key.rpartition(".")[0], rest)
+        if other is not None:
+            both = f"as {shown(key)} = {listed[key]} and as {shown(other)} = {listed[other]}"
+            wrong.append(f"{place(file)}: listed twice among the candidates, {both}")
+    if wrong:
+        raise Problem(*wrong)
 
 
 def _listed(base: str, listed: dict[str, str]) -> Optional[str]:

@@ -494,11 +494,17 @@ def run_mark(args: argparse.Namespace) -> int:
         raise Problem("mark: --clean is about pages, so it wants --html")
     if args.csv and args.json:
         raise Problem("mark: --csv or --json, not both")
+    if args.dry and (args.html is not None or args.csv or args.json):
+        given = "--html" if args.html is not None else "--csv" if args.csv else "--json"
+        raise Problem(f"mark: --dry says how hand-ins are read and marks none, so it takes no {given}")
     beside = (args.sitting, args.book, args.scheme, args.candidates, args.output)
     handed = handins.hand_ins(args.candidate, [name for name in beside if name])
     _once(args.sitting, args.book, *handed.names)
     forms = _forms(args, handed.names)
     listed = candidates.read_list(args.candidates) if args.candidates else {}
+    named = handins.page_names(handed.names, INDEX)
+    told = [each for each in handed.left_out if each.told]
+    who = candidates.named(handed.names, named, listed, [each.name for each in told])
     by = _scheme(args.scheme)
     reader, heading = _reader(args)
     sheets = []
@@ -514,14 +520,17 @@ def run_mark(args: argparse.Namespace) -> int:
             files.say(f"{sheet.name}: {sheet.problem}")
         sheets.append(sheet if sheet.problem else sheet._replace(points=scheme.score(by, sheet)))
     files.progress(0, 0)
-    named = handins.page_names(handed.names, INDEX)
-    who = candidates.named(handed.names, named, listed)
     sheets = [sheet._replace(candidate=name) for sheet, name in zip(sheets, who.names)]
     of = summary(sheets)
+    files.say(*(f"{place(name)}: named more than once, and marked once" for name in handed.twice))
+    files.say(*map(str, [] if args.dry else told))
     if who.absent:
         files.say(f"nothing was handed in by {', '.join(who.absent)}")
+    if who.left_out:
+        held = (f"{name} ({place(file)})" for name, file in who.left_out.items())
+        files.say(f"nothing was marked of what was handed in by {', '.join(held)}")
     if args.dry:
-        left_out = [f"{place(name)}: left out\n" for name in handed.left_out]
+        left_out = [f"{each}\n" for each in handed.left_out]
         _emit_text(args, "".join([f"{reading(sheet)}\n" for sheet in sheets] + left_out))
         return REFUSED if of.unreadable else ACCEPTED
     if args.html is not None:
@@ -530,11 +539,12 @@ def run_mark(args: argparse.Namespace) -> int:
             for name, sheet in zip(named, sheets)
         }
         links = [quote(os.fsencode(name)) for name in named]
-        index = class_page(sheets, of, links, reader.wanted, heading.line, who.absent)
+        absent = [f"{name} ({place(file)} was left out)" for name, file in who.left_out.items()]
+        index = class_page(sheets, of, links, reader.wanted, heading.line, who.absent + absent)
         content[INDEX] = index.encode()
         _write_pages(args.html, content, args.clean)
     if args.json:
-        _emit_text(args, _json(class_json(sheets, of, heading, who.absent)))
+        _emit_text(args, _json(class_json(sheets, of, heading, [*who.absent, *who.left_out])))
     elif args.csv:
         _emit_text(args, csv_text(sheets, who.absent))
     elif args.html is not None:
@@ -560,9 +570,13 @@ def run_scheme(args: argparse.Namespace) -> int:
 
 def _keys_beside(name: str) -> Optional[keysheet.KeyFile]:
     """What NAME.keys says that lies beside a hand-in NAME.book, if there is one."""
-    beside = os.path.splitext(name)[0] + ".keys"
-    if name == STANDARD or beside == name or not os.path.isfile(beside):
+    beside = handins.keys_of(name)
+    if name == STANDARD or beside == name or not os.path.lexists(beside):
         return None
+    if not os.path.isfile(beside):
+        what = "a folder" if os.path.isdir(beside) else "no regular file"
+        what = what if os.path.exists(beside) else "a link to no file"
+        return keysheet.KeyFile({}, (f"{shown(beside)}: {what}, where lines of keys are wanted",))
     try:
         text = text_of(files.read(beside))
     except Problem as problem:

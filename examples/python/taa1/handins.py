@@ -13,19 +13,23 @@ import re
 import shlex
 from collections import Counter
 from itertools import count
-from typing import Callable, NamedTuple, Optional, Sequence
+from typing import Callable, Container, Mapping, NamedTuple, Optional, Sequence
 
 from .engine import Refused
 from .files import STANDARD, Problem, place, reason
 from .forms import BYTES, FORMS, text_of
 from .keysheet import KeyFile
 from .mark import Marked, Marker, Sheet, Wanted
+from .page import is_made_by
+from .pages import MADE_BY
 from .records import KINDS, PLAIN, SEALED, split
 from .sheets import plural
 from .texts import is_lines
 
 MOST_IN_FRONT = 1024  # bytes of a header
 MOST_NAME = 200  # bytes of a page's name
+KEYS = ".keys"
+NO_BOOK = f"left out: no hand-in beside it whose keys they are (NAME{KEYS} belongs to NAME.book)"
 
 
 # ---- looks: what a file is that is no book
@@ -269,39 +273,103 @@ def _said(error: Exception) -> str:
 # ---- files
 
 
+class LeftOut(NamedTuple):
+    """A file of a folder that is not marked, and why."""
+
+    name: str
+    why: str
+    told: bool = False  # also where marks are made: it may be somebody's work
+
+    def __str__(self) -> str:
+        """A line about it."""
+        return f"{place(self.name)}: {self.why}"
+
+
 class HandIns(NamedTuple):
-    """The files that arguments stand for, and those of a folder that were left out."""
+    """The files that arguments stand for, those of folders that were left out, and those
+    that were named once more."""
 
     names: list[str]
-    left_out: list[str]
+    left_out: list[LeftOut]
+    twice: list[str]
 
 
 def hand_ins(arguments: Sequence[str], beside: Sequence[str]) -> HandIns:
-    """A folder stands for its regular files, but for hidden ones, *.keys, *.txt and those
-    that are named on the command line, too."""
+    """A folder stands for its regular files, but for hidden ones, *.keys, *.txt, the desk's
+    pages and those that are named on the command line, too. A file is taken once."""
     named = {os.path.realpath(name) for name in (*arguments, *beside)}
-    found = HandIns([], [])
+    found: dict[str, str] = {}
+    left_out: list[LeftOut] = []
+    twice = []
     for argument in arguments:
-        if argument == STANDARD or not os.path.isdir(argument):
-            found.names.append(argument)
-            continue
-        try:
-            inside = [os.path.join(argument, name) for name in sorted(os.listdir(argument))]
-        except OSError as error:
-            raise Problem(f"{place(argument)}: {reason(error)}") from None
-        wanted = [name for name in inside if _is_hand_in(name) and os.path.realpath(name) not in named]
-        if not wanted:
-            raise Problem(
-                f"{place(argument)}: no hand-in in this folder: hidden files, *.keys and *.txt are none"
-            )
-        found.names.extend(wanted)
-        found.left_out.extend(sorted(set(inside) - set(wanted)))
-    return found
+        files, why = [argument], {}
+        if argument != STANDARD and os.path.isdir(argument):
+            try:
+                files = [os.path.join(argument, name) for name in sorted(os.listdir(argument))]
+            except OSError as error:
+                raise Problem(f"{place(argument)}: {reason(error)}") from None
+            why = {name: left for name in files for left in [_left_out(name, named)] if left}
+            if len(why) == len(files):
+                none = "no hand-in in this folder: hidden files, *.keys and *.txt are none"
+                raise Problem(f"{place(argument)}: {none}")
+            left_out += why.values()
+        for name in files:
+            if name not in why and _path(name) in found:
+                twice.append(name)
+            elif name not in why:
+                found[_path(name)] = name
+    keys = {_path(keys_of(name)): name for name in found.values()}
+    return HandIns(list(found.values()), [_keys_said(each, keys) for each in left_out], twice)
 
 
-def _is_hand_in(name: str) -> bool:
-    base = os.path.basename(name)
-    return os.path.isfile(name) and not base.startswith(".") and not base.endswith((".keys", ".txt"))
+def keys_of(name: str) -> str:
+    """The file of a candidate's keys beside the hand-in: NAME.keys beside NAME.book."""
+    return os.path.splitext(name)[0] + KEYS
+
+
+def _path(name: str) -> str:
+    """What the names of one file have in common; those of links to it have not."""
+    folder, base = os.path.split(name)
+    return name if name == STANDARD else os.path.join(os.path.realpath(folder), base)
+
+
+def _left_out(name: str, named: Container[str]) -> Optional[LeftOut]:
+    """Why a file of a folder is no hand-in, if it is none."""
+    if os.path.basename(name).startswith("."):
+        return LeftOut(name, "left out: hidden")
+    if os.path.realpath(name) in named:
+        return LeftOut(name, "left out here: it is named on the command line")
+    if not os.path.exists(name):
+        return LeftOut(name, "left out: a link to no file", True)
+    if os.path.isdir(name):
+        return LeftOut(name, "left out: a folder")
+    if not os.path.isfile(name):
+        return LeftOut(name, "left out: no regular file", True)
+    if name.endswith(KEYS):
+        return LeftOut(name, NO_BOOK, True)
+    if name.endswith(".txt"):
+        return LeftOut(name, "left out: *.txt in a folder (named by itself, it is marked)", True)
+    if name.endswith(".html") and _is_page(name):
+        return LeftOut(name, "left out: a page that the desk made")
+    return None
+
+
+def _is_page(name: str) -> bool:
+    """Whether a file is a page of the desk's."""
+    try:
+        with open(name, "rb") as file:
+            start = file.read(1024)
+    except OSError:  # it is said where it is read
+        return False
+    return any(is_made_by(start, by) for by in ("taa1", MADE_BY))
+
+
+def _keys_said(left: LeftOut, keys: Mapping[str, str]) -> LeftOut:
+    """What is said of a file that may be the keys of a hand-in."""
+    of = keys.get(_path(left.name))
+    if of is None or not os.path.isfile(left.name):
+        return left
+    return LeftOut(left.name, f"read as the keys of {place(of)}")
 
 
 def page_names(names: Sequence[str], index: str) -> list[str]:
