@@ -14,6 +14,7 @@ from taa1.results import key_result
 from taa1.scheme import DEFAULT, Points, said, score
 from taa1.scheme import parse as parse_scheme
 from taa1.sheets import sheet_text, summary
+from taa1.slips import SLIPS
 from taa1.working import KEYS, Steps
 
 MARKER = Marker(DESK, SITTING, PLAIN_BOOK)
@@ -99,6 +100,30 @@ class Values(unittest.TestCase):
         ):
             (slip,) = marker.mark("book", seal(sitting._replace(rand1=rand1))).slips
             self.assertEqual((slip.name, slip.others), (name, ()))
+
+    def test_slips_under_own_keys(self) -> None:
+        """A slip behind a wrong D is found with the D that was handed in, and joined with
+        what it gives elsewhere."""
+        own = bytes([VALUES["D"][0] ^ 1]) + VALUES["D"][1:]
+        ring = RING._replace(d=own)
+        follows = split(DESK.call("seal_book", ring.data, PLAIN_BOOK)["out"], SEALED)
+        ones = tuple(i for i, entry in enumerate(ENTRIES) if entry.kind == 1)
+        for name, places in (
+            ("last byte dropped, not byte 8", tuple(range(12))),
+            ("version once, at the left, not repeated", ones),
+            ("version once, at the left, not repeated", ones[:1]),
+        ):
+            steps = Steps(DESK, next(slip for slip in SLIPS if slip.name == name).altered)
+            strings = steps.k_strings(ring.c)
+            book = [
+                steps.sealed(entry, ring, strings) if place in places else follows[place]
+                for place, entry in enumerate(ENTRIES)
+            ]
+            sheet = MARKER.mark("book", b"".join(book), KeyFile({"D": own}))
+            (slip,) = sheet.slips
+            self.assertEqual((slip.name, slip.entries, slip.own, slip.part), (name, places, True, ""))
+            self.assertEqual(sheet.following, len(set(ones) - set(places)))
+            self.assertIn(", worked from the candidate's own keys\n", sheet_text(sheet))
 
     def test_unread(self) -> None:
         """A value that can't be read is handed in, and wrong."""

@@ -8,6 +8,7 @@ import unittest
 from common import CLASS, DESK, ENTRIES, LINES, PLAIN_BOOK, RING, SITTING, Case, seal, taa1
 from taa1.damage import Damage, damaged
 from taa1.files import Problem
+from taa1.keysheet import KeyFile
 from taa1.mark import Sheet
 from taa1.opened import OpenedMarker
 from taa1.records import KINDS, SEALED, split
@@ -157,6 +158,23 @@ class Lines(unittest.TestCase):
         ]
         (found,) = mark(*lines).slips
         self.assertEqual((found.name, len(found.entries)), ("identity reversed", 9))
+
+    def test_slips_under_own_keys(self) -> None:
+        """A slip behind a wrong D is found with the D that was handed in."""
+        ring = RING._replace(d=bytes([RING.d[0] ^ 1]) + RING.d[1:])
+        slip = next(slip for slip in OPENING_SLIPS if slip.name == "no chaining in BL2")
+        made = opened(Steps(DESK, slip.altered), ring, split(DAMAGED, SEALED))
+        ones = tuple(i for i, o in enumerate(made) if o.kind == 1)
+        lines = [
+            f"entry {i} flag kind 1 identity {o.identity:06x} version {o.version} key {o.key.hex()}"
+            if i in ones
+            else TRUE[i]
+            for i, o in enumerate(made)
+        ]
+        keys = KeyFile({"D": ring.d})
+        (found,) = MARKER.mark("hand-in", "\n".join(lines).encode(), "", keys).slips
+        self.assertEqual((found.name, found.entries, found.own), (slip.name, ones, True))
+        self.assertEqual(mark(*lines).slips, ())
 
     def test_flag_words(self) -> None:
         """A flag that is said to be clear is not taken as set, and MF is the flag."""

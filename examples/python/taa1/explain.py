@@ -7,7 +7,7 @@ the rest of it, a key. So two slips at once are both found, each in parts of its
 from __future__ import annotations
 
 from collections import defaultdict
-from typing import Any, Collection, Iterable, Mapping, NamedTuple
+from typing import Any, Collection, Iterable, Mapping, NamedTuple, Optional
 
 from .slips import ANOTHERS, EXCHANGED, Slip
 
@@ -91,6 +91,39 @@ class Table:
                 kin.add(slip.kin)
                 made.append(slip)
         return tuple(made)
+
+
+def under_own(
+    made: Iterable[tuple[Optional[Slip], Mapping[Part, Any]]],
+    wrong: Mapping[Part, Any],
+    weak: Collection[Part] = (),
+) -> list[Found]:
+    """The slips that give wrong parts under a candidate's own keys; the parts under these
+    come first, without a slip."""
+    table = Table()
+    own: Mapping[Part, Any] = {}
+    rest: Mapping[Part, Any] = {}
+    for slip, parts in made:
+        if slip is None:
+            own, rest = parts, {part: v for part, v in wrong.items() if v != parts[part]}
+        else:
+            table.add(slip, {part: value for part, value in parts.items() if value != own[part]})
+        if not rest:  # all of it follows from the own keys
+            return []
+    return table.explain(rest, [part for part in wrong if part not in rest], weak)
+
+
+def joined(found: Iterable[Found], under: Iterable[Found]) -> list[tuple[Found, bool]]:
+    """Slips, and those under the candidate's own keys; one that is both explains all that
+    both do. With each, whether it is under own keys."""
+    more = {each.slip.name: each for each in under}
+    made = []
+    for each in found:
+        other = more.pop(each.slip.name, None)
+        if other:
+            each = each._replace(parts=each.parts | other.parts, others=())
+        made.append((each, other is not None))
+    return made + [(each, True) for each in more.values()]
 
 
 def exchanges(

@@ -14,12 +14,12 @@ from typing import Iterable, NamedTuple, Optional, Sequence, Union
 
 from .desk import Desk
 from .engine import Refused, Sitting
-from .explain import IDENTITY, KEY, TEXT, Found, Part, Table, exchanges
+from .explain import IDENTITY, KEY, TEXT, Found, Part, Table, exchanges, joined, under_own
 from .keysheet import KeyFile, KeyMarker, KeySheet, own_keys
 from .pairing import Pairs, out_of_order, pair
 from .records import KINDS, PLAIN, SEALED, Entry, Ring, split, whole
 from .scheme import Points
-from .slips import work
+from .slips import work, work_under
 from .working import KEYS
 
 PARTS = {IDENTITY: "identities", TEXT: "texts", "flag": "flags"}
@@ -323,6 +323,8 @@ class Marker:
         found = self.table.explain(wrong, right)
         rest = set(wrong).difference(*(each.parts for each in found))
         under = self.keys.explain(keys, rest)
+        own = self._explain_own(keys, {part: wrong[part] for part in rest})
+        rest = rest.difference(*(each.parts for each in own))
         alone = {
             (place, field): value
             for place in {place for place, _ in rest if place != KEY}
@@ -330,9 +332,26 @@ class Marker:
             if (place, IDENTITY if field == IDENTITY else TEXT) in rest
         }
         others, borrowed = exchanges(alone, self.fields)
-        slips = [explained(each, entries, at) for each in [*found, *others]]
+        slips = [explained(f, entries, at)._replace(own=own_) for f, own_ in joined(found, own)]
+        slips += [explained(each, entries, at) for each in others]
         slips += [explained(each, entries, at)._replace(own=True) for each in under]
         return tuple(slips), {at[place]: fields for place, fields in borrowed.items()}
+
+    def _explain_own(self, keys: KeySheet, wrong: dict[Part, bytes]) -> list[Found]:
+        """The slips that give wrong entries under the candidate's own keys."""
+        places = {place for place, _ in wrong if place != KEY}
+        mine = {
+            place: self.entries[place]
+            for place in sorted(places)
+            if keys.ring and own_keys(self.entries[place].kind, keys.ring, self.ring)
+        }
+        if keys.ring is None or not mine:
+            return []
+        made = (
+            (slip, {(i, p): v for i, record in sealed.items() for p, v in parts_of(record).items()})
+            for slip, sealed in work_under(self.desk, keys.ring, mine)
+        )
+        return under_own(made, {part: value for part, value in wrong.items() if part[0] in mine})
 
     def _wrong_alone(self, record: bytes, place: int) -> dict[str, bytes]:
         """The fields of a record that are wrong with nothing else wrong in their part."""

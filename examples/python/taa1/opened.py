@@ -14,7 +14,7 @@ from typing import Any, NamedTuple, Optional
 from . import texts
 from .desk import Desk, RefusedFile
 from .engine import MOST_RECORDS, Refusal, Refused, Sitting
-from .explain import IDENTITY, KEY, TEXT, Found, Part, Table, exchanges
+from .explain import IDENTITY, KEY, TEXT, Found, Part, Table, exchanges, joined, under_own
 from .files import Problem, place
 from .forms import BYTES, FORMS, text_of
 from .keysheet import KeyFile, KeyMarker, KeySheet, own_keys
@@ -32,7 +32,7 @@ from .mark import (
 from .pairing import pair
 from .records import KINDS, PLAIN, SEALED, Entry, Ring, split, whole
 from .sheets import failed_checks
-from .slips import EXCHANGED, opened, work_opened
+from .slips import EXCHANGED, open_under, opened, work_opened
 from .working import Opened, Steps, ring_of
 
 FLAG = "flag"  # the part of an entry that says whether its flag is set
@@ -294,12 +294,35 @@ class OpenedMarker:
         invented = {part for part, value in wrong.items() if part[1] == FLAG and value}
         found = self.table.explain(wrong, right, invented)
         rest = set(wrong).difference(*(each.parts for each in found))
-        others, borrowed = self._exchanged(answers, rest & entries)
+        own = self._explain_own(keys, {part: wrong[part] for part in rest}, invented)
+        left = rest.difference(*(each.parts for each in own))
+        others, borrowed = self._exchanged(answers, left & entries)
         at = {index: index for index in answers}
-        slips = [explained(each, entries, at) for each in [*found, *others]]
+        slips = [explained(f, entries, at)._replace(own=own_) for f, own_ in joined(found, own)]
+        slips += [explained(each, entries, at) for each in others]
         under = self.keys.explain(keys, rest)
         slips += [explained(each, entries, at)._replace(own=True) for each in under]
         return tuple(slips), borrowed
+
+    def _explain_own(
+        self, keys: KeySheet, wrong: dict[Part, Any], invented: set[Part]
+    ) -> list[Found]:
+        """The slips that give wrong entries under the candidate's own keys."""
+        model = ring_of(self.keys.model)
+        mine = {
+            index: self.records[index]
+            for index in sorted({index for index, _ in wrong if index != KEY})
+            if keys.ring and own_keys(self.truth[index].kind, keys.ring, model)
+        }
+        if keys.ring is None or not mine:
+            return []
+        made = (
+            (slip, {(i, p): v for i, each in opens.items() for p, v in _parts(each).items()})
+            for slip, opens in open_under(self.steps.desk, keys.ring, mine)
+        )
+        return under_own(
+            made, {part: value for part, value in wrong.items() if part[0] in mine}, invented
+        )
 
     def _following(self, answers: dict[int, Answer], keys: KeySheet) -> dict[int, str]:
         """The wrong entries that are right under the candidate's own keys, and which."""

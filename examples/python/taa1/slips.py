@@ -903,6 +903,31 @@ def _sealed(steps: Steps, ring: Ring, entries: list[Entry], model: list[bytes]) 
     return records
 
 
+def work_under(
+    desk: Desk, ring: Ring, entries: Mapping[int, Entry]
+) -> Iterator[tuple[Optional[Slip], dict[int, bytes]]]:
+    """Sealed records of entries under a candidate's own ring: without a slip, then with
+    each that alters more than keys."""
+    right = _sealed(Steps(desk), ring, list(entries.values()), [b""] * len(entries))
+    yield None, dict(zip(entries, right))
+    for slip in SLIPS:
+        if not slip.in_keys_alone:
+            made = _sealed(Steps(desk, slip.altered), ring, list(entries.values()), right)
+            yield slip, dict(zip(entries, made))
+
+
+def open_under(
+    desk: Desk, ring: Ring, sealed: Mapping[int, bytes]
+) -> Iterator[tuple[Optional[Slip], dict[int, Opened]]]:
+    """What sealed records open to under a candidate's own ring: without a slip, then with
+    each that alters more than keys."""
+    yield None, dict(zip(sealed, opened(Steps(desk), ring, list(sealed.values()))))
+    for slip in (*SLIPS, *OPENING_SLIPS):
+        if not slip.in_keys_alone and OPEN_STEPS & set(slip.altered):
+            made = opened(Steps(desk, slip.altered), ring, list(sealed.values()))
+            yield slip, dict(zip(sealed, made))
+
+
 def work_opened(desk: Desk, sitting: Sitting, sealed: list[bytes]) -> Iterator[WorkedOpened]:
     """What sealed records open to under each slip, where that differs from what they do."""
     right = Steps(desk)
