@@ -2,6 +2,7 @@
 
 from __future__ import annotations
 
+import json
 import tempfile
 import unittest
 from itertools import combinations
@@ -9,11 +10,11 @@ from pathlib import Path
 from typing import ClassVar
 
 from browser import MARGIN, MISSING, PHONE, POINTS, SCREEN, Browser, pictures, poppler, printed
-from common import CLASS, RING, seal, taa1
+from common import CLASS, DESK, RING, SITTING, seal, taa1
 from taa1.page import page, tag, text
 from taa1.pictures import FILLINGS, HEIGHT, STYLE, Part, bar, fillings
 from taa1.records import SEALED, split
-from taa1.working import xor
+from taa1.working import Steps, xor
 
 HEADING = "title = Key management, the winter paper\ndate = 3 December\n"
 BOOK = CLASS / "model.txt"
@@ -24,6 +25,16 @@ PAGES = {
     "noise.book": 1, "all-wrong.book": 3, "many.book": 2, "gil.txt": 2,
     f"{'e' * 80}.book": 1,
 }  # fmt: skip
+
+
+def _keys(wrong: bytes) -> str:
+    """Wrong values, among them long ones, and two that follow from another."""
+    steps = Steps(DESK)
+    session_key = xor(steps.ta11(SITTING.root, SITTING.rs), wrong)
+    made = steps.keys(SITTING, {"session key 1": session_key})
+    values = {"session key 1": session_key, "O": xor(RING.o, wrong)}
+    values.update({name: made[name] for name in ("response 1", "key 1")})
+    return "".join(f"{name} = {value.hex()}\n" for name, value in values.items())
 
 
 def _make(folder: Path) -> None:
@@ -43,7 +54,7 @@ def _make(folder: Path) -> None:
         (folder / f"{name}.book").write_bytes(data)
     (folder / "names").write_text("dee = Deirdre Featherstonehaugh-Cholmondeley of Wotton\n")
     (folder / "ben.keys").write_bytes((CLASS / "ben.keys").read_bytes())
-    (folder / "all-wrong.keys").write_text(f"O = {xor(RING.o, bytes(4) + wrong[8:20]).hex()}\n")
+    (folder / "all-wrong.keys").write_text(_keys(wrong[5:]))
     hand_ins = sorted(folder.glob("*.book"))
     sealed, opened = folder / "sealed", folder / "gil.txt"
     sealed.write_bytes(seal())
@@ -97,6 +108,15 @@ class Looking(unittest.TestCase):
                     self.browser.open(self.folder / f"{name}.html", width)
                     self.assertEqual(self.browser.look(), [])
                     self.assertGreater(len(self.browser.picture()), least)
+
+    def test_one_line(self) -> None:
+        """On a screen a key that was handed in stands in one line, as does the one wanted."""
+        self.browser.open(self.folder / "all-wrong.book.html")
+        high = "JSON.stringify([...document.querySelectorAll('.keys td div')].map(e => e.clientHeight))"
+        answer = self.browser.order("Runtime.evaluate", expression=high)
+        lines = json.loads(answer["result"]["value"])
+        self.assertEqual(len(lines), 8)
+        self.assertLess(max(lines), 30)
 
     def test_paper(self) -> None:
         """On A4 and Letter nothing is lost, no sheet ends in a heading, and all is grey."""

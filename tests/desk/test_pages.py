@@ -11,11 +11,12 @@ from pathlib import Path
 from typing import Optional
 from urllib.parse import unquote_to_bytes
 
-from common import CLASS, SITTING, Case, seal, taa1
+from common import CLASS, DESK, RING, SITTING, Case, seal, taa1
 from taa1.beside import differing
 from taa1.page import grouped
 from taa1.records import SEALED, split
 from taa1.slips import RING_SLIPS
+from taa1.working import Steps
 
 CANDIDATES = ("ann", "ben", "cho", "dee", "eve", "fay")
 VOID = {"meta", "rect", "path", "line", "br", "wbr"}
@@ -184,6 +185,19 @@ class Pages(Case):
             self.assertIn(words, page.texts)
         self.assertEqual(page.texts[page.texts.index("sum, of 24") + 1], "18 1/2")
         self.assertEqual((page.marked["b"][0], page.marked["u"][0]), ("9742 399d", "3eaf 8e4f"))
+
+    def test_keys_alone(self) -> None:
+        """Where entries are right and keys are not, the first sentence says so, and why."""
+        made = Steps(DESK).keys(SITTING._replace(rand2=SITTING.rand2[::-1]))
+        book = self.file("gus.book", seal())
+        lines = "".join(f"{name} = {made[name].hex()}\n" for name in ("response 2", "key 2"))
+        self.file("gus.keys", lines + f"O = {RING.o.hex()}\nG = hello\n")
+        page = Page(self.mark(book) / "gus.book.html")
+        said = next(text for text in page.texts if "entries right" in text)
+        self.assertTrue(said.endswith(
+            "All 12 entries right; 3 of 4 keys wrong. One slip explains response 2 and key 2: "
+            "TA22's challenge reversed (RAND2)."), said)  # fmt: skip
+        self.assertIn("wrong: not to be read", page.texts)
 
     def test_missing(self) -> None:
         """Entries that are missing are shown as they are wanted."""

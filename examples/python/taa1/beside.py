@@ -23,8 +23,10 @@ td b, td u { margin: 0 .2em; }
 td b { outline: 1px solid #000; outline-offset: 1px; }
 td u { font-weight: bold; text-decoration-thickness: 2px; text-underline-offset: 2px; }
 td i { display: inline-block; font-style: normal; width: 5.5em; }
+td div { white-space: nowrap; }
 @media screen and (max-width: 40em) {
   td i { display: block; }
+  td div { white-space: normal; }
   .beside { display: flex; flex-direction: column; width: 100%; }
   .beside thead, .beside td:first-child, .beside .same { display: none; }
   .beside tbody, .beside tr { display: contents; }
@@ -52,8 +54,8 @@ def differing(data: bytes, other: bytes, name: str) -> Html:
 
 
 def over(has: bytes, wants: bytes) -> Html:
-    """Bytes that were handed in over those that are wanted, in one cell."""
-    lines = ((HANDED_IN, differing(has, wants, "b")), (WANTED, differing(wants, has, "u")))
+    """Bytes that were handed in, if any, over those that are wanted, in one cell."""
+    lines = ((HANDED_IN, differing(has, wants, "b") or "-"), (WANTED, differing(wants, has, "u")))
     return Html(
         "".join(tag("div", text("i", name) + tag("span", said, class_="hex")) for name, said in lines)
     )

@@ -20,7 +20,9 @@ CHECKS = "Checks of the redundancy, and how many entries fail them"
 
 PLACES = """
 .pictured th:nth-child(2), .pictured td:nth-child(2) { width: 32%; }
-.candidates th:nth-child(2), .candidates td:nth-child(2) { width: 24%; }
+.candidates th:nth-child(2), .candidates td:nth-child(2) { width: 22%; }
+.candidates th:last-child, .candidates td:last-child { width: 36%; }
+.checks th { white-space: nowrap; }
 @media screen and (max-width: 40em) {
   .wide td.number { display: inline-block; padding-right: .8em; }
   .pictured td:nth-child(2) { width: auto; }
@@ -92,7 +94,7 @@ def _checks(of: Summary) -> Html:
         often += [None] * (most - len(often))
         rows.append((f"{kind}, {sealing(kind)}", *often, last))
     heads = ("kind", *(f"byte {at}" for at in range(most)), "three zero bits")
-    return table(heads, rows) if rows else text("p", "None.")
+    return table(heads, rows, "checks") if rows else text("p", "None.")
 
 
 def class_page(

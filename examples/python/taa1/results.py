@@ -5,10 +5,10 @@ from __future__ import annotations
 from collections import Counter
 from fractions import Fraction
 from statistics import mean, median
-from typing import Iterable, NamedTuple, Optional
+from typing import Iterable, NamedTuple, Optional, Sequence
 
 from .keysheet import KeyMark
-from .mark import Marked, Sheet
+from .mark import Explained, Marked, Sheet
 from .names import both
 from .scheme import Points, said
 from .sheets import listed, reason
@@ -78,7 +78,10 @@ def result(sheet: Sheet) -> str:
         parts += [f"{count} {what}"] if count else []
     own = f"; {sheet.following} of the wrong are right under own keys" if sheet.following else ""
     points = f"{sum_of(sheet.points)}. " if sheet.points else ""
-    return f"{points}{', '.join(parts)}{own}.{_explained(sheet, wrong)}"
+    states = [mark.state for mark in sheet.keys.marks if mark.state != "idle"]
+    bad = len(states) - states.count("right")
+    keys = f"; {bad} of {len(states)} keys wrong" if bad else ""
+    return f"{points}{', '.join(parts)}{own}{keys}.{_explained(sheet, wrong)}"
 
 
 def sum_of(points: Points) -> str:
@@ -94,6 +97,8 @@ def key_result(mark: KeyMark) -> str:
         return "not asked for: this side does not run"
     if mark.state == "right":
         return "right"
+    if not mark.has:
+        return "wrong: not to be read"
     if not mark.has:
         return "wrong: it can't be read"
     length = f": {len(mark.has)} bytes, not {len(mark.wants)}" * (len(mark.has) != len(mark.wants))
@@ -122,16 +127,27 @@ def average(sheets: Iterable[Sheet]) -> Optional[Average]:
 
 
 def _explained(sheet: Sheet, wrong: int) -> str:
-    """What the slips explain, in a sentence behind the first."""
-    if not wrong:
-        return ""
-    entries = {entry for slip in sheet.slips for entry in slip.entries}
-    if not entries:
-        return " No slip that the desk knows explains what is wrong."
-    number = len(sheet.slips)
-    much = f"{len(entries)} of the {wrong} wrong entries"
-    if len(entries) == wrong:
-        much = {1: "the wrong entry", 2: "both wrong entries"}.get(wrong, f"all {wrong} wrong entries")
+    """What the slips explain, in a sentence each for entries and for keys."""
+    said = ""
+    of_entries = [slip for slip in sheet.slips if slip.entries]
+    entries = {entry for slip in of_entries for entry in slip.entries}
+    if entries:
+        much = f"{len(entries)} of the {wrong} wrong entries"
+        if len(entries) == wrong:
+            much = {1: "the wrong entry", 2: "both wrong entries"}.get(
+                wrong, f"all {wrong} wrong entries"
+            )
+        said += _explain(of_entries, much)
+    elif wrong > sheet.following:
+        said += " No slip that the desk knows explains what is wrong in the entries."
+    of_keys = [slip for slip in sheet.slips if slip.keys and not slip.entries]
+    if of_keys:
+        said += _explain(of_keys, listed([key for slip in of_keys for key in slip.keys]))
+    return said
+
+
+def _explain(slips: Sequence[Explained], much: str) -> str:
+    """That slips explain so much."""
+    number = len(slips)
     verb = "slip explains" if number == 1 else "slips explain"
-    names = "; ".join(slip.name for slip in sheet.slips)
-    return f" {WORDS.get(number, number)} {verb} {much}: {names}."
+    return f" {WORDS.get(number, number)} {verb} {much}: {'; '.join(slip.name for slip in slips)}."
