@@ -19,7 +19,7 @@ STYLE = """
 .beside th, .beside td { padding-right: 1.4em; white-space: nowrap; }
 .beside th { font-weight: normal; }
 .beside td:first-child { width: 6em; }
-td b, td u { margin: 0 .2em; }
+td b, td u { margin: 0 .3em; }
 td b { outline: 1px solid #000; outline-offset: 1px; }
 td u { font-weight: bold; text-decoration-thickness: 2px; text-underline-offset: 2px; }
 td i { display: inline-block; font-style: normal; width: 5.5em; }
