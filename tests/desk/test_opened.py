@@ -11,7 +11,7 @@ from taa1.files import Problem
 from taa1.keysheet import KeyFile
 from taa1.mark import Sheet
 from taa1.opened import OpenedMarker
-from taa1.records import KINDS, SEALED, split
+from taa1.records import KINDS, PLAIN, SEALED, split
 from taa1.sheets import sheet_text
 from taa1.slips import OPENING_SLIPS, SLIPS, opened
 from taa1.working import Steps
@@ -201,6 +201,14 @@ class Lines(unittest.TestCase):
                 self.assertEqual((sheet.right, sheet.slips), (11, ()), words)
                 self.assertEqual((sheet.flags.missed, sheet.flags.invented), ((), ()), words)
                 self.assertIn(f"  entry {index}: line {index + 1}: ", sheet_text(sheet))
+
+    def test_zeroed(self) -> None:
+        """Bytes can't say a flag, also where zeros stand for the entry; of others they are wrong."""
+        records = split(PLAIN_BOOK, PLAIN)
+        for index, state in ((2, "unsaid"), (3, "wrong")):
+            data = b"".join([*records[:index], bytes(PLAIN), *records[index + 1 :]])
+            made = {entry.model: entry for entry in MARKER.mark("hand-in", data).entries}[index]
+            self.assertEqual((made.state, "no such kind" in made.note), (state, state == "wrong"))
 
     def test_no_book(self) -> None:
         for data, said in (

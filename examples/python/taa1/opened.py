@@ -147,7 +147,8 @@ class OpenedMarker:
         for index, at in self._paired(records).items():
             known = records[index][0] in KINDS
             entry = Entry.of(records[index]) if known else None
-            answers[at] = Answer(None, entry, "" if known else "there is no such kind")
+            problem = "" if known or self.truth[at].failed else "there is no such kind"
+            answers[at] = Answer(None, entry, problem)
         return Read(answers, len(records) - len(answers), how=how, in_bytes=True)
 
     def _paired(self, records: list[bytes]) -> dict[int, int]:
