@@ -142,15 +142,13 @@ def _odd_texts(of: Exam) -> Iterator[HandIn]:
         ("hex-letter-l", "the letter l for a one", digits.replace("1", "l", 1), "the l is named"),
         ("hex-odd", "the last digit lost", digits[:-1], "the odd number of digits is named"),
         ("hex-digit-lost", "a digit lost in record 3", _without(digits, 150), "odd digits named"),
-        (
-            "hex-line-odd",
-            "a digit lost in one of the lines",
-            _without(lines, 150),
-            "line 4 is named: it has 41 digits",
-        ),
         ("hex-question", "?? for bytes not worked", f"{digits[:400]}??{digits[402:]}", "?? named"),
     ):
         yield HandIn(f"text/{name}", "bad text", of, text.encode(), done, None, False, say)
+    done, say = "a digit lost in one of the lines", "line 4 is named: it has 41 digits"
+    others = book[: 3 * SEALED] + book[4 * SEALED :]
+    text = _without(lines, 150)
+    yield HandIn("text/hex-line-odd", "bad text", of, text.encode(), done, others, True, say)
 
 
 def _without(text: str, place: int) -> str:

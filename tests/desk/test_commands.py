@@ -463,12 +463,42 @@ class Bad(Case):
             ("seal: the following arguments are required: RING", ("seal",)),
             ("unrecognized arguments: --nonsense (taa1 --help lists the commands)", ("slips", "--nonsense")),
             ("columns: the following arguments are required: book", ("columns",)),
+            (
+                "seal: argument --damage: entry 0 for the second time",
+                ("seal", *INPUTS, "--damage", "0,1,0:4"),
+            ),
         ):
             with self.subTest(args=args):
                 self.fails(2, error, *args)
         done = taa1("nonsense")
         self.said(done, 2)
         self.assertIn("invalid choice: 'nonsense'", done.error)
+
+    def test_another_file(self) -> None:
+        """A book for a sitting, and the like, is called what it is."""
+        lines, named = "this is a plain book in lines", "this has the names of a sitting or a ring"
+        for error, args in (
+            (f"{INPUTS[1]}: {lines}, where a sitting is wanted", ("model", *INPUTS[::-1])),
+            (f"{INPUTS[1]}: {lines}, where a ring or a sitting is wanted", ("seal", *INPUTS[::-1])),
+            (f"{INPUTS[1]}: {lines}, where a sealed book is wanted", ("open", *INPUTS)),
+            (f"{INPUTS[1]}: {lines}, where a sealed book is wanted", ("mark", "--opened", *INPUTS, "x")),
+            (f"{INPUTS[0]}: {named}, where a plain book is wanted", ("check", INPUTS[0])),
+        ):
+            with self.subTest(args=args):
+                self.fails(2, error, *args)
+
+    def test_inputs_stay(self) -> None:
+        """No output replaces what is read."""
+        book = self.file("ann.book", SEALED_BOOK)
+        sitting = self.file("sitting", INPUTS[0].read_bytes())
+        model = self.file("model", INPUTS[1].read_bytes())
+        args = (sitting, model, book)
+        for command in (("mark", *args), ("model", sitting, model), ("seal", sitting, model)):
+            for file in command[1:]:
+                before = file.read_bytes()
+                said = f"{file}: it is read, so nothing is written over it: -o wants another name"
+                self.fails(2, said, *command, "-o", file)
+                self.assertEqual(file.read_bytes(), before)
 
     def test_progress(self) -> None:
         """Marking shows how far it is on a terminal only, and wipes it out."""

@@ -130,8 +130,6 @@ ANOTHER = (
     "identity is the model's, though kinds and versions are"
 )
 STRANGE: dict[str, tuple[bytes, str, str]] = {
-    "empty": (b"", "the file is empty", "bytes"),
-    "blank": (b"\n \n", "the file is empty", "bytes"),
     "a plain book": (PLAIN_BOOK, f"this looks like a plain book{WANTED}", "bytes"),
     "a plain book in digits": (
         PLAIN_BOOK.hex().encode(),
@@ -157,7 +155,6 @@ STRANGE: dict[str, tuple[bytes, str, str]] = {
         "bytes",
     ),
     "short": (b"\1\2\3", "this looks like no sealed book: 3 bytes, where a record has 21", "bytes"),
-    "a PDF": (b"%PDF-1.7\n\xff", "this looks like a PDF document", "bytes"),
     "comments": (b"# nothing yet\n", "this looks like a text without a digit", "bytes"),
     "cut": (BOOK[:50], "this looks like a book that was cut short: 2 records and 8 bytes", "bytes"),
     "the first byte lost": (
@@ -171,12 +168,6 @@ STRANGE: dict[str, tuple[bytes, str, str]] = {
         "bytes",
     ),
     "seven bits": (bytes(byte & 0x7F for byte in BOOK), f"{DAMAGED}: no byte is above 7f", "bytes"),
-    "a line too short": (
-        lines(21).replace(RECORDS[3].hex(), RECORDS[3].hex()[:-1]).encode(),
-        "this looks like text that is no hexadecimal: an odd number of hexadecimal digits, 503, "
-        "41 of them in line 4",
-        "bytes",
-    ),
     "od's lines, one lost": (
         b"".join(dumped("od", "-tx1").splitlines(True)[1:]),
         "this looks like a dump of bytes, but in no form that is known, or with lines lost or "
@@ -240,6 +231,34 @@ class Forms(unittest.TestCase):
                 self.assertEqual(sheet.problem, said + advice)
                 self.assertEqual((sheet.right, sheet.entries), (0, ()))
                 self.assertIsNone(READER.mark("ann.book", data, form).problem)
+
+    def test_hopeless(self) -> None:
+        """No form is offered for what can be no book in any."""
+        for data, said in (
+            (b"", "the file is empty"),
+            (b" \n", "the file is empty"),
+            (b"%PDF-1.7\n\xff", "this looks like a PDF document"),
+            (b"PK\3\4" + BOOK, "this looks like a zip archive or an office document"),
+        ):
+            self.assertEqual(READER.mark("ann.book", data).problem, said)
+
+    def test_one_bad_row(self) -> None:
+        """Of a record in each line, a line that has too few or too many digits is named, and
+        the others are marked."""
+        rows = lines(21).splitlines()
+        spaced = lines(21, " ").splitlines()
+        for given, bad, digits in (
+            (rows, rows[5][:-2], 40),
+            (rows, rows[5][:-1], 41),
+            (rows, rows[5] + "00", 44),
+            (spaced, spaced[5][:-3], 40),
+            (rows, f"0x{rows[5][2:]}  # entry 5", 40),
+        ):
+            sheet = READER.mark("a", "\n".join([*given[:5], bad, *given[6:]]).encode())
+            self.assertEqual((sheet.problem, sheet.right, sheet.missing), (None, 11, (5,)))
+            self.assertIn(f"line 6 has {digits} digits, not 42", others(sheet))
+            self.assertEqual(sheet.read_as, f"{HEX}, a record in each line")
+        self.assertEqual(READER.mark("a", "\n".join([*rows[:5], *rows[6:]]).encode()).read_as, HEX)
 
     def test_line_ends(self) -> None:
         """Changed line ends are said, and not repaired."""

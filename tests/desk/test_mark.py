@@ -267,6 +267,16 @@ class Books(unittest.TestCase):
         self.assertEqual([(e.state, e.model) for e in sheet.entries[12:]], [("doubled", 4), ("extra", None)])
         self.assertFalse(sheet.perfect)
 
+    def test_wrong_in_place(self) -> None:
+        """A text that is another entry's is wrong in its own entry's place, not a further
+        attempt, where the identity, or kind and version, are that entry's."""
+        identity = MODEL[9][:4] + MODEL[0][4:]
+        head = MODEL[9][:1] + bytes(3) + MODEL[9][4:6] + MODEL[0][6:]
+        for record in (identity, head):
+            sheet = self.mark([*MODEL[:9], record, *MODEL[10:]])
+            self.assertEqual((sheet.entries[9].state, sheet.entries[9].model), ("wrong", 9))
+            self.assertEqual((sheet.extra, sheet.missing), (0, ()))
+
     def test_alike_entries(self) -> None:
         """A model that has an entry twice wants it twice."""
         plain = ENTRIES[0].data * 2 + ENTRIES[1].data

@@ -90,10 +90,18 @@ class Lines(unittest.TestCase):
         self.assertEqual(lines[1:], [first, again])
 
     def test_more(self) -> None:
-        extra = [bytes([9]) + MODEL[0][1:], bytes([9]) + MODEL[0][1:]]
+        extra = [bytes([9]) + bytes(20)] * 2
         words = "more than the model has; there is no such kind"
         self.assertIn(f"  entries 12 and 13: {words}", said(*MODEL, *extra))
         self.assertIn(f"  entry 12: one {words}", said(*MODEL, extra[0]))
+
+    def test_further_attempts(self) -> None:
+        """Right texts under other identities, in the place of other entries."""
+        book = [*MODEL[:6], *(r[:1] + bytes([0, 0, i]) + r[4:] for i, r in enumerate(MODEL[:6]))]
+        lines = said(*book)[1:]
+        first = "  6 extra records: further attempts at entries that have their record"
+        again = "  entries 6 to 11: more attempts at the model's entries 0 to 5"
+        self.assertEqual(lines, [first, again, "  missing: the model's entries 6 to 11"])
 
     def test_very_many(self) -> None:
         """A book of 1,025 records: some lines, and every record is counted."""

@@ -260,6 +260,18 @@ class Books(Case):
         lines = [line.split(":")[1].strip() for line in said.error.splitlines()]
         self.assertEqual(lines, ["f, line 2", "f, line 4", "f, line 6"])
 
+    def test_one_bad_line(self) -> None:
+        """A line that is no entry, or an index that is left out, makes no later line wrong."""
+        rows = [f"entry {i} {entry.line}" for i, entry in enumerate(ENTRIES)]
+        for text, line, error in (
+            ([*rows[:3], "3a hello", *rows[3:]], 4, "'3a' is no word of an entry: "),
+            ([*rows[:3], *rows[4:]], 4, "entry '4', where entry 3 stands"),
+        ):
+            self.file("f", "\n".join(text))
+            done = taa1("check", "f", cwd=self.folder)
+            self.assertEqual((done.status, len(done.error.splitlines())), (2, 1), done.error)
+            self.assertIn(f"taa1: f, line {line}: {error}", done.error)
+
     def test_refused(self) -> None:
         bad = bytes([9]) + PLAIN_BOOK[1:]
         for command in ("check", "list", "book"):

@@ -12,6 +12,7 @@ import os
 import secrets
 import subprocess
 import sys
+from collections import Counter
 from pathlib import Path
 from typing import Any, Callable, NoReturn, Optional, Sequence, Union
 from urllib.parse import quote
@@ -145,6 +146,9 @@ def _damages(text: str) -> list[Damage]:
         if not entry.isdecimal() or colon and not check.isdecimal():
             raise argparse.ArgumentTypeError(f"{word!r} is no entry I nor I:CHECK, as in 3,5:4")
         wanted.append(Damage(int(entry[:9]), int(check[:9]) if colon else None))
+    often = Counter(each.entry for each in wanted).most_common(1)[0]
+    if often[1] > 1:
+        raise argparse.ArgumentTypeError(f"entry {often[0]} for the second time")
     return wanted
 
 
@@ -213,6 +217,19 @@ def _lengths(refused: Refused, call: Call, labels: Sequence[str], given: Sequenc
         and parameter.kind == "bytes"
         and parameter.length not in (None, len(value))
     )
+
+
+INPUTS = ("sitting", "book", "ring", "file", "scheme", "candidates")  # options with a file's name
+
+
+def _keep(args: argparse.Namespace) -> None:
+    """Refuses an output that would replace an input."""
+    output = getattr(args, "output", STANDARD)
+    given = [getattr(args, name, None) for name in INPUTS] + getattr(args, "candidate", [])
+    read = [name for name in given if isinstance(name, str) and os.path.isfile(name)]
+    read += [handins.keys_of(name) for name in getattr(args, "candidate", [])]
+    if output != STANDARD and any(os.path.realpath(output) == os.path.realpath(n) for n in read):
+        raise Problem(f"{shown(output)}: it is read, so nothing is written over it: -o wants another name")
 
 
 # ---- the commands
@@ -305,7 +322,7 @@ def run_open(args: argparse.Namespace) -> int:
     _once(args.ring, args.file)
     desk = Desk()
     ring = texts.read_ring(desk, args.ring)
-    sealed = files.read_bytes(args.file, args.bytes)
+    sealed = texts.read_sealed(args.file, args.bytes)
     with refusals(place(args.file)):
         answer = desk.call("open_book", ring.data, sealed)
     if args.lines:
@@ -593,7 +610,7 @@ def _reader(args: argparse.Namespace) -> tuple[Union[Reader, OpenedMarker], text
     sitting, heading = texts.read_headed(args.sitting)
     texts.make_ring(desk, sitting, place(args.sitting))
     if args.opened:
-        sealed = files.read_bytes(args.book, args.bytes)
+        sealed = texts.read_sealed(args.book, args.bytes)
         return OpenedMarker(desk, sitting, sealed, place(args.book)), heading
     plain = texts.read_plain(desk, args.book, args.bytes)
     if not plain:
@@ -878,6 +895,7 @@ def main(argv: Optional[Sequence[str]] = None) -> int:
 def _main(argv: Optional[Sequence[str]]) -> int:
     try:
         args = parser().parse_args(argv)
+        _keep(args)
         return int(args.run(args))
     except (RefusedFile, Refused) as refused:
         files.say(str(refused))

@@ -141,6 +141,27 @@ def records(text: str) -> bytes:
     return b"".join(found)
 
 
+class Rows(NamedTuple):
+    """The records of a text with one in each line, and the lines that hold none."""
+
+    book: bytes
+    problems: tuple[str, ...]
+
+
+def rows(text: str) -> Rows:
+    """The records of lines of digits, of which some have too few or too many."""
+    found, problems = [], []
+    for number, line in enumerate(text.splitlines(), 1):
+        digits = re.sub(r"\s|#.*|//.*|[-,;:\[\]()'\"]|\\x|\b0[xX]", "", line)
+        if digits and not re.fullmatch("[0-9a-fA-F]+", digits):
+            raise ValueError(f"line {number} has other than digits")
+        if len(digits) == 2 * SEALED:
+            found.append(bytes.fromhex(digits))
+        elif digits:
+            problems.append(f"line {number} has {len(digits)} digits, not {2 * SEALED}")
+    return Rows(b"".join(found), tuple(problems))
+
+
 def _base64(text: str) -> bytes:
     return base64.b64decode("".join(text.split()), validate=True)
 
@@ -169,7 +190,7 @@ FORMS: dict[str, Form] = {
         "a dump in words, their low byte first (od -x)", lambda text: dumped(text, _word)
     ),
     "octal": Form(
-        "a dump in octal, a word's low byte first (od)", lambda text: dumped(text, _octal)
+        "a dump in octal, of bytes or of words with their low byte first (od -b, od)", lambda text: dumped(text, _octal)
     ),
     "bits": Form("a dump in bits (xxd -b)", lambda text: dumped(text, _bits)),
     "decimal": Form(

@@ -17,7 +17,7 @@ from typing import Callable, Container, Mapping, NamedTuple, Optional, Sequence
 
 from .engine import Refused
 from .files import STANDARD, Problem, place, reason
-from .forms import BYTES, FORMS, text_of
+from .forms import BYTES, FORMS, rows, text_of
 from .keysheet import KeyFile
 from .mark import Marked, Marker, Sheet, Wanted
 from .page import is_made_by
@@ -79,6 +79,8 @@ class Reading(NamedTuple):
     how: str = ""  # but for bytes as they are
     form: str = ""  # the form's name
     problem: Optional[str] = None  # why it is not marked
+    problems: tuple[str, ...] = ()  # of lines that hold no record
+    hopeless: bool = False  # no form makes a book of it
 
 
 class Reader:
@@ -102,11 +104,12 @@ class Reader:
         reading = self.forced(data, form) if form else self.read(data)
         problem = reading.problem
         if problem is None:
-            sheet = self.marker.mark(where, reading.book, keys)._replace(read_as=reading.how)
+            sheet = self.marker.mark(where, reading.book, keys)
+            sheet = sheet._replace(read_as=reading.how, problems=reading.problems)
             problem = None if form else self.strange(sheet)
             if problem is None:
                 return sheet
-        if not form:
+        if not form and not reading.hopeless:
             given = f"{shlex.quote(name)}={reading.form or BYTES}"
             problem += f"; --as {given} marks it all the same"
         return self.marker.unreadable(where, problem)
@@ -143,10 +146,10 @@ class Reader:
     def read(self, data: bytes) -> Reading:
         """How a file is read, or why it is not."""
         if not data.strip():
-            return Reading(b"", "", BYTES, "the file is empty")
+            return Reading(b"", problem="the file is empty", hopeless=True)
         for start, what in FILES:
             if data.startswith(start):
-                return Reading(b"", problem=f"this looks like {what}")
+                return Reading(b"", problem=f"this looks like {what}", hopeless=True)
         text = text_of(data)
         if text is not None:
             return self._read_text(*text)
@@ -161,6 +164,9 @@ class Reader:
             except (Problem, ValueError) as error:
                 why = why or _said(error)
         best = max(readings, key=lambda each: self.common(each.book), default=Reading(b""))
+        by_rows = self._rows(text, code, best)
+        if by_rows is not None:
+            return by_rows
         if self.common(best.book):
             return self._look(best)
         if is_lines(text):
@@ -176,6 +182,19 @@ class Reader:
         if not seem[0].book:
             return Reading(b"", problem="this looks like a text without a digit")
         return self._look(seem[0])
+
+    def _rows(self, text: str, code: str, best: Reading) -> Optional[Reading]:
+        """A text with a record in each line but for a few, whose digits are too few or too
+        many, if that shows more of the model than its digits as they follow each other."""
+        try:
+            book, problems = rows(text)
+        except ValueError:
+            return None
+        whole = len(book) // SEALED
+        if not problems or whole <= len(problems) or self.common(book) <= self.common(best.book):
+            return None
+        how = f"{FORMS['hex'].what}{code}, a record in each line"
+        return Reading(book, how, "hex", problems=problems)
 
     def _look(self, reading: Reading) -> Reading:
         """What the bytes look like that were read."""

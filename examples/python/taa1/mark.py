@@ -199,7 +199,9 @@ class Marker:
         records = split(book, SEALED)
         keys = self.keys.mark(file) if file else KeySheet()
         follow = self._following(keys)
-        pairs = pair(records, self.model, self.places, self._signs, self._said, self._alike)
+        pairs = pair(
+            records, self.model, self.places, self._signs, self._said, self._alike, self._repeats
+        )
         refused: Optional[Refused] = None
         try:
             self.desk.call("open_book", self.ring.data, book)
@@ -300,6 +302,12 @@ class Marker:
     def _said(self, record: bytes) -> list[int]:
         """The entries whose kind, identity and version a record shows."""
         return self.said.get(record[:6], [])
+
+    def _repeats(self, record: bytes) -> set[int]:
+        """The entries whose right text or key a record has."""
+        key = self._open(record).key
+        places = {*self.fields.get(("text", record[6:]), ())}
+        return places.union(self.fields.get(("key", key), ()) if key else ())
 
     # ---- what explains it
 

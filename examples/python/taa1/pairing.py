@@ -5,6 +5,8 @@ from __future__ import annotations
 from bisect import bisect_left
 from typing import Callable, Iterable, Mapping, NamedTuple, Optional, Sequence
 
+BOTH = 2  # of a record that is alike in kind and version
+
 
 class Pairs(NamedTuple):
     """For each record the model's entry that it is, or is most like; of the others, the
@@ -22,13 +24,15 @@ def pair(
     signs: Callable[[bytes], dict[int, int]],
     attempt: Callable[[bytes], Iterable[int]],
     alike: Callable[[bytes, int], int],
+    repeats: Callable[[bytes], Iterable[int]] = lambda record: (),
 ) -> Pairs:
     """Pairs records with the model's, whose places are known: equal ones, then those with
     signs of an entry, by their weight and in its own place first, then those that are
     alike, then in order.
 
     `attempt` has the entries that a record says it is. If all of those are taken, it is
-    a further attempt.
+    a further attempt. So is a record that has what `repeats` says is the right text or
+    key of entries, if those have their record and nothing in it is another entry's.
     """
     entries = {i: i for i, (a, b) in enumerate(zip(records, model)) if a == b}
     free = set(range(len(model))) - set(entries)
@@ -50,6 +54,14 @@ def pair(
             else:
                 again[index] = places[record][0]
     seen = {index: signs(records[index]) for index in others}
+    done = set(entries.values())
+    attempts = {}
+    for index in others:
+        repeated = sorted(repeats(records[index]))
+        other = any(alike(records[index], place) == BOTH for place in free)
+        if repeated and not other and done.issuperset(repeated) and done.issuperset(seen[index]):
+            attempts[index] = repeated[0]
+    others = [index for index in others if index not in attempts]
     for index in others:
         if seen[index] and seen[index].get(index) == max(seen[index].values()):
             take(index, index)
@@ -62,7 +74,6 @@ def pair(
     ]
     for _, _, index, place in sorted(weighed):
         take(index, place)
-    attempts = {}
     for index in [index for index in others if index not in entries]:
         said = list(attempt(records[index]))
         if said and not free.intersection(said):

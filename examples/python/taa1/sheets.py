@@ -186,6 +186,8 @@ def too_many(sheet: Sheet) -> list[str]:
     costs = f", which cost{'s' * (sheet.extra == 1)} {points_said(cost)}" if cost else ""
     records = len(sheet.entries) + sheet.again
     there = f"{records} records, where the model has {sheet.size} entries"
+    if records <= sheet.size:
+        there = "further attempts at entries that have their record"
     return [f"{plural(sheet.extra, 'extra record')}{costs}: {there}"]
 
 

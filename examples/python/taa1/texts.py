@@ -161,6 +161,8 @@ def parse_sitting(data: bytes, where: str) -> tuple[Sitting, Heading]:
     """The sitting in a file's content, and its heading: names, or the bytes that makering
     reads, also in hexadecimal, which have no heading."""
     text = as_text(data)
+    if text and is_lines(text) and not is_names(text):
+        raise Problem(f"{where}: {BOOK_LINES}, where a sitting is wanted")
     if text and "=" not in text:
         data, text = from_hex(text, where), None
     if len(data) == SITTING_BYTES and not text:
@@ -190,6 +192,8 @@ def read_ring(desk: Desk, name: str) -> Ring:
     """
     where, data = place(name), read(name)
     text = as_text(data)
+    if text and is_lines(text) and not is_names(text):
+        raise Problem(f"{where}: {BOOK_LINES}, where a ring or a sitting is wanted")
     if text and "=" not in text:
         data, text = from_hex(text, where), None
     if len(data) in (RING, RING_MADE_BYTES) and not text:
@@ -232,6 +236,8 @@ def _masks_said(refused: Refused, sitting: Sitting) -> str:
 # ---- books
 
 _WORDS = ("kind", "identity", "version", "key", "number")
+BOOK_LINES = "this is a plain book in lines"
+NAMES = "this has the names of a sitting or a ring"
 _FORM = "an entry is `kind K identity I version V key HEX number N`, in any order"
 
 
@@ -239,6 +245,13 @@ def is_lines(text: str) -> bool:
     """Whether a text is a book in lines."""
     first = next((line for _, line in lines_of(text)), "")
     return not {"entry", "entries", *_WORDS}.isdisjoint(first.lower().split())
+
+
+def is_names(text: str) -> bool:
+    """Whether a text is a sitting's or a ring's names and values."""
+    name, equals, _ = next((line for _, line in lines_of(text)), "").partition("=")
+    known = {each.name for each in (*SITTING, *HEADING, *RING_NAMES)}
+    return bool(equals) and name.strip().lower() in known
 
 
 def _fields(words: list[str]) -> dict[str, list[str]]:
@@ -315,6 +328,7 @@ def parse_lines(desk: Desk, text: str, where: str) -> bytes:
     records: list[bytes] = []
     wrong: list[str] = []
     count: Optional[int] = None
+    behind = 0  # how far the lines' own numbers are behind, once that is said
     for number, line in lines_of(text):
         words = line.split()
         try:
@@ -325,11 +339,15 @@ def parse_lines(desk: Desk, text: str, where: str) -> bytes:
                 if count != len(records):
                     raise ValueError(f"entries {count}, where there are {len(records)}")
                 continue
+            if {"entry", *_WORDS}.isdisjoint(map(str.lower, words)):
+                raise ValueError(f"{words[0]!r} is no word of an entry: {_FORM}")
             records.append(b"")
             fields = _fields(words)
-            index = " ".join(fields.pop("entry", [str(len(records) - 1)]))
-            if index != str(len(records) - 1):
-                raise ValueError(f"entry {index!r}, where entry {len(records) - 1} stands")
+            wanted = str(len(records) - 1 + behind)
+            index = " ".join(fields.pop("entry", [wanted]))
+            if index != wanted:
+                behind += int(index[:9]) - int(wanted) if re.fullmatch("[0-9]+", index) else 0
+                raise ValueError(f"entry {index!r}, where entry {wanted} stands")
             record = _entry(fields).data
             desk.call("check_plain", record)
             records[-1] = record
@@ -355,6 +373,8 @@ def read_plain(desk: Desk, name: str, raw: bool = False) -> bytes:
     """A well-formed plain book, in lines, hexadecimal or bytes."""
     where, data = place(name), read(name)
     text = None if raw else as_text(data)
+    if text and is_names(text):
+        raise Problem(f"{where}: {NAMES}, where a plain book is wanted")
     if text and (is_lines(text) or not any(lines_of(text))):
         data = parse_lines(desk, text_of(data, where), where)
     elif text:
@@ -362,6 +382,16 @@ def read_plain(desk: Desk, name: str, raw: bool = False) -> bytes:
     with refusals(where):
         desk.call("check_plain", data)
     return data
+
+
+def read_sealed(name: str, raw: bool = False) -> bytes:
+    """A sealed book's bytes, in hexadecimal or as they are."""
+    data = read(name)
+    text = None if raw else as_text(data)
+    if text and (is_lines(text) or is_names(text)):
+        what = NAMES if is_names(text) else BOOK_LINES
+        raise Problem(f"{place(name)}: {what}, where a sealed book is wanted")
+    return data if text is None else from_hex(text, place(name))
 
 
 # ---- lineage sheets
