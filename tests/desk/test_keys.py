@@ -194,10 +194,10 @@ class Schemes(unittest.TestCase):
     def test_signs(self) -> None:
         """No fault is rewarded, nothing right costs, and a share is no more than all."""
         for line, wanted in (
-            ("extra = 1", "0 or less, since it costs"),
-            ("order = 1/2", "0 or less, since it costs"),
-            ("follow-through = 2", "0 to 1, a share"),
-            ("follow-through = -1/2", "0 to 1, a share"),
+            ("extra = 1", "0 or less"),
+            ("order = 1/2", "0 or less"),
+            ("follow-through = 2", "0 to 1"),
+            ("follow-through = -1/2", "0 to 1"),
             ("entry = -1", "0 or more"),
             ("D = -1", "0 or more"),
         ):

@@ -98,9 +98,9 @@ def _beyond(name: str, points: Fraction) -> str:
     wanted = "0 or more"
     good = points >= 0
     if name in COSTS:
-        wanted, good = "0 or less, since it costs", points <= 0
+        wanted, good = "0 or less", points <= 0
     elif name == SHARE:
-        wanted, good = "0 to 1, a share", 0 <= points <= 1
+        wanted, good = "0 to 1", 0 <= points <= 1
     return "" if good else f"{name}: {said(points)}, where {wanted} is wanted"
 
 
