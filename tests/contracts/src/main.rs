@@ -1,19 +1,21 @@
 //! Reads the crates' sources: each public function has an `ensures` and no
 //! `requires`, one that stays in its crate is `pub(crate)`, what hosts call cites
 //! definitions of `standard` alone, and docs/READING.md has the table of the public
-//! ones and that of what they cite outside `standard`. The claims of docs/ARGUMENT.md
-//! are those of the crate `claims`.
+//! ones, that of what they cite outside `standard`, and that of the must-fail edits.
+//! The claims of docs/ARGUMENT.md are those of the crate `claims`.
 //!
 //!     contracts          checks; the last line: N passed, M failed
 //!     contracts table    prints the tables
 
 mod claims;
+mod edits;
 
 use std::fs;
 use std::path::Path;
 use std::process::ExitCode;
 
-const HEADING: &str = "## Functions that other crates can call\n";
+const FUNCTIONS: &str = "## Functions that other crates can call\n";
+const EDITS: &str = "## Edits that must be refused\n";
 
 /// A public function's path and contract.
 struct Function {
@@ -278,15 +280,29 @@ fn main() -> ExitCode {
     let root = Path::new(env!("CARGO_MANIFEST_DIR")).join("../..");
     let mut all = Vec::new();
     let mut odd = Vec::new();
+    let mut refused = Vec::new();
     for line in read(&root.join("crates.txt")).lines() {
-        let name = line.split([' ', ':']).next().unwrap_or("");
-        let folder = root.join("crates").join(name).join("src");
-        if !name.is_empty() && folder.join("lib.rt").exists() {
-            odd.extend(of_crate(name, &folder, &mut all));
+        let name = line.split([' ', ':', '#']).next().unwrap_or("");
+        if name.is_empty() {
+            continue;
         }
+        let folder = root.join("crates").join(name);
+        if folder.join("src/lib.rt").exists() {
+            odd.extend(of_crate(name, &folder.join("src"), &mut all));
+        }
+        let (edits, faults) = edits::of_crate(name, &folder.join("must-fail"));
+        refused.extend(edits);
+        odd.extend(faults);
     }
+    let tables = [
+        (EDITS, edits::table(&refused)),
+        (FUNCTIONS, outside(&all)),
+        (FUNCTIONS, table(&all)),
+    ];
     if print {
-        print!("{}\n{}", table(&all), outside(&all));
+        for (_, table) in &tables {
+            println!("{table}");
+        }
         return ExitCode::SUCCESS;
     }
 
@@ -306,10 +322,12 @@ fn main() -> ExitCode {
     }
     let passed = all.len() - failed;
     let guide = read(&root.join("docs/READING.md"));
-    let section = guide.split_once(HEADING).map_or("", |(_, rest)| rest);
-    let shown = section.split("\n## ").next().unwrap_or("");
-    let right = shown.contains(&table(&all)) && shown.contains(&outside(&all));
-    if !right {
+    let missing = tables.iter().filter(|(heading, table)| {
+        let section = guide.split_once(heading).map_or("", |(_, rest)| rest);
+        !section.split("\n## ").next().unwrap_or("").contains(table)
+    });
+    let missing = missing.count();
+    if missing != 0 {
         println!("a table in docs/READING.md differs; `contracts table` prints the right ones");
     }
     let folder = root.join("crates/claims");
@@ -321,8 +339,8 @@ fn main() -> ExitCode {
     for fault in &faults {
         println!("docs/ARGUMENT.md: {fault}");
     }
-    let passed = passed + usize::from(right) + claimed;
-    let failed = failed + odd.len() + usize::from(!right) + faults.len();
+    let passed = passed + tables.len() - missing + claimed;
+    let failed = failed + odd.len() + missing + faults.len();
     println!("{passed} passed, {failed} failed");
     ExitCode::from(u8::from(failed != 0))
 }
