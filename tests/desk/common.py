@@ -12,11 +12,11 @@ from contextlib import redirect_stderr, redirect_stdout
 from pathlib import Path
 from typing import Any, NamedTuple, Optional
 
-from taa1.cli import main
-from taa1.desk import Desk
 from taa1.engine import Sitting
-from taa1.records import PLAIN, Entry, Ring, split
-from taa1.texts import parse_lines, read_sitting
+from taa1_desk.cli import main
+from taa1_desk.desk import Desk
+from taa1_desk.records import PLAIN, Entry, Ring, split
+from taa1_desk.texts import parse_lines, read_sitting
 
 ROOT = Path(__file__).resolve().parents[2]
 COMMAND = [sys.executable, "-W", "error", str(ROOT / "taa1")]

@@ -7,7 +7,7 @@ import unittest
 from pathlib import Path
 
 HERE = Path(__file__).resolve().parent
-sys.path.insert(0, str(HERE.parents[1] / "examples" / "python"))
+sys.path[:0] = [str(HERE.parents[1] / folder) for folder in ("python", "desk")]
 
 
 def main() -> int:

@@ -14,13 +14,13 @@ import time
 from pathlib import Path
 
 ROOT = Path(__file__).resolve().parents[2]
-sys.path.insert(0, str(ROOT / "examples" / "python"))
+sys.path[:0] = [str(ROOT / folder) for folder in ("python", "desk")]
 
-from taa1.desk import Desk  # noqa: E402
-from taa1.mark import Marker  # noqa: E402
-from taa1.records import KINDS, SEALED, Entry  # noqa: E402
-from taa1.slips import SLIPS, work  # noqa: E402
-from taa1.texts import read_sitting  # noqa: E402
+from taa1_desk.desk import Desk  # noqa: E402
+from taa1_desk.mark import Marker  # noqa: E402
+from taa1_desk.records import KINDS, SEALED, Entry  # noqa: E402
+from taa1_desk.slips import SLIPS, work  # noqa: E402
+from taa1_desk.texts import read_sitting  # noqa: E402
 
 SITTING = ROOT / "samples" / "class" / "sitting.txt"
 DRAW = random.Random(1)

@@ -8,16 +8,16 @@ from typing import Any
 from unittest import mock
 
 from common import CLASS, DESK, ENTRIES, PLAIN_BOOK, RING, ROOT, SITTING, Case, here, seal, taa1
-from taa1.argue import argument_sheet
-from taa1.claims import CLAIMS
-from taa1.document import as_page, as_text
 from taa1.engine import Sitting
-from taa1.instances import INSTANCES, PROOF, Instance, Instances
-from taa1.names import both
-from taa1.page import grouped
-from taa1.records import PLAIN, SEALED, Entry, split
-from taa1.texts import Heading
-from taa1.working import Steps
+from taa1_desk.argue import argument_sheet
+from taa1_desk.claims import CLAIMS
+from taa1_desk.document import as_page, as_text
+from taa1_desk.instances import INSTANCES, PROOF, Instance, Instances
+from taa1_desk.names import both
+from taa1_desk.page import grouped
+from taa1_desk.records import PLAIN, SEALED, Entry, split
+from taa1_desk.texts import Heading
+from taa1_desk.working import Steps
 
 INPUTS = (CLASS / "sitting.txt", CLASS / "model.txt")
 KIND1 = PLAIN_BOOK[:PLAIN]  # a book of kind 1 alone

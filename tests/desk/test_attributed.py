@@ -10,12 +10,12 @@ import said
 from common import DESK
 from exams import Exam
 from planted import KeyFile, OpenedBook, SealedBook, key_files, opened_books, sealed_books
-from taa1.forms import text_of
-from taa1.keysheet import parse
-from taa1.mark import Marker, Sheet
-from taa1.opened import OpenedMarker
-from taa1.sheets import sheet_text
-from taa1.texts import parse_sitting
+from taa1_desk.forms import text_of
+from taa1_desk.keysheet import parse
+from taa1_desk.mark import Marker, Sheet
+from taa1_desk.opened import OpenedMarker
+from taa1_desk.sheets import sheet_text
+from taa1_desk.texts import parse_sitting
 
 
 @lru_cache(maxsize=None)

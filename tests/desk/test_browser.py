@@ -11,10 +11,10 @@ from typing import ClassVar
 
 from browser import MARGIN, MISSING, PHONE, POINTS, SCREEN, Browser, pictures, poppler, printed
 from common import CLASS, DESK, RING, SITTING, seal, taa1
-from taa1.page import page, tag, text
-from taa1.pictures import FILLINGS, HEIGHT, STYLE, Part, bar, fillings
-from taa1.records import SEALED, split
-from taa1.working import Steps, xor
+from taa1_desk.page import page, tag, text
+from taa1_desk.pictures import FILLINGS, HEIGHT, STYLE, Part, bar, fillings
+from taa1_desk.records import SEALED, split
+from taa1_desk.working import Steps, xor
 
 HEADING = "title = Key management, the winter paper\ndate = 3 December\n"
 BOOK = CLASS / "model.txt"

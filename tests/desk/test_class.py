@@ -10,9 +10,9 @@ from fractions import Fraction
 from typing import Any
 
 from common import CLASS, PLAIN_BOOK, ROOT, Case, seal, taa1
-from taa1 import pictures
-from taa1.records import PLAIN, SEALED, Entry, split
-from taa1.results import COUNTED
+from taa1_desk import pictures
+from taa1_desk.records import PLAIN, SEALED, Entry, split
+from taa1_desk.results import COUNTED
 
 INPUTS = (CLASS / "sitting.txt", CLASS / "model.txt")
 MODEL = split(seal(), SEALED)

@@ -12,17 +12,16 @@ import shutil
 import subprocess
 import sys
 from contextlib import nullcontext
-from pathlib import Path
 from typing import Any
 from unittest import mock
 
 from common import CLASS, COMMAND, DESK, PLAIN_BOOK, RING, ROOT, SITTING, Case, Run, here, seal, taa1
 from taa1 import __version__
-from taa1.cli import parser
 from taa1.engine import NAMES, Refused
-from taa1.files import MOST_BYTES, Problem, write_file
-from taa1.overview import EXAMPLES
-from taa1.texts import sitting_bytes
+from taa1_desk.cli import parser
+from taa1_desk.files import MOST_BYTES, Problem, write_file
+from taa1_desk.overview import EXAMPLES
+from taa1_desk.texts import sitting_bytes
 
 INPUTS = (CLASS / "sitting.txt", CLASS / "model.txt")
 SEALED_BOOK = seal()
@@ -228,7 +227,7 @@ class Good(Case):
         """A new file takes no other's place, also where a file may have one name only."""
         name = self.folder / "new"
         for fails in (False, True):
-            patched = mock.patch("taa1.files.os.link", side_effect=PermissionError(1, "not permitted"))
+            patched = mock.patch("taa1_desk.files.os.link", side_effect=PermissionError(1, "not permitted"))
             with patched if fails else nullcontext():
                 write_file(str(name), b"first", private=True, new=True)
                 with self.assertRaisesRegex(Problem, "it is there already"):
@@ -522,9 +521,8 @@ class Types(Case):
             if found is None:
                 self.skipTest("no mypy")
             command = [found]
-        package = Path("examples") / "python" / "taa1"
         done = subprocess.run(
-            [*command, "--strict", "--cache-dir", str(self.folder), str(package)],
-            cwd=ROOT, capture_output=True, check=False,
+            [*command, "--strict", "--cache-dir", str(self.folder), "python/taa1", "desk/taa1_desk"],
+            cwd=ROOT, env={**os.environ, "MYPYPATH": "python:desk"}, capture_output=True, check=False,
         )  # fmt: skip
         self.assertEqual(done.returncode, 0, done.stdout.decode())

@@ -8,8 +8,8 @@ import unittest
 
 import examples
 from common import CLASS, ROOT, Case
-from taa1 import cli
-from taa1.slips import SLIPS
+from taa1_desk import cli
+from taa1_desk.slips import SLIPS
 
 
 class Docs(unittest.TestCase):

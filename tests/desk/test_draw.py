@@ -3,9 +3,9 @@
 from __future__ import annotations
 
 from common import CLASS, Case
-from taa1.draw import draw_book, draw_kinds
-from taa1.names import KIND_NAMES
-from taa1.records import KINDS, PLAIN, Entry, split
+from taa1_desk.draw import draw_book, draw_kinds
+from taa1_desk.names import KIND_NAMES
+from taa1_desk.records import KINDS, PLAIN, Entry, split
 
 
 class Books(Case):

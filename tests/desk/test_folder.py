@@ -7,14 +7,14 @@ import stat
 from unittest import mock
 
 from common import Case
-from taa1.files import Problem, write_file, write_folder
+from taa1_desk.files import Problem, write_file, write_folder
 
 OLD = {"a": b"old a", "b": b"old b"}
 NEW = {"a": b"new a", "b": b"new b", "c": b"new c"}
 
 
 class Folder(Case):
-    """taa1.files.write_folder."""
+    """taa1_desk.files.write_folder."""
 
     def content(self) -> dict[str, bytes]:
         """What is in the folder."""
@@ -40,7 +40,7 @@ class Folder(Case):
                         raise error
                     rename(*args)  # type: ignore[arg-type]
 
-                with mock.patch("taa1.files.os.rename", failing):
+                with mock.patch("taa1_desk.files.os.rename", failing):
                     with self.assertRaises((Problem, KeyboardInterrupt)):
                         write_folder(str(self.folder), NEW)
                 self.assertEqual(self.content(), OLD)

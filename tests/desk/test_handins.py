@@ -13,13 +13,13 @@ from typing import Any
 import planted
 from common import CLASS, DESK, ENTRIES, PLAIN_BOOK, SITTING, Case, here, seal
 from taa1.engine import Sitting
-from taa1.files import MOST_BYTES
-from taa1.forms import FORMS
-from taa1.handins import NO_BOOK, Reader, page_names
-from taa1.mark import Marker
-from taa1.records import SEALED, split
-from taa1.sheets import others
-from taa1.texts import format_lines
+from taa1_desk.files import MOST_BYTES
+from taa1_desk.forms import FORMS
+from taa1_desk.handins import NO_BOOK, Reader, page_names
+from taa1_desk.mark import Marker
+from taa1_desk.records import SEALED, split
+from taa1_desk.sheets import others
+from taa1_desk.texts import format_lines
 
 INPUTS = (CLASS / "sitting.txt", CLASS / "model.txt")
 BOOK = seal()

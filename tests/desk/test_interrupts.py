@@ -11,7 +11,7 @@ from types import FrameType
 from typing import Any, Callable, Optional
 
 from common import CLASS, COMMAND, ROOT, Case
-from taa1 import files
+from taa1_desk import files
 
 OLD = {"a.html": b"old a", "b.html": b"old b", "unwanted.html": b"old"}
 NEW = {"a.html": b"new a", "b.html": b"new b", "c.html": b"new c"}
@@ -115,7 +115,7 @@ class Command(Case):
 
     def test_importing(self) -> None:
         """From our first line on."""
-        for module in ("taa1", "taa1.engine", "ctypes", "argparse", "taa1.cli", "taa1.slips"):
+        for module in ("taa1", "taa1.engine", "ctypes", "argparse", "taa1_desk.cli", "taa1_desk.slips"):
             with self.subTest(module):
                 command = [sys.executable, "-c", IMPORTING, module, str(ROOT / "taa1"), "slips"]
                 done = subprocess.run(command, capture_output=True, check=False, timeout=60)

@@ -7,15 +7,15 @@ import unittest
 from fractions import Fraction
 
 from common import CLASS, DESK, ENTRIES, LINES, PLAIN_BOOK, RING, SITTING, Case, seal, taa1
-from taa1.keysheet import KeyFile, parse
-from taa1.mark import Marker
-from taa1.records import SEALED, split
-from taa1.results import key_result
-from taa1.scheme import DEFAULT, Points, said, score
-from taa1.scheme import parse as parse_scheme
-from taa1.sheets import sheet_text, summary
-from taa1.slips import SLIPS
-from taa1.working import KEYS, Steps
+from taa1_desk.keysheet import KeyFile, parse
+from taa1_desk.mark import Marker
+from taa1_desk.records import SEALED, split
+from taa1_desk.results import key_result
+from taa1_desk.scheme import DEFAULT, Points, said, score
+from taa1_desk.scheme import parse as parse_scheme
+from taa1_desk.sheets import sheet_text, summary
+from taa1_desk.slips import SLIPS
+from taa1_desk.working import KEYS, Steps
 
 MARKER = Marker(DESK, SITTING, PLAIN_BOOK)
 MODEL = MARKER.model

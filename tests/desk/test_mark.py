@@ -12,11 +12,11 @@ from common import CLASS, DESK, ENTRIES, PLAIN_BOOK, ROOT, Case, taa1
 from common import SITTING as SAMPLE
 from common import seal as sealed_under
 from taa1.engine import Sitting
-from taa1.mark import Marker, Sheet
-from taa1.records import KINDS, SEALED, Entry, Ring, split
-from taa1.slips import SLIPS, work
-from taa1.texts import read_sitting, sitting_bytes
-from taa1.working import STEPS
+from taa1_desk.mark import Marker, Sheet
+from taa1_desk.records import KINDS, SEALED, Entry, Ring, split
+from taa1_desk.slips import SLIPS, work
+from taa1_desk.texts import read_sitting, sitting_bytes
+from taa1_desk.working import STEPS
 
 # The sample's masks are the same from either end.
 SITTING = SAMPLE._replace(response_mask=0x1221, key_mask=0x4DDE)

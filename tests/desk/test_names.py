@@ -3,16 +3,16 @@
 from __future__ import annotations
 
 from common import DESK, ENTRIES, RING, Case, taa1
-from taa1 import names
 from taa1.calls import CALLS
 from taa1.engine import Refused
-from taa1.model import STEPS
-from taa1.records import KINDS
-from taa1.texts import SITTING
+from taa1_desk import names
+from taa1_desk.model import STEPS
+from taa1_desk.records import KINDS
+from taa1_desk.texts import SITTING
 
 
 class Names(Case):
-    """taa1.names, and taa1 help kinds."""
+    """taa1_desk.names, and taa1 help kinds."""
 
     def test_kinds(self) -> None:
         """Each kind's highest number is accepted, and one above it is not."""

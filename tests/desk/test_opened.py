@@ -6,15 +6,15 @@ import json
 import unittest
 
 from common import CLASS, DESK, ENTRIES, LINES, PLAIN_BOOK, RING, SITTING, Case, seal, taa1
-from taa1.damage import Damage, damaged
-from taa1.files import Problem
-from taa1.keysheet import KeyFile
-from taa1.mark import Sheet
-from taa1.opened import OpenedMarker
-from taa1.records import KINDS, PLAIN, SEALED, split
-from taa1.sheets import sheet_text
-from taa1.slips import OPENING_SLIPS, SLIPS, opened
-from taa1.working import Steps
+from taa1_desk.damage import Damage, damaged
+from taa1_desk.files import Problem
+from taa1_desk.keysheet import KeyFile
+from taa1_desk.mark import Sheet
+from taa1_desk.opened import OpenedMarker
+from taa1_desk.records import KINDS, PLAIN, SEALED, split
+from taa1_desk.sheets import sheet_text
+from taa1_desk.slips import OPENING_SLIPS, SLIPS, opened
+from taa1_desk.working import Steps
 
 SEALED_BOOK = seal()
 DAMAGED = damaged(DESK, RING, ENTRIES, SEALED_BOOK, [Damage(2, 4), Damage(6)])

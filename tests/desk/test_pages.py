@@ -12,11 +12,11 @@ from typing import Optional
 from urllib.parse import unquote_to_bytes
 
 from common import CLASS, DESK, RING, SITTING, Case, seal, taa1
-from taa1.beside import differing
-from taa1.page import grouped
-from taa1.records import SEALED, split
-from taa1.slips import RING_SLIPS
-from taa1.working import Steps
+from taa1_desk.beside import differing
+from taa1_desk.page import grouped
+from taa1_desk.records import SEALED, split
+from taa1_desk.slips import RING_SLIPS
+from taa1_desk.working import Steps
 
 CANDIDATES = ("ann", "ben", "cho", "dee", "eve", "fay")
 VOID = {"meta", "rect", "path", "line", "br", "wbr"}

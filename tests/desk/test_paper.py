@@ -8,15 +8,15 @@ from html import unescape
 from unittest import mock
 
 from common import CLASS, DESK, ENTRIES, LINES, PLAIN_BOOK, SITTING, Case, here, taa1
-from taa1 import paper
-from taa1.document import Document, as_page, as_text
 from taa1.engine import Sitting
-from taa1.model import model_answer
-from taa1.names import both
-from taa1.page import grouped
-from taa1.records import PLAIN, SEALED, split
-from taa1.texts import Heading, format_lines, format_sitting, sitting_bytes
-from taa1.working import Steps
+from taa1_desk import paper
+from taa1_desk.document import Document, as_page, as_text
+from taa1_desk.model import model_answer
+from taa1_desk.names import both
+from taa1_desk.page import grouped
+from taa1_desk.records import PLAIN, SEALED, split
+from taa1_desk.texts import Heading, format_lines, format_sitting, sitting_bytes
+from taa1_desk.working import Steps
 from test_pages import Page
 
 INPUTS = (CLASS / "sitting.txt", CLASS / "model.txt")

@@ -6,9 +6,9 @@ import random
 import unittest
 
 from common import DESK, ENTRIES, PLAIN_BOOK, SITTING
-from taa1.mark import Marker
-from taa1.records import SEALED
-from taa1.sheets import MOST_LINES, failed_checks, sheet_text, spans
+from taa1_desk.mark import Marker
+from taa1_desk.records import SEALED
+from taa1_desk.sheets import MOST_LINES, failed_checks, sheet_text, spans
 
 MARKER = Marker(DESK, SITTING, PLAIN_BOOK)
 MODEL = MARKER.model

@@ -6,8 +6,8 @@ import re
 
 from common import CLASS, DESK, ENTRIES, LINES, PLAIN_BOOK, RING, SITTING, Case, taa1
 from taa1.engine import NAMES
-from taa1.records import KINDS
-from taa1.texts import sitting_bytes
+from taa1_desk.records import KINDS
+from taa1_desk.texts import sitting_bytes
 
 NAMED = (CLASS / "sitting.txt").read_text()
 

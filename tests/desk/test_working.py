@@ -9,8 +9,8 @@ from typing import Any
 
 from common import DESK, ENTRIES, PLAIN_BOOK, ROOT, SITTING, seal
 from taa1.engine import Sitting
-from taa1.records import KINDS, SEALED, Ring, split
-from taa1.working import KEYS, S, S_INVERSE, STEPS, Steps
+from taa1_desk.records import KINDS, SEALED, Ring, split
+from taa1_desk.working import KEYS, S, S_INVERSE, STEPS, Steps
 
 DRAW = random.Random(33)
 PLAIN_STEPS = Steps(DESK)

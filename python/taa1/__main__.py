@@ -8,6 +8,11 @@ if __name__ == "__main__":
 
     import sys
 
-    from .cli import main
+    from .library import repository
+
+    if root := repository():
+        sys.path.append(str(root / "desk"))
+
+    from taa1_desk.cli import main
 
     sys.exit(main())

@@ -1,4 +1,4 @@
-"""Makes the package's wheel, for pip, with the standard library alone.
+"""Makes one wheel of the module and the desk, for pip, with the standard library alone.
 
 The engine's shared object goes along, and is made first where it is missing; so
 does program printtables, where it has been made.
@@ -14,6 +14,7 @@ from pathlib import Path
 from typing import Any, Optional
 
 HERE = Path(__file__).resolve().parent
+PACKAGES = (HERE / "taa1", HERE.parent / "desk" / "taa1_desk")
 sys.path.insert(0, str(HERE))
 
 from taa1 import __version__ as VERSION  # noqa: E402
@@ -40,7 +41,7 @@ if signal.getsignal(signal.SIGINT) is signal.default_int_handler:
 
 import sys
 
-from taa1.cli import main
+from taa1_desk.cli import main
 
 sys.exit(main())
 """
@@ -49,12 +50,15 @@ sys.exit(main())
 def contents() -> dict[str, bytes]:
     """Every file of the wheel but its list."""
     library.make()
-    root = library.repository()
-    found = {f"taa1/{path.name}": path.read_bytes() for path in sorted((HERE / "taa1").glob("*.py"))}
+    found = {
+        f"{package.name}/{path.name}": path.read_bytes()
+        for package in PACKAGES
+        for path in sorted(package.glob("*.py"))
+    }
     found[f"taa1/{library.NAME}"] = Path(library.find()).read_bytes()
-    printtables = root / "target" / "bin" / "printtables" if root else HERE
+    printtables = HERE.parent / "target" / "bin" / "printtables"
     if printtables.is_file():
-        found["taa1/printtables"] = printtables.read_bytes()
+        found["taa1_desk/printtables"] = printtables.read_bytes()
     found[f"{INFO}/METADATA"] = METADATA.encode()
     found[f"{INFO}/WHEEL"] = WHEEL.encode()
     found[f"{NAME}-{VERSION}.data/scripts/{NAME}"] = COMMAND.encode()
@@ -79,7 +83,7 @@ def build_wheel(
         for name, data in found.items():
             entry = zipfile.ZipInfo(name)
             entry.compress_type = zipfile.ZIP_DEFLATED
-            program = name == "taa1/printtables" or "/scripts/" in name
+            program = name == "taa1_desk/printtables" or "/scripts/" in name
             entry.external_attr = (0o100755 if program else 0o100644) << 16
             archive.writestr(entry, data)
     return made

@@ -11,9 +11,10 @@ from collections import defaultdict
 from dataclasses import replace
 from typing import Any, NamedTuple, Optional
 
+from taa1.engine import MOST_RECORDS, Refusal, Refused, Sitting
+
 from . import texts
 from .desk import Desk, RefusedFile
-from .engine import MOST_RECORDS, Refusal, Refused, Sitting
 from .explain import IDENTITY, KEY, TEXT, Found, Part, Table, exchanges, joined, under_own
 from .files import Problem, place
 from .forms import BYTES, FORMS, text_of

@@ -11,8 +11,9 @@ from itertools import permutations
 from os.path import commonprefix
 from typing import Any, Callable, Iterable, Iterator, Mapping, NamedTuple, Optional
 
+from taa1.engine import Sitting
+
 from .desk import Desk
-from .engine import Sitting
 from .records import PLAIN, SEALED, Entry, Ring, split
 from .working import (
     EXP3_GROUPS,

@@ -10,8 +10,9 @@ from __future__ import annotations
 import re
 from typing import Collection, Mapping, NamedTuple, Optional
 
+from taa1.engine import Sitting
+
 from .desk import Desk
-from .engine import Sitting
 from .explain import KEY, Found, Part, Table
 from .model import sides_of
 from .names import field

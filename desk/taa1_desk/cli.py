@@ -17,20 +17,21 @@ from pathlib import Path
 from typing import Any, Callable, NoReturn, Optional, Sequence, Union
 from urllib.parse import quote
 
-from . import __version__, candidates, draw, files, handins, keysheet, names, pages, paper
-from . import scheme, texts
+from taa1 import __version__
+from taa1.calls import CALLS, Call, Parameter
+from taa1.engine import MOST_RECORDS, Refused
+from taa1.library import LibraryError, repository
+
+from . import candidates, draw, files, handins, keysheet, names, pages, paper, scheme, texts
 from .argue import argument_sheet
-from .calls import CALLS, Call, Parameter
 from .classpage import class_page
 from .damage import Damage, damaged
 from .desk import Desk, RefusedFile, refusals
 from .document import Document, as_page, as_text
-from .engine import MOST_RECORDS, Refused
 from .exports import class_json, csv_text
 from .files import STANDARD, Problem, place, shown
 from .forms import BYTES, FORMS, text_of
 from .handins import Reader
-from .library import PACKAGE, LibraryError, repository
 from .mark import Marker
 from .model import model_answer, model_json, model_text
 from .opened import OpenedMarker
@@ -45,6 +46,7 @@ ACCEPTED, REFUSED, WRONG_USE = 0, 1, 2
 LENGTH = 11  # the refusal of an input of another length
 INDEX = "index.html"  # the class's page
 MOST_ROOM = 1 << 20  # bytes of an output that `call` makes
+PRINTTABLES = Path(__file__).resolve().parent / "printtables"  # where the desk is installed
 
 
 class Parser(argparse.ArgumentParser):
@@ -429,7 +431,7 @@ def run_schedule(args: argparse.Namespace) -> int:
 def run_tables(args: argparse.Namespace) -> int:
     """The tables that program printtables prints."""
     root = repository()
-    places = [PACKAGE / "printtables"] + ([root / "target/bin/printtables"] if root else [])
+    places = [PRINTTABLES] + ([root / "target/bin/printtables"] if root else [])
     program = next((place for place in places if place.is_file()), None)
     if program is None:
         raise Problem(f"{places[-1]}: not there; rt check printtables makes it")

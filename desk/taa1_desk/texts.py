@@ -9,9 +9,10 @@ from __future__ import annotations
 import re
 from typing import Any, Callable, Iterator, NamedTuple, Optional
 
-from .calls import CALLS
+from taa1.calls import CALLS
+from taa1.engine import MOST_RECORDS, Refusal, Refused, Sitting
+
 from .desk import Desk, RefusedFile, refusals
-from .engine import MOST_RECORDS, Refusal, Refused, Sitting
 from .files import Problem, from_hex, place, read
 from .files import text as as_text
 from .names import KIND_NAMES

@@ -1,4 +1,4 @@
-"""The TAA1 engine for Python hosts (`engine`), and the desk over it (`cli`)."""
+"""The TAA1 engine for Python hosts."""
 
 from .engine import *  # every public name of the module is the package's
 from .library import LibraryError as LibraryError

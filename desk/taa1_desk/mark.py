@@ -12,8 +12,9 @@ from collections import Counter, defaultdict
 from dataclasses import dataclass
 from typing import Iterable, NamedTuple, Optional, Sequence, Union
 
+from taa1.engine import Refused, Sitting
+
 from .desk import Desk
-from .engine import Refused, Sitting
 from .explain import IDENTITY, KEY, TEXT, Found, Part, Table, exchanges, joined, under_own
 from .keysheet import KeyFile, KeyMarker, KeySheet, own_keys
 from .pairing import Pairs, out_of_order, pair

@@ -1,6 +1,6 @@
 """Calls everything in the module: results, refusals and values of wrong types.
 
-    TAA1_LIBRARY=target/libtaa1.so python3 examples/python/test_taa1.py
+    TAA1_LIBRARY=target/libtaa1.so python3 python/test_taa1.py
 """
 
 from __future__ import annotations

@@ -8,9 +8,10 @@ from __future__ import annotations
 
 from typing import Any, Iterator, NamedTuple, Sequence
 
+from taa1.engine import Sitting
+
 from .desk import Desk
 from .document import Block, Boxes, Document, Fields, Head, Lines, Pairs, Table, Together, Words
-from .engine import Sitting
 from .files import Problem
 from .model import STEPS, model_answer, sitting_values
 from .names import IN_SITTING, KIND_NAMES, both, sealing

@@ -8,8 +8,9 @@ from __future__ import annotations
 
 from typing import Any, Callable, NamedTuple, Optional
 
+from taa1.engine import Sitting
+
 from .desk import Desk
-from .engine import Sitting
 from .files import Problem
 from .names import KIND_NAMES, both, field, sealing
 from .page import Code, grouped

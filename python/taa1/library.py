@@ -21,7 +21,7 @@ class LibraryError(OSError):
 def repository() -> Path | None:
     """The root of the repository that this package stands in, if it does."""
     roots = PACKAGE.parents
-    root = roots[2] if len(roots) > 2 else PACKAGE
+    root = roots[1] if len(roots) > 1 else PACKAGE
     return root if (root / "crates" / "engine").is_dir() else None
 
 

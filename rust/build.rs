@@ -31,7 +31,7 @@ fn named(folder: PathBuf) -> PathBuf {
 
 /// The repository's folder, with an archive of the engine as it is now.
 fn made() -> PathBuf {
-    let root = Path::new(env!("CARGO_MANIFEST_DIR")).join("../..");
+    let root = Path::new(env!("CARGO_MANIFEST_DIR")).join("..");
     let here = root.join("crates/engine").is_dir();
     assert!(here, "set {FOLDER} to the folder with libengine.a; {HOW}");
     let archives = root.join("target/staticlib");

@@ -8,7 +8,7 @@ from __future__ import annotations
 
 from typing import NamedTuple, Optional
 
-from .values import IDENTITY
+IDENTITY = 6  # hexadecimal digits
 
 
 class Parameter(NamedTuple):

@@ -6,9 +6,9 @@ import ctypes
 from contextlib import contextmanager
 from typing import Any, Iterator, Optional
 
-from .calls import CALLS
-from .engine import MOST_RECORDS, Engine, KeyNumber, Refused, Version
-from .library import make
+from taa1.calls import CALLS
+from taa1.engine import MOST_RECORDS, Engine, KeyNumber, Refused, Version
+from taa1.library import make
 
 _TYPES: dict[str, Any] = {"version": Version, "number": KeyNumber}
 

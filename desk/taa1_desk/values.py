@@ -10,8 +10,10 @@ from __future__ import annotations
 
 from typing import Iterable
 
+from taa1.calls import IDENTITY as IDENTITY
+
 DIGITS = frozenset("0123456789abcdefABCDEF")
-IDENTITY, MASK = 6, 4  # digits
+MASK = 4  # digits, as an identity's
 
 
 def without_0x(text: str) -> str:

@@ -12,8 +12,9 @@ from inspect import signature
 from types import MethodType
 from typing import Any, Callable, Iterable, Mapping, NamedTuple, Optional
 
+from taa1.engine import Sitting
+
 from .desk import Desk
-from .engine import Sitting
 from .records import KINDS, Entry, Ring, whole
 
 Blocks = tuple[bytes, ...]

@@ -4,8 +4,9 @@ from __future__ import annotations
 
 from typing import Any, Optional
 
+from taa1.engine import Sitting
+
 from .desk import Desk, refusals
-from .engine import Sitting
 from .names import KIND_NAMES, SIDES, both, field, parameter_field, sealing
 from .records import KINDS, PLAIN, SEALED, Entry, Ring, split, whole
 from .texts import make_ring

@@ -2,10 +2,11 @@
 
 from __future__ import annotations
 
+from taa1.engine import Sitting
+
 from .claims import CLAIMS
 from .desk import Desk
 from .document import Block, Boxes, Document, Fields, Head, Pairs, Table, Together, Words
-from .engine import Sitting
 from .instances import Instances
 from .texts import Heading
 

@@ -15,7 +15,8 @@ from collections import Counter
 from itertools import count
 from typing import Callable, Container, Mapping, NamedTuple, Optional, Sequence
 
-from .engine import Refused
+from taa1.engine import Refused
+
 from .files import STANDARD, Problem, place, reason
 from .forms import BYTES, FORMS, rows, text_of
 from .keysheet import KeyFile

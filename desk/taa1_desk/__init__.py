@@ -1,0 +1,1 @@
+"""The desk: the command `taa1` for setters, tutors and examiners, over the engine's calls."""
