@@ -10,7 +10,8 @@ from __future__ import annotations
 
 from collections import Counter, defaultdict
 from dataclasses import dataclass
-from typing import Iterable, NamedTuple, Optional, Sequence, Union
+from functools import partial
+from typing import Callable, Iterable, NamedTuple, Optional, Sequence, Union
 
 from taa1.engine import Refused, Sitting
 
@@ -341,10 +342,17 @@ class Marker:
             if (place, IDENTITY if field == IDENTITY else TEXT) in rest
         }
         others, borrowed = exchanges(alone, self.fields)
-        slips = [explained(f, entries, at)._replace(own=own_) for f, own_ in joined(found, own)]
-        slips += [explained(each, entries, at) for each in others]
-        slips += [explained(each, entries, at)._replace(own=True) for each in under]
+        said = partial(explained, wrong=entries, at=at, step=self._step)
+        slips = [said(each)._replace(own=own_) for each, own_ in joined(found, own)]
+        slips += [said(each) for each in others]
+        slips += [said(each)._replace(own=True) for each in under]
         return tuple(slips), {at[place]: fields for place, fields in borrowed.items()}
+
+    def _step(self, found: Found) -> tuple[str, str]:
+        """The step at which a slip happens, and its clause, by the entries that show it."""
+        places = {place for place, _ in found.parts if place != KEY}
+        seals = {KINDS[self.entries[place].kind].seal.upper() for place in places}
+        return found.slip.step_in(self.keys.sitting.sides, seals)
 
     def _explain_own(self, keys: KeySheet, wrong: dict[Part, bytes]) -> list[Found]:
         """The slips that give wrong entries under the candidate's own keys."""
@@ -386,8 +394,11 @@ def _state(pairs: Pairs, index: int) -> tuple[str, Optional[int]]:
     return "extra", pairs.attempts.get(index)
 
 
-def explained(found: Found, wrong: set[Part], at: dict[int, int]) -> Explained:
-    """A slip in the words of a sheet; the wrong parts of the entries are given."""
+def explained(
+    found: Found, wrong: set[Part], at: dict[int, int], step: Callable[[Found], tuple[str, str]]
+) -> Explained:
+    """A slip in the words of a sheet; the wrong parts of the entries are given, and what
+    says at which step it happens."""
     places = {place for place, _ in found.parts if place != KEY}
     kinds = {part for place, part in found.parts if place != KEY}
     all_of_them = all((p, part) in found.parts for p, part in wrong if p in places)
@@ -397,7 +408,7 @@ def explained(found: Found, wrong: set[Part], at: dict[int, int]) -> Explained:
         tuple(sorted(at[place] for place in places)),
         tuple(slip.name for slip in found.others),
         part,
-        found.slip.step,
+        step(found),
         tuple(name for name in KEYS if (KEY, name) in found.parts),
     )
 

@@ -9,6 +9,7 @@ from __future__ import annotations
 
 from collections import defaultdict
 from dataclasses import replace
+from functools import partial
 from typing import Any, NamedTuple, Optional
 
 from taa1.engine import MOST_RECORDS, Refusal, Refused, Sitting
@@ -300,11 +301,18 @@ class OpenedMarker:
         left = rest.difference(*(each.parts for each in own))
         others, borrowed = self._exchanged(answers, left & entries)
         at = {index: index for index in answers}
-        slips = [explained(f, entries, at)._replace(own=own_) for f, own_ in joined(found, own)]
-        slips += [explained(each, entries, at) for each in others]
+        worded = partial(explained, wrong=entries, at=at, step=self._step)
+        slips = [worded(each)._replace(own=own_) for each, own_ in joined(found, own)]
+        slips += [worded(each) for each in others]
         under = self.keys.explain(keys, rest)
-        slips += [explained(each, entries, at)._replace(own=True) for each in under]
+        slips += [worded(each)._replace(own=True) for each in under]
         return tuple(slips), borrowed
+
+    def _step(self, found: Found) -> tuple[str, str]:
+        """The step at which a slip happens, and its clause, by the entries that show it."""
+        places = {index for index, _ in found.parts if index != KEY}
+        unseals = {KINDS[self.truth[index].kind].unseal.upper() for index in places}
+        return found.slip.step_in(self.keys.sitting.sides, unseals)
 
     def _explain_own(
         self, keys: KeySheet, wrong: dict[Part, Any], invented: set[Part]

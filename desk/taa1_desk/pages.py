@@ -119,7 +119,8 @@ def _slips(sheet: Sheet) -> Html:
 def at_step(slip: Explained) -> str:
     """The step at which a slip happens, and where that stands."""
     step, clause = slip.step
-    return f"{step} ({'clause' if '.' in clause else 'document'} {clause})" if clause else step
+    what = "document" if "." not in clause else "clauses" if " and " in clause else "clause"
+    return f"{step} ({what} {clause})" if clause else step
 
 
 def _points(points: Points) -> Html:

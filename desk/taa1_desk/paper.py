@@ -234,8 +234,7 @@ def answer_form(of: Examination) -> Document:
 # ---- the solution
 
 _WHAT = {
-    step: (getattr(Steps, method).__doc__ or "").partition("\n")[0].rstrip(".")
-    for method, step in WORKED.items()
+    method: (getattr(Steps, method).__doc__ or "").partition("\n")[0].rstrip(".") for method in WORKED
 }
 # Steps that only hand on what they take.
 _PASSED_ON = {WORKED[method][0] for method in ("inputs", "entry", "sealed_as", "ring")}
@@ -259,7 +258,7 @@ def _output(step: Step) -> Any:
 
 def _what(step: Step) -> str:
     """What a step does, in words; of some also with which bytes."""
-    what = _WHAT[step.name, step.clause]
+    what = _WHAT[step.method]
     if step.name == "⊕ with a K-string":
         return f"{what}: {step.inputs['string'].hex()}"
     if step.name == "bytes chosen by a mask":

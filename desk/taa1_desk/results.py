@@ -11,7 +11,8 @@ from .keysheet import KeyMark
 from .mark import Explained, Marked, Sheet
 from .names import both
 from .scheme import Points, said
-from .sheets import listed, reason
+from .sheets import reason
+from .slips import listed
 
 WORDS = {1: "One", 2: "Two", 3: "Three", 4: "Four", 5: "Five"}
 

@@ -10,6 +10,7 @@ from .mark import Explained, Flags, Marked, Sheet
 from .records import KINDS, SEALED
 from .scheme import EXTRA, Points
 from .scheme import said as points_said
+from .slips import listed
 
 MOST_VALUES = 12  # lines of what is wrong with one book's entries that have values
 MOST_LINES = 24  # such lines
@@ -231,11 +232,6 @@ def explanation(slip: Explained, sheet: Sheet) -> str:
     what += [listed(slip.keys)] if slip.keys else []
     own = ", worked from the candidate's own keys" if slip.own else ""
     return f"{slip.name}{same}: explains {', and '.join(what)}{own}"
-
-
-def listed(words: Sequence[str]) -> str:
-    """Words with commas, and `and` before the last."""
-    return " and ".join(filter(None, (", ".join(words[:-1]), words[-1])))
 
 
 def keys_said(keys: KeySheet) -> list[str]:

@@ -9,7 +9,17 @@ from __future__ import annotations
 
 from itertools import permutations
 from os.path import commonprefix
-from typing import Any, Callable, Iterable, Iterator, Mapping, NamedTuple, Optional
+from typing import (
+    Any,
+    Callable,
+    Collection,
+    Iterable,
+    Iterator,
+    Mapping,
+    NamedTuple,
+    Optional,
+    Sequence,
+)
 
 from taa1.engine import Sitting
 
@@ -26,6 +36,7 @@ from .working import (
     Opened,
     Steps,
     Unsealed,
+    clause_of,
     groups,
     ring_of,
     summed,
@@ -37,6 +48,8 @@ Alteration = Callable[..., Any]
 
 DERIVING = ("TA11", "TA21", "TA41", "TA12", "TA22")
 SEALING = ("TA31", "TA51", "TA81", "TA91")
+# The algorithms that do not run, by the number of sides.
+IDLE: dict[int, tuple[str, ...]] = {1: ("TA21", "TA22"), 2: ("TA11", "TA12"), 3: ()}
 # The steps that no seal and no identity has.
 KEY_STEPS = {"inputs", "reversed_seed", "split", "chosen", "tb4", "tb7", "ring", "exp2", "last_byte"}
 KEY_STEPS |= {"listed"}
@@ -65,16 +78,23 @@ class Slip(NamedTuple):
     algorithms: tuple[str, ...] = ()  # those
     inputs: tuple[str, ...] = ()  # of the sitting, that it alters
 
-    @property
-    def step(self) -> tuple[str, str]:
-        """The step at which it happens, and its clause; of inputs, the steps that take them."""
-        taking = [method for method, taken in _TAKEN_BY.items() if {*taken} & {*self.inputs}]
+    def step_in(self, sides: int, algorithms: Collection[str] = ()) -> tuple[str, str]:
+        """The step at which it happens in a sitting of so many sides, and the clause; of
+        inputs, the steps that take them. A step that several algorithms have stands in the
+        clauses of those in which the slip shows."""
+        idle = {name.lower() for name in IDLE[sides]}
+        taking = [
+            method
+            for method, taken in _TAKEN_BY.items()
+            if {*taken} & {*self.inputs} and method not in idle
+        ]
         if not taking:
-            return STEPS[next(iter(self.altered), "record")]
-        names, clauses = zip(*(STEPS[method] for method in taking))
-        shared = commonprefix([clause.split(".") for clause in clauses])
-        most = ", ".join(names[:-1])
-        return f"{most} and {names[-1]}" if most else names[-1], ".".join(shared)
+            method = next(iter(self.altered), "record")
+            clauses = {clause_of(method, each) for each in algorithms} or {STEPS[method][1]}
+            return STEPS[method][0], listed(sorted(clauses, key=_numbers))
+        names, taken_in = zip(*(STEPS[method] for method in taking))
+        shared = commonprefix([clause.split(".") for clause in taken_in])
+        return listed(names), ".".join(shared)
 
     @property
     def kin(self) -> str:
@@ -91,6 +111,16 @@ class Slip(NamedTuple):
         """Whether it can alter nothing but keys."""
         limited = bool(self.algorithms) and set(self.algorithms) <= set(DERIVING)
         return limited or set(self.altered) <= KEY_STEPS
+
+
+def listed(words: Sequence[str]) -> str:
+    """Words with commas, and `and` before the last."""
+    return " and ".join(filter(None, (", ".join(words[:-1]), words[-1])))
+
+
+def _numbers(clause: str) -> list[int]:
+    """A clause's numbers, by which clauses are in order."""
+    return [int(number) for number in clause.split(".")]
 
 
 def _within(step: str, alteration: Alteration, algorithms: tuple[str, ...]) -> Alteration:
@@ -110,11 +140,16 @@ def _limited(
     made = [Slip(name, altered)]
     for words, algorithms in ((key, value) for place in places for key, value in place.items()):
         limited = {step: _within(step, alter, algorithms) for step, alter in altered.items()}
-        made.append(Slip(f"{name}, in {words} alone", limited, name, algorithms))
+        made.append(Slip(_alone(name, words), limited, name, algorithms))
     return made
 
 
-_SESSION = {"TA11, TA21 and TA41": DERIVING[:3], "TA12 and TA22": DERIVING[3:]}
+def _alone(name: str, words: str) -> str:
+    """The name of a slip that is made in some algorithms alone."""
+    return f"{name}, in {words} alone"
+
+
+_SESSION = {listed(each): each for each in (DERIVING[:3], DERIVING[3:])}
 _EACH_KEY: dict[str, tuple[str, ...]] = {**_SESSION, **{name: (name,) for name in DERIVING}}
 _EACH_SIDE: dict[str, tuple[str, ...]] = {name: (name,) for name in DERIVING[3:]}
 _KEYS_OR_SEALS = {"deriving keys": DERIVING, "sealing": SEALING}
@@ -835,16 +870,24 @@ EXCHANGES = (*EXCHANGED.values(), *ANOTHERS.values())
 
 def slips_of(sitting: Sitting) -> list[Slip]:
     """The slips that can be made with a sitting: where one side does not run, none that
-    alters its challenge, since there is one that does the same to the other's alone."""
+    alters its challenge, since there is one that does the same to the other's alone; and
+    in some algorithms alone, in those that run."""
     idle = {1: "rand2", 2: "rand1"}.get(sitting.sides)
 
     def fits(slip: Slip) -> bool:
         if idle is None or "inputs" not in slip.altered:
             return True
-        made: Sitting = slip.altered["inputs"](None, sitting)
-        return made.sides != sitting.sides or getattr(made, idle) == getattr(sitting, idle)
+        taken: Sitting = slip.altered["inputs"](None, sitting)
+        return taken.sides != sitting.sides or getattr(taken, idle) == getattr(sitting, idle)
 
-    return list(filter(fits, SLIPS))
+    made: dict[str, Slip] = {}
+    for slip in filter(fits, SLIPS):
+        runs = tuple(each for each in slip.algorithms if each not in IDLE[sitting.sides])
+        if runs and slip.name == _alone(slip.family, listed(slip.algorithms)):
+            slip = slip._replace(name=_alone(slip.family, listed(runs)), algorithms=runs)
+        if runs or not slip.algorithms:
+            made.setdefault(slip.name, slip)
+    return list(made.values())
 
 
 class Worked(NamedTuple):

@@ -59,8 +59,8 @@ STEPS: dict[str, tuple[str, str]] = {
     "reversed_seed": ("seed reversed", "5.6.2"),
     "ta12": ("TA12", "5.7"),
     "ta22": ("TA22", "5.7"),
-    "split": ("response and key", "5.7.2"),
-    "chosen": ("bytes chosen by a mask", "5.7.2"),
+    "split": ("response and key", "5.7"),
+    "chosen": ("bytes chosen by a mask", "5.7"),
     "tb4": ("TB4", "5.22"),
     "tb7": ("TB7", "5.23"),
     "ring": ("the ring", "01"),
@@ -120,9 +120,37 @@ STEPS: dict[str, tuple[str, str]] = {
 }
 
 
+# The clauses of steps that more than one algorithm has, by these.
+_DATA = {"TA31": "5.8.1", "TA51": "5.10.1", "TA81": "5.14.1", "TA91": "5.16.1"}
+_CORE_KEY = {"TA31": "5.8.2", "TA51": "5.10.2", "TA81": "5.14.2", "TA91": "5.16.2"}
+_CORE_KEY |= {"TA32": "5.9.2", "TA52": "5.11.2", "TA82": "5.15.2", "TA92": "5.17.2"}
+_OUTPUT = {"TA31": "5.8.3", "TA51": "5.10.3", "TA81": "5.14.3", "TA91": "5.16.3"}
+_TEXT = {"TA32": "5.9.1", "TA52": "5.11.1", "TA82": "5.15.1", "TA92": "5.17.1"}
+_CHECK = {"TA32": "5.9.3", "TA52": "5.11.3", "TA82": "5.15.3", "TA92": "5.17.3"}
+CLAUSES: dict[str, dict[str, str]] = {
+    "x16": _DATA,
+    "joined": _DATA,
+    "zero_behind": _DATA,
+    "short_key": _CORE_KEY,
+    "long_key": _CORE_KEY,
+    "repeated": _CORE_KEY,
+    "core_key": _CORE_KEY,
+    "dropped": _OUTPUT,
+    "zero_back": _TEXT,
+    "shrunk": {**_CHECK, "TA32": "5.5.1", "TA52": "5.5.2"},
+    "failed": _CHECK,
+}
+
+
+def clause_of(method: str, algorithm: str) -> str:
+    """The clause of 000 that a step of an algorithm stands in."""
+    return CLAUSES.get(method, {}).get(algorithm, STEPS[method][1])
+
+
 class Step(NamedTuple):
     """A step that was worked, and the steps that it is made of."""
 
+    method: str
     name: str
     clause: str
     inputs: dict[str, Any]
@@ -218,7 +246,8 @@ class Steps:
         def run(*inputs: Any) -> Any:
             outer, self.trace = self.trace, []
             output = method(*inputs)
-            outer.append(Step(*STEPS[name], dict(zip(names, inputs)), output, tuple(self.trace)))
+            clause, given = clause_of(name, self.algorithm), dict(zip(names, inputs))
+            outer.append(Step(name, STEPS[name][0], clause, given, output, tuple(self.trace)))
             self.trace = outer
             return output
 

@@ -14,7 +14,7 @@ from common import seal as sealed_under
 from taa1.engine import Sitting
 from taa1_desk.mark import Marker, Sheet
 from taa1_desk.records import KINDS, SEALED, Entry, Ring, split
-from taa1_desk.slips import SLIPS, work
+from taa1_desk.slips import SLIPS, slips_of, work
 from taa1_desk.texts import read_sitting, sitting_bytes
 from taa1_desk.working import STEPS
 
@@ -163,10 +163,10 @@ class Slips(unittest.TestCase):
         self.assertEqual(len(set(names)), len(names))
         for slip in SLIPS:
             self.assertLessEqual(set(slip.altered), set(STEPS), slip.name)
-            if slip.step not in STEPS.values():  # several steps that take an input
+            if slip.step_in(3) not in STEPS.values():  # several steps that take an input
                 self.assertTrue(slip.inputs, slip.name)
                 steps = {name for name, _ in STEPS.values()}
-                self.assertLessEqual(set(re.split(", | and ", slip.step[0])), steps, slip.name)
+                self.assertLessEqual(set(re.split(", | and ", slip.step_in(3)[0])), steps, slip.name)
         worked = {each.slip.name: each for each in work(DESK, SITTING, PLAIN_BOOK)}
         self.assertEqual(list(worked), names)
         self.assertEqual({name for name, each in worked.items() if not each.records}, NO_BOOK)
@@ -174,6 +174,41 @@ class Slips(unittest.TestCase):
         one_side = S._replace(sides=1)
         one_sided = {each.slip.name: each for each in work(DESK, one_side, PLAIN_BOOK)}
         self.assertTrue(one_sided["both sides for one"].records)
+
+    def test_one_side(self) -> None:
+        """Where one side runs, slips and their steps name its algorithms alone."""
+        for sides, derives, answers, others in ((1, "TA11", "TA12", "TA2"), (2, "TA21", "TA22", "TA1")):
+            same = "TA21 for TA11" if sides == 1 else "TA11 for TA21"
+            sitting = SITTING._replace(sides=sides)
+            marker = Marker(DESK, sitting, PLAIN_BOOK)
+            (slip,) = marker.mark("a", seal(sitting._replace(rs=SITTING.rs[::-1]))).slips
+            self.assertEqual({slip.name, *slip.others}, {"RS reversed", same})
+            steps = {each.name: each.step_in(sides) for each in slips_of(sitting)}
+            self.assertEqual(steps["RS reversed"], (derives, f"5.6.{sides}"))
+            clause = "5.6.1" if sides == 1 else "5.6"
+            self.assertEqual(steps["root reversed"], (f"{derives} and TA41", clause))
+            name = "EXP2's last byte as ⊕, in {} alone"
+            self.assertIn(name.format(f"{derives} and TA41"), steps)
+            self.assertIn(name.format(answers), steps)
+            limited = [each for each in steps if each.endswith(" alone") and f" in {others}" in each]
+            self.assertEqual(limited, [])
+
+    def test_clauses(self) -> None:
+        """A slip's step stands in the clauses of the algorithms in which it shows."""
+        slip = next(each for each in SLIPS if each.name == "number before the key")
+        worked = next(each for each in work(DESK, SITTING, PLAIN_BOOK) if each.slip is slip)
+        for kinds, clause in (
+            ((2, 5), "5.10.1"),
+            ((3,), "5.14.1"),
+            ((6,), "5.14.1"),
+            ((2, 3), "5.10.1 and 5.14.1"),
+        ):
+            book = [
+                worked.records[at] if entry.kind in kinds else MODEL[at]
+                for at, entry in enumerate(ENTRIES)
+            ]
+            (found,) = MARKER.mark("a", b"".join(book)).slips
+            self.assertEqual((found.name, found.step), (slip.name, ("key and number joined", clause)))
 
     def test_planted(self) -> None:
         """Books worked apart from the table: the slip explains every wrong entry."""

@@ -162,16 +162,16 @@ class Pages(Case):
         for slip in RING_SLIPS:
             if set(slip.altered) == {"inputs"}:
                 made = slip.altered["inputs"](None, SITTING)
-                found[slip.name] = slip.step
+                found[slip.name] = slip.step_in(SITTING.sides)
                 for name, step in taken.items():
                     if getattr(made, name) != getattr(SITTING, name):
-                        self.assertIn(step, slip.step[0], slip.name)
+                        self.assertIn(step, found[slip.name][0], slip.name)
         self.assertEqual(found["TA22's challenge reversed (RAND2)"], ("TA22", "5.7"))
         self.assertEqual(found["RAND1 and RAND2 exchanged"], ("TA12 and TA22", "5.7"))
         self.assertEqual(found["RS for RSO"], ("TA41", "5.6.1"))
         self.assertEqual(found["RS reversed"], ("TA11 and TA21", "5.6"))
         self.assertEqual(found["root reversed"], ("TA11, TA21 and TA41", "5.6"))
-        self.assertEqual(found["masks exchanged"], ("response and key", "5.7.2"))
+        self.assertEqual(found["masks exchanged"], ("response and key", "5.7"))
         other = SITTING._replace(rand2=SITTING.rand2[::-1])
         pages = self.mark(self.file("gus.book", seal(other)))
         for name in ("gus.book", "index"):

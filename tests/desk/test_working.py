@@ -10,7 +10,7 @@ from typing import Any
 from common import DESK, ENTRIES, PLAIN_BOOK, ROOT, SITTING, seal
 from taa1.engine import Sitting
 from taa1_desk.records import KINDS, SEALED, Ring, split
-from taa1_desk.working import KEYS, S, S_INVERSE, STEPS, Steps
+from taa1_desk.working import CLAUSES, KEYS, S, S_INVERSE, STEPS, Steps
 
 DRAW = random.Random(33)
 PLAIN_STEPS = Steps(DESK)
@@ -131,11 +131,13 @@ class Working(unittest.TestCase):
 
         def walk(trace: list) -> None:  # type: ignore[type-arg]
             for step in trace:
-                seen.add((step.name, step.clause))
+                seen.add((step.method, step.name, step.clause))
                 walk(step.steps)
 
         walk(steps.trace)
-        self.assertEqual(seen, set(STEPS.values()))
+        self.assertEqual({(method, name) for method, name, _ in seen}, {(m, n) for m, (n, _) in STEPS.items()})
+        fixed = {(m, n, c) for m, (n, c) in STEPS.items() if m not in CLAUSES}
+        self.assertEqual({each for each in seen if each[0] not in CLAUSES}, fixed)
         ta31 = next(step for step in steps.trace if step.name == "TA31")
         self.assertEqual(list(ta31.inputs), ["cipher_key", "version", "sealing_key"])
         self.assertEqual(ta31.output, PLAIN_STEPS.text(ENTRIES[0], ring))
@@ -148,6 +150,34 @@ class Working(unittest.TestCase):
         self.assertEqual(altered.exp2(bytes(range(10)))[15], 0)
         inner = [step.name for step in altered.trace[0].steps]
         self.assertEqual(inner, ["EXP1", "EXP2's last byte"])
+
+    def test_clauses(self) -> None:
+        """A step that several algorithms have stands in the clause of the one that runs."""
+        ring = Ring(bytes(10), bytes(16), bytes(10), bytes(16))
+        found: dict[str, set[str]] = {}
+
+        def walk(trace: list, algorithm: str) -> None:  # type: ignore[type-arg]
+            for step in trace:
+                if step.method in CLAUSES:
+                    found.setdefault(f"{step.method} {algorithm}", set()).add(step.clause)
+                walk(step.steps, step.name if step.name.startswith("TA") else algorithm)
+
+        for entry in ENTRIES:
+            steps = Steps(DESK, trace=True)
+            strings = steps.k_strings(ring.c)
+            steps.opened(steps.sealed(entry, ring, strings), ring, strings)
+            walk(steps.trace, "")
+        numbers = {"TA31": 8, "TA51": 10, "TA81": 14, "TA91": 16, "TA32": 9, "TA52": 11, "TA82": 15, "TA92": 17}
+        parts = {"joined": 1, "zero_behind": 1, "x16": 1, "zero_back": 1, "short_key": 2, "long_key": 2,
+                 "repeated": 2, "core_key": 2, "dropped": 3, "failed": 3, "shrunk": 3}  # fmt: skip
+        wanted = {
+            f"{method} {algorithm}": {f"5.{number}.{parts[method]}"}
+            for algorithm, number in numbers.items()
+            for method in parts
+        }
+        wanted.update({"shrunk TA32": {"5.5.1"}, "shrunk TA52": {"5.5.2"}})  # SHR1 and SHR2
+        self.assertEqual(found, {each: wanted[each] for each in found})
+        self.assertEqual(len(found), 46)
 
 
 if __name__ == "__main__":
