@@ -11,7 +11,7 @@ pub use interface::{
 use std::fmt::{Debug, Formatter, Result};
 
 /// Bytes on either side of an output, which no call may touch.
-const MARGIN: usize = 64;
+pub(crate) const MARGIN: usize = 64;
 
 /// Sealing or opening.
 pub struct Call {
@@ -185,7 +185,7 @@ struct Difference {
 }
 
 /// A call with an output in the middle of bytes that stay as they are.
-fn lent<A>(room: usize, call: impl FnOnce(&mut [u8]) -> A) -> (A, Vec<u8>) {
+pub(crate) fn lent<A>(room: usize, call: impl FnOnce(&mut [u8]) -> A) -> (A, Vec<u8>) {
     let mut bytes: Vec<u8> = (1..=MARGIN + room + MARGIN)
         .map(|i| (i * 77) as u8)
         .collect();
@@ -212,6 +212,16 @@ pub fn sealed(ring: &[u8], plain: &[u8]) -> Vec<u8> {
         sealed
     };
     plain.chunks_exact(PLAIN).flat_map(seal).collect()
+}
+
+/// The same by the independent implementation, which takes up to the most at once.
+pub fn sealed_by_reference(ring: &[u8], plain: &[u8]) -> Vec<u8> {
+    let mut sealed = vec![0; plain.len() / PLAIN * SEALED];
+    let places = sealed.chunks_mut(MOST * SEALED);
+    for (records, place) in plain.chunks(MOST * PLAIN).zip(places) {
+        books::seal_book(ring, records, place);
+    }
+    sealed
 }
 
 /// Shows the first records of a book or class; the seed of the run gives the others.

@@ -5,6 +5,7 @@
 pub mod books;
 pub mod both;
 pub mod cards;
+pub mod changes;
 pub mod class;
 pub mod columns;
 pub mod damaged;
@@ -13,14 +14,21 @@ pub mod engine;
 pub mod hurdle;
 pub mod inverses;
 pub mod lineage;
+pub mod long;
 pub mod random;
 pub mod settings;
+pub mod sheets;
 pub mod taa1;
 pub mod tally;
 
-/// The single calls of the independent implementation.
+/// The calls of the independent implementation.
 pub mod other {
+    pub use crate::books::{check_plain, open_book, seal_book};
     pub use crate::cards::*;
+    pub use crate::class::ta12_class;
+    pub use crate::columns::*;
+    pub use crate::diffusion::diffusion;
     pub use crate::inverses::*;
+    pub use crate::lineage::lineage;
     pub use crate::taa1::*;
 }

@@ -2,14 +2,12 @@
 //! seconds or as many as the argument says.
 
 use host::both::{check_plain, sealed, Call, MOST, OPEN, RING, SEAL};
+use host::changes::change;
 use host::random::Random;
 use host::settings;
 use host::tally::{Group, Tally};
 use std::process::ExitCode;
 use std::time::{Duration, Instant};
-
-/// Kinds and numbers at their edges.
-const EDGES: [u8; 11] = [0, 1, 2, 3, 4, 5, 6, 7, 31, 32, 255];
 
 fn main() -> ExitCode {
     let limit = Duration::from_secs(settings::argument("usage: fuzz [SECONDS]", 60));
@@ -59,28 +57,12 @@ impl Case {
             room,
         };
         for _ in 0..random.below(5) {
-            case.change(random);
+            let Case {
+                ring, book, room, ..
+            } = &mut case;
+            change(random, call.from, ring, book, room);
         }
         case
-    }
-
-    fn change(&mut self, random: &mut Random) {
-        let (size, book) = (self.call.from, &mut self.book);
-        let records = book.len() / size;
-        let start = size * random.below(records.max(1));
-        match random.below(10) {
-            0 => self.room = random.below(self.room + 2),
-            1 => change_byte(&mut self.ring, random),
-            2 => change_byte(book, random),
-            3 => change_length(&mut self.ring, random),
-            4 => change_length(book, random),
-            _ if records == 0 => {}
-            5 => book[..start + size].rotate_right(size),
-            6 => drop(book.drain(start..start + size)),
-            7 => book.extend_from_within(start..start + size),
-            8 => book[start] = edge(random),
-            _ => book[start + size - 1 - random.below(2)] = edge(random),
-        }
     }
 
     fn compare(&self, group: &mut Group) {
@@ -96,28 +78,5 @@ impl Case {
 
     fn refusal(&self) -> u32 {
         self.call.refusal(&self.ring, &self.book, self.room)
-    }
-}
-
-fn edge(random: &mut Random) -> u8 {
-    EDGES[random.below(EDGES.len())]
-}
-
-fn change_byte(bytes: &mut [u8], random: &mut Random) {
-    if !bytes.is_empty() {
-        let byte = &mut bytes[random.below(bytes.len())];
-        *byte = match random.below(2) {
-            0 => *byte ^ 1 << random.below(8),
-            _ => random.number() as u8,
-        };
-    }
-}
-
-/// Cuts the bytes, or puts up to two in.
-fn change_length(bytes: &mut Vec<u8>, random: &mut Random) {
-    let at = random.below(bytes.len() + 1);
-    match random.below(3) {
-        0 => bytes.truncate(at),
-        count => drop(bytes.splice(at..at, random.vec(count))),
     }
 }

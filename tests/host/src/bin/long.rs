@@ -1,170 +1,174 @@
-//! Compares the single calls on random inputs ten million times, or as many as
-//! the argument says.
+//! Compares every call of the header with the independent implementation, on random
+//! inputs with every refusal among them: 100,000,000 comparisons of single calls and
+//! 10,000,000 of calls on lists, nine in ten of which have at most 8 records.
+//!
+//! Progress and what differs go to standard error; a line on each call and the sums
+//! to standard output. The status is 1 if anything differed, 130 after an interrupt.
 
-use host::compare;
-use host::engine;
-use host::random::Random;
-use host::settings;
-use host::tally::{Group, Tally};
+use host::long::calls::{Call, CALLS};
+use host::long::run::{grouped, run, time, Count, Plan};
+use std::collections::hash_map::RandomState;
+use std::ffi::OsString;
+use std::hash::{BuildHasher, Hasher};
 use std::process::ExitCode;
+use std::sync::atomic::{AtomicBool, Ordering};
+use std::time::Instant;
+
+const USAGE: &str = "\
+usage: long [--seed S] [--single N] [--lists M] [--threads T] [--only CALL [--from INDEX]]";
+
+/// What the command line says.
+struct Options {
+    plan: Plan,
+    only: Option<&'static Call>,
+}
 
 fn main() -> ExitCode {
-    let times = settings::argument("usage: long [TIMES]", 10_000_000);
-    let mut random = Random::from_environment();
-    let mut tally = Tally::from_environment();
-    tally.group("single calls", |group| {
-        while group.made() < times {
-            cipher(group, &mut random);
-            seals(group, &mut random);
-            mixing(group, &mut random);
+    let arguments: Vec<OsString> = std::env::args_os().skip(1).collect();
+    if arguments
+        .iter()
+        .any(|word| word == "--help" || word == "-h")
+    {
+        println!("{USAGE}");
+        return ExitCode::SUCCESS;
+    }
+    let Options { plan, only } = match options(&arguments) {
+        Ok(options) => options,
+        Err(fault) => {
+            eprintln!("long: {fault}");
+            return ExitCode::from(2);
         }
-    });
-    tally.finish()
-}
-
-/// Bytes of a right length; now and then of another.
-fn string(random: &mut Random, length: usize) -> Vec<u8> {
-    match random.below(64) {
-        0 => {
-            let length = random.below(40);
-            random.vec(length)
-        }
-        _ => random.vec(length),
+    };
+    let calls: Vec<&Call> = match only {
+        Some(call) => vec![call],
+        None => CALLS.iter().collect(),
+    };
+    let stop = stopped_by_signals();
+    println!("seed {}", plan.seed);
+    let start = Instant::now();
+    let counts = run(&calls, &plan, stop, |text| eprintln!("{text}"));
+    for (call, count) in calls.iter().zip(&counts) {
+        println!("{}", line(call, count));
     }
-}
-
-/// A value for so many bits; now and then one or two bits wider.
-fn value(random: &mut Random, bits: u64) -> u64 {
-    match random.below(16) {
-        0 => random.number() >> (62 - bits),
-        _ => random.number() >> (64 - bits),
-    }
-}
-
-/// Mostly a right pair.
-fn masks(random: &mut Random) -> (u16, u16) {
-    match random.below(16) {
-        0 => (random.mask(4), random.mask(10)),
-        1 => (random.number() as u16, random.number() as u16),
-        _ => random.masks(),
-    }
-}
-
-/// Mostly a right number.
-fn sides(random: &mut Random) -> u64 {
-    match random.below(16) {
-        0 => random.number() >> random.below(64),
-        _ => 1 + random.number() % 3,
-    }
-}
-
-fn cipher(group: &mut Group, random: &mut Random) {
-    let (key, block, seed) = (string(random, 16), string(random, 8), string(random, 10));
-    compare!(group, encrypt([key], [block]));
-    compare!(group, decrypt([key], [block]));
-    compare!(group, encrypt_register([key], [block]));
-    compare!(group, decrypt_register([key], [block]));
-    let steps = random.number() >> random.below(64);
-    compare!(group, register([key], steps));
-    compare!(group, ta11([key], [seed]));
-    compare!(group, ta21([key], [seed]));
-    compare!(group, ta41([key], [seed]));
-    let (response_mask, key_mask) = masks(random);
-    compare!(group, ta12([key], [seed], response_mask, key_mask));
-    compare!(group, ta22([key], [seed], response_mask, key_mask));
-    let [rs, rso, rand1, rand2, c] = [(); 5].map(|_| string(random, 10));
-    let (group_key, sides) = (string(random, 12), sides(random));
-    compare!(
-        group,
-        ring(
-            [key],
-            [rs],
-            [rso],
-            [rand1],
-            [rand2],
-            [c],
-            [group_key],
-            sides,
-            response_mask,
-            key_mask
-        )
+    let sum = |single: bool, of: fn(&Count) -> u64| -> u64 {
+        let of_sort = calls
+            .iter()
+            .zip(&counts)
+            .filter(|(call, _)| call.is_single() == single);
+        of_sort.map(|(_, count)| of(count)).sum()
+    };
+    println!(
+        "in all: {} comparisons of single calls; {} of calls on lists, {} of them with at most 8 \
+         records; in {}",
+        grouped(sum(true, |count| count.made)),
+        grouped(sum(false, |count| count.made)),
+        grouped(sum(false, |count| count.short)),
+        time(start.elapsed().as_secs_f64()),
     );
+    let interrupted = stop.load(Ordering::Relaxed);
+    if interrupted {
+        eprintln!("long: interrupted; these are the counts so far");
+    }
+    let made = counts.iter().filter(|count| count.made > 0).count();
+    let failed = counts.iter().filter(|count| count.differ > 0).count();
+    println!("{} passed, {failed} failed", made - failed);
+    ExitCode::from(match (failed, interrupted) {
+        (1.., _) => 1,
+        (0, true) => 130,
+        (0, false) => 0,
+    })
 }
 
-/// Unseals of right texts, and of texts with a bit flipped.
-fn seals(group: &mut Group, random: &mut Random) {
-    let (key, group_key) = (string(random, 10), string(random, 12));
-    let (d, o) = (string(random, 10), string(random, 16));
-    let (version, number) = (random.number() as u16, random.number() as u16);
-    let small = match random.below(16) {
-        0 => number,
-        _ => number % 32,
-    };
-    compare!(group, ta31([key], version, [d]));
-    compare!(group, ta51([key], version, [o], small));
-    compare!(group, ta81([key], version, [o], number));
-    compare!(group, ta91([group_key], version, [o]));
-    let flip = (random.below(2) as u8) << random.below(8);
-    let at = random.below(15);
-    let damaged = |mut text: [u8; 15]| {
-        text[at] ^= flip;
-        text
-    };
-    let text = damaged(engine::ta31(&key, version.into(), &d).bytes);
-    compare!(group, ta32([text], [d], version));
-    let text = damaged(engine::ta51(&key, version.into(), &o, small.into()).bytes);
-    compare!(group, ta52([text], [o], version));
-    let text = damaged(engine::ta81(&key, version.into(), &o, number.into()).bytes);
-    compare!(group, ta82([text], [o], version));
-    let text = damaged(engine::ta91(&group_key, version.into(), &o).bytes);
-    compare!(group, ta92([text], [o], version));
+/// What a call's comparisons gave.
+fn line(call: &Call, count: &Count) -> String {
+    let mut text = format!("{}: {} comparisons", call.name, count.made);
+    if count.differ > 0 {
+        text.push_str(&format!(", {} DIFFER", count.differ));
+    }
+    let refused: Vec<String> = count
+        .refused()
+        .map(|(refusal, times)| format!("{refusal}: {times}"))
+        .collect();
+    if !refused.is_empty() {
+        text.push_str(&format!("; refused {}", refused.join(", ")));
+    }
+    text
 }
 
-fn mixing(group: &mut Group, random: &mut Random) {
-    let (key1, key2) = (string(random, 10), string(random, 10));
-    let (input, group_key) = (string(random, 16), string(random, 12));
-    let identity = value(random, 24);
-    compare!(group, ta61([key1], identity));
-    compare!(group, ta61_inverse([key1], identity));
-    compare!(group, ta71([key1], [key2]));
-    compare!(group, ta101([input], [key1], identity));
-    let width = 15 + random.number() % 19;
-    let repeated = value(random, width);
-    compare!(group, tb1(repeated, width));
-    compare!(group, tb2([input]));
-    compare!(group, tb3([input], repeated, width));
-    compare!(group, tb4([key1], [key2]));
-    let (location_area, carrier) = (value(random, 14), value(random, 12));
-    let colour_code = value(random, 6);
-    compare!(group, tb5([key1], location_area, carrier, colour_code));
-    compare!(group, tb6([key1], carrier, identity));
-    compare!(group, tb7([group_key]));
-    let card = match random.below(2) {
-        0 => engine::tb7(&group_key).bytes.to_vec(),
-        _ => string(random, 16),
+fn options(arguments: &[OsString]) -> Result<Options, String> {
+    let mut plan = Plan {
+        seed: RandomState::new().build_hasher().finish(),
+        single: 100_000_000,
+        lists: 10_000_000,
+        threads: 2,
+        from: 0,
     };
-    let unreadable = (random.number() & random.number() & random.number()) as u16;
-    compare!(group, restore_card([card], unreadable));
-    inverses(group, random, &key1, &input);
+    let (mut only, mut from) = (None, false);
+    let mut words = arguments.iter().map(|word| word.to_string_lossy());
+    while let Some(option) = words.next() {
+        let mut value = |wanted: &str| match words.next() {
+            Some(value) => Ok(value),
+            None => Err(format!("{option} wants {wanted} after it")),
+        };
+        let mut number = |least: u64| {
+            let wanted = format!("a number from {least} on");
+            let value = value(&wanted)?;
+            match value.parse() {
+                Ok(number) if number >= least => Ok(number),
+                _ => Err(format!("{option} wants {wanted}, not '{value}'")),
+            }
+        };
+        match &*option {
+            "--seed" => plan.seed = number(0)?,
+            "--single" => plan.single = number(0)?,
+            "--lists" => plan.lists = number(0)?,
+            "--threads" => plan.threads = number(1)?.min(1024) as usize,
+            "--from" => (plan.from, from) = (number(0)?, true),
+            "--only" => {
+                let name = value("the name of a call")?;
+                let call = CALLS
+                    .iter()
+                    .find(|call| call.name == name.trim_start_matches("taa1_"));
+                only = Some(call.ok_or_else(|| no_call(&name))?);
+            }
+            _ => return Err(format!("'{option}' is no option; {USAGE}")),
+        }
+    }
+    if from && only.is_none() {
+        return Err("--from counts the cases of one call: name it with --only".to_string());
+    }
+    let all = match only {
+        Some(call) if call.is_single() => plan.single,
+        Some(_) => plan.lists,
+        None => plan.single.saturating_add(plan.lists),
+    };
+    if all == 0 {
+        return Err("there is nothing to compare: --single and --lists say how much".to_string());
+    }
+    Ok(Options { plan, only })
 }
 
-/// Of right results, and of results with a bit flipped.
-fn inverses(group: &mut Group, random: &mut Random, key: &[u8], input: &[u8]) {
-    let width = 15 + random.number() % 19;
-    let (repeated, carrier) = (value(random, width), value(random, 12));
-    let (flip, at) = ((random.below(2) as u8) << random.below(8), random.below(10));
-    let damaged = |mut result: Vec<u8>| {
-        result[at] ^= flip;
-        result
-    };
-    let result = damaged(engine::tb1(repeated, width).bytes.to_vec());
-    compare!(group, tb1_inverse([result], width));
-    let result = damaged(engine::tb3(input, repeated, width).bytes.to_vec());
-    compare!(group, tb3_inverse([input], [result], width));
-    let (location_area, colour_code) = (value(random, 14), value(random, 6));
-    let result = engine::tb5(key, location_area, carrier, colour_code).bytes;
-    let result = damaged(result.to_vec());
-    compare!(group, tb5_inverse([key], [result]));
-    let result = damaged(engine::tb6(key, carrier, value(random, 24)).bytes.to_vec());
-    compare!(group, tb6_inverse([key], [result]));
+fn no_call(name: &str) -> String {
+    let names: Vec<&str> = CALLS.iter().map(|call| call.name).collect();
+    format!(
+        "there is no call '{name}'; the calls are {}",
+        names.join(", ")
+    )
+}
+
+static STOP: AtomicBool = AtomicBool::new(false);
+
+/// Set when somebody wants the run to end: by the keyboard, or by SIGTERM.
+fn stopped_by_signals() -> &'static AtomicBool {
+    extern "C" fn stop(_: i32) {
+        STOP.store(true, Ordering::Relaxed);
+    }
+    extern "C" {
+        fn signal(number: i32, handler: extern "C" fn(i32)) -> usize;
+    }
+    for number in [1, 2, 15] {
+        // SAFETY: the handler does nothing but store a flag.
+        unsafe { signal(number, stop) };
+    }
+    &STOP
 }
