@@ -542,7 +542,7 @@ class Refusals(unittest.TestCase):
     def test_short_output(self) -> None:
         """Only a call with too little room is refused so, and the module makes room."""
         with self.assertRaises(Refused) as caught:
-            ENGINE._counted("seal_book", 0, RING, BOOK[0])
+            ENGINE.binding.answer("seal_book", RING, BOOK[0], room=0)
         self.assertEqual(
             str(caught.exception), "refused 12 at 0 (output shorter than the result), 0 runs"
         )

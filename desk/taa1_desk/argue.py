@@ -2,7 +2,7 @@
 
 from __future__ import annotations
 
-from taa1.engine import Sitting
+from taa1 import Sitting
 
 from .claims import CLAIMS
 from .desk import Desk

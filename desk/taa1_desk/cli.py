@@ -17,10 +17,9 @@ from pathlib import Path
 from typing import Any, Callable, NoReturn, Optional, Sequence, Union
 from urllib.parse import quote
 
-from taa1 import __version__
+from taa1 import MOST_RECORDS, LibraryError, Refused, __version__
 from taa1.calls import CALLS, Call, Parameter
-from taa1.engine import MOST_RECORDS, Refused
-from taa1.library import LibraryError, repository
+from taa1.library import repository
 
 from . import candidates, draw, files, handins, keysheet, names, pages, paper, scheme, texts
 from .argue import argument_sheet

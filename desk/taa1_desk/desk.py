@@ -2,12 +2,11 @@
 
 from __future__ import annotations
 
-import ctypes
 from contextlib import contextmanager
 from typing import Any, Iterator, Optional
 
+from taa1 import Engine, KeyNumber, Refused, Version
 from taa1.calls import CALLS
-from taa1.engine import MOST_RECORDS, Engine, KeyNumber, Refused, Version
 from taa1.library import make
 
 _TYPES: dict[str, Any] = {"version": Version, "number": KeyNumber}
@@ -43,35 +42,12 @@ class Desk:
         self.engine = engine
 
     def call(self, name: str, *values: Any, room: Optional[int] = None) -> dict[str, Any]:
-        """The fields of a call's answer, bytes and numbers, behind the refusal.
-
-        The values are the parameters' without the output, whose room is that for
-        the most records unless it is given; the last field, `out`, is what was
-        written. Raises Refused.
-        """
-        call = CALLS[name]
-        passed: list[Any] = []
-        out: Optional[bytearray] = None
-        given = iter(values)
-        for parameter in call.parameters:
-            if parameter.kind == "out":
-                record = parameter.length or 0
-                out = bytearray(MOST_RECORDS * record if room is None else room)
-                passed.append(out)
-            else:
-                value = next(given)
-                passed.append(_TYPES.get(parameter.kind, _same)(value))
-        answer = self.engine._accepted(name, *passed)
-        fields = {field.name: _plain(getattr(answer, field.name)) for field in call.fields}
-        if out is not None:
-            fields["out"] = bytes(out[: fields["written"]])
-        return fields
+        """The fields of a call's answer, as the binding gives them; a version or a key
+        number is given as a number. Raises Refused."""
+        parameters = CALLS[name].parameters
+        passed = [_TYPES.get(p.kind, _same)(value) for p, value in zip(parameters, values)]
+        return self.engine.binding.answer(name, *passed, room=room)
 
 
 def _same(value: Any) -> Any:
     return value
-
-
-def _plain(value: Any) -> Any:
-    """A field as bytes or a number."""
-    return bytes(value) if isinstance(value, ctypes.Array) else value

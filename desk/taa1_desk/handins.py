@@ -15,7 +15,7 @@ from collections import Counter
 from itertools import count
 from typing import Callable, Container, Mapping, NamedTuple, Optional, Sequence
 
-from taa1.engine import Refused
+from taa1 import Refused
 
 from .files import STANDARD, Problem, place, reason
 from .forms import BYTES, FORMS, rows, text_of

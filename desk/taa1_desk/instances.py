@@ -8,7 +8,7 @@ from __future__ import annotations
 
 from typing import Any, Callable, NamedTuple, Optional
 
-from taa1.engine import Sitting
+from taa1 import Sitting
 
 from .desk import Desk
 from .files import Problem

@@ -10,7 +10,7 @@ from __future__ import annotations
 import re
 from typing import Collection, Mapping, NamedTuple, Optional
 
-from taa1.engine import Sitting
+from taa1 import Sitting
 
 from .desk import Desk
 from .explain import KEY, Found, Part, Table

@@ -13,7 +13,7 @@ from dataclasses import dataclass
 from functools import partial
 from typing import Callable, Iterable, NamedTuple, Optional, Sequence, Union
 
-from taa1.engine import Refused, Sitting
+from taa1 import Refused, Sitting
 
 from .desk import Desk
 from .explain import IDENTITY, KEY, TEXT, Found, Part, Table, exchanges, joined, under_own

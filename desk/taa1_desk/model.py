@@ -4,7 +4,7 @@ from __future__ import annotations
 
 from typing import Any, Optional
 
-from taa1.engine import Sitting
+from taa1 import Sitting
 
 from .desk import Desk, refusals
 from .names import KIND_NAMES, SIDES, both, field, parameter_field, sealing

@@ -12,7 +12,7 @@ from dataclasses import replace
 from functools import partial
 from typing import Any, NamedTuple, Optional
 
-from taa1.engine import MOST_RECORDS, Refusal, Refused, Sitting
+from taa1 import MOST_RECORDS, Refusal, Refused, Sitting
 
 from . import texts
 from .desk import Desk, RefusedFile

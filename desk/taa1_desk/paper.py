@@ -8,7 +8,7 @@ from __future__ import annotations
 
 from typing import Any, Iterator, NamedTuple, Sequence
 
-from taa1.engine import Sitting
+from taa1 import Sitting
 
 from .desk import Desk
 from .document import Block, Boxes, Document, Fields, Head, Lines, Pairs, Table, Together, Words

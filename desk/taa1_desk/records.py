@@ -4,9 +4,9 @@ from __future__ import annotations
 
 from typing import NamedTuple, Optional
 
-from taa1.engine import PLAIN_RECORD_BYTES as PLAIN
-from taa1.engine import RING_BYTES as RING
-from taa1.engine import SEALED_RECORD_BYTES as SEALED
+from taa1 import PLAIN_RECORD_BYTES as PLAIN
+from taa1 import RING_BYTES as RING
+from taa1 import SEALED_RECORD_BYTES as SEALED
 
 __all__ = ["KINDS", "PLAIN", "RING", "SEALED", "Entry", "Ring", "Shape", "split", "whole"]
 

@@ -21,7 +21,7 @@ from typing import (
     Sequence,
 )
 
-from taa1.engine import Sitting
+from taa1 import Sitting
 
 from .desk import Desk
 from .records import PLAIN, SEALED, Entry, Ring, split

@@ -9,8 +9,8 @@ from __future__ import annotations
 import re
 from typing import Any, Callable, Iterator, NamedTuple, Optional
 
+from taa1 import MOST_RECORDS, Refusal, Refused, Sitting
 from taa1.calls import CALLS
-from taa1.engine import MOST_RECORDS, Refusal, Refused, Sitting
 
 from .desk import Desk, RefusedFile, refusals
 from .files import Problem, from_hex, place, read

@@ -12,7 +12,7 @@ from inspect import signature
 from types import MethodType
 from typing import Any, Callable, Iterable, Mapping, NamedTuple, Optional
 
-from taa1.engine import Sitting
+from taa1 import Sitting
 
 from .desk import Desk
 from .records import KINDS, Entry, Ring, whole

@@ -1,12 +1,22 @@
 """The engine's calls in one table: names, parameters, lengths and answers.
 
-The desk's options and help come from it. tests/desk compares it with
-include/taa1.h, name by name, and its lengths with what the engine refuses.
+What ctypes is told, what the typed methods test and the desk's options and help come
+from it. tests/desk compares it with include/taa1.h, name by name, its lengths with what
+the engine refuses, and the methods' parameters with it.
 """
 
 from __future__ import annotations
 
 from typing import NamedTuple, Optional
+
+from .values import (
+    AUTHENTICATION_BYTES,
+    CHALLENGE_BYTES,
+    PLAIN_RECORD_BYTES,
+    RING_BYTES,
+    SEALED_RECORD_BYTES,
+    SHEET_VALUE_BYTES,
+)
 
 IDENTITY = 6  # hexadecimal digits
 
@@ -39,8 +49,14 @@ class Call(NamedTuple):
 
     @property
     def fields(self) -> tuple[Field, ...]:
-        """The answer's fields behind the refusal."""
+        """The answer's fields after the refusal."""
         return ANSWERS[self.answer]
+
+    @property
+    def record(self) -> int:
+        """How many bytes are written for each record; 0 if the call has no output."""
+        last = self.parameters[-1]
+        return last.length or 0 if last.kind == "out" else 0
 
 
 def _text(name: str, length: int) -> Field:
@@ -69,7 +85,7 @@ ANSWERS: dict[str, tuple[Field, ...]] = {
     "unsealed": (_text("key", 10), _number("failed_checks", 16)),
     "unsealed_numbered": (_text("key", 10), _number("number", 16), _number("failed_checks", 16)),
     "unsealed_group": (_text("key", 12), _number("failed_checks", 16)),
-    "ring_made": (_text("ring", 52), _text("response1", 4), _text("response2", 4)),
+    "ring_made": (_text("ring", RING_BYTES), _text("response1", 4), _text("response2", 4)),
     "book_answer": _BOOK,
     "counted_answer": (*_BOOK, _number("runs", _SIZE)),
     "cell": (_number("location_area"), _number("carrier"), _number("colour_code")),
@@ -105,14 +121,16 @@ _NUMBER = Parameter("number", "number")
 _MASKS = (_mask("response_mask"), _mask("key_mask"))
 _KEY16, _BLOCK = _bytes("key", 16), _bytes("block", 8)
 _ROOT, _SEED = _bytes("root", 16), _bytes("seed", 10)
-_SESSION_KEY = _bytes("session_key", 16)
+_SESSION_KEY, _CHALLENGE = _bytes("session_key", 16), _bytes("challenge", CHALLENGE_BYTES)
 _CIPHER_KEY, _GROUP_KEY = _bytes("cipher_key", 10), _bytes("group_key", 12)
 _SEALING10, _SEALING16 = _bytes("sealing_key", 10), _bytes("sealing_key", 16)
 _COMMON_KEY, _TEXT = _bytes("common_key", 10), _bytes("text", 15)
-_RING = _bytes("ring", 52)
+_RING = _bytes("ring", RING_BYTES)
+_ANSWERED = (_SESSION_KEY, _CHALLENGE, *_MASKS)
 _NUMBERED = (_CIPHER_KEY, _VERSION, _SEALING16, _NUMBER)
 _SEALED = (_TEXT, _SEALING16, _VERSION)
 _WIDTH = _value("width")
+_PLAIN_OUT, _SEALED_OUT = _out(PLAIN_RECORD_BYTES), _out(SEALED_RECORD_BYTES)
 
 _ALL = (
     Call("encrypt", "bytes8", (_KEY16, _BLOCK), "a block, encrypted by HURDLE-II"),
@@ -123,22 +141,12 @@ _ALL = (
     Call("ta11", "bytes16", (_ROOT, _SEED), "the session key for ta12"),
     Call("ta21", "bytes16", (_ROOT, _SEED), "the session key for ta22"),
     Call("ta41", "bytes16", (_ROOT, _SEED), "the session key that seals kinds 2 to 4"),
-    Call(
-        "ta12",
-        "authentication",
-        (_SESSION_KEY, _bytes("challenge", 10), *_MASKS),
-        "response and key for a challenge",
-    ),
-    Call(
-        "ta22",
-        "authentication",
-        (_SESSION_KEY, _bytes("challenge", 10), *_MASKS),
-        "response and key for a challenge, the other side",
-    ),
+    Call("ta12", "authentication", _ANSWERED, "response and key for a challenge"),
+    Call("ta22", "authentication", _ANSWERED, "response and key for a challenge, the other side"),
     Call(
         "ta12_class",
         "book_answer",
-        (_SESSION_KEY, _bytes("challenges"), *_MASKS, _out(14)),
+        (_SESSION_KEY, _bytes("challenges"), *_MASKS, _out(AUTHENTICATION_BYTES)),
         "ta12 for each challenge of a class, up to 1,024",
     ),
     Call("ta31", "bytes15", (_CIPHER_KEY, _VERSION, _SEALING10), "a cipher key, sealed: kind 1"),
@@ -216,24 +224,24 @@ _ALL = (
         ),
         "a ring of sealing keys, and both responses",
     ),
-    Call("seal_book", "counted_answer", (_RING, _bytes("plain"), _out(21)), "a plain book, sealed"),
-    Call("open_book", "counted_answer", (_RING, _bytes("sealed"), _out(18)), "a sealed book, opened"),
+    Call("seal_book", "counted_answer", (_RING, _bytes("plain"), _SEALED_OUT), "a plain book, sealed"),
+    Call("open_book", "counted_answer", (_RING, _bytes("sealed"), _PLAIN_OUT), "a sealed book, opened"),
     Call("check_plain", "book_answer", (_bytes("plain"),), "whether a plain book is well formed"),
-    Call("plain_to_columns", "book_answer", (_bytes("plain"), _out(18)), "a plain book by columns"),
+    Call("plain_to_columns", "book_answer", (_bytes("plain"), _PLAIN_OUT), "a plain book by columns"),
     Call(
         "plain_from_columns",
         "book_answer",
-        (_bytes("columns"), _out(18)),
+        (_bytes("columns"), _PLAIN_OUT),
         "the plain book that was filed by columns",
     ),
-    Call("sealed_to_columns", "book_answer", (_bytes("sealed"), _out(21)), "a sealed book by columns"),
+    Call("sealed_to_columns", "book_answer", (_bytes("sealed"), _SEALED_OUT), "a sealed book by columns"),
     Call(
         "sealed_from_columns",
         "book_answer",
-        (_bytes("columns"), _out(21)),
+        (_bytes("columns"), _SEALED_OUT),
         "the sealed book that was filed by columns",
     ),
-    Call("lineage", "book_answer", (_bytes("sheet"), _out(16)), "the keys of a lineage sheet"),
+    Call("lineage", "book_answer", (_bytes("sheet"), _out(SHEET_VALUE_BYTES)), "the keys of a lineage sheet"),
     Call("diffusion", "tally", (_bytes("records"),), "how many bits one flipped bit changes"),
 )
 

@@ -12,7 +12,7 @@ from contextlib import redirect_stderr, redirect_stdout
 from pathlib import Path
 from typing import Any, NamedTuple, Optional
 
-from taa1.engine import Sitting
+from taa1 import Sitting
 from taa1_desk.cli import main
 from taa1_desk.desk import Desk
 from taa1_desk.records import PLAIN, Entry, Ring, split

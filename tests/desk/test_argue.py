@@ -8,7 +8,7 @@ from typing import Any
 from unittest import mock
 
 from common import CLASS, DESK, ENTRIES, PLAIN_BOOK, RING, ROOT, SITTING, Case, here, seal, taa1
-from taa1.engine import Sitting
+from taa1 import Sitting
 from taa1_desk.argue import argument_sheet
 from taa1_desk.claims import CLAIMS
 from taa1_desk.document import as_page, as_text

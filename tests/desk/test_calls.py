@@ -2,16 +2,14 @@
 
 from __future__ import annotations
 
-import ctypes
 import json
 import re
 import unittest
-from typing import Any
+from typing import Any, get_type_hints
 
 from common import DESK, ROOT, Case, taa1
-from taa1 import engine
+from taa1 import NAMES, Bytes, Engine, KeyNumber, Refused, Sitting, Version
 from taa1.calls import ANSWERS, CALLS, Call, Field, Parameter
-from taa1.engine import NAMES, Refused
 
 HEADER = re.sub(r"/\*.*?\*/", " ", (ROOT / "include" / "taa1.h").read_text(), flags=re.S)
 CONSTANTS = {name: int(value) for name, value in re.findall(r"\b(TAA1_\w+) = (\d+)", HEADER)}
@@ -85,23 +83,17 @@ class Table(unittest.TestCase):
                 self.assertEqual(wanted, declared[name])
 
     def test_module(self) -> None:
-        """The Python module binds the calls as the table has them."""
-        kinds = {
-            "bytes": bytes,
-            "out": bytearray,
-            "version": engine.Version,
-            "number": engine.KeyNumber,
-            "mask": ctypes.c_uint16,
-            "identity": ctypes.c_uint64,
-            "value": ctypes.c_uint64,
-        }
-        self.assertEqual(set(engine._CALLS), set(CALLS))
+        """The typed methods take what the table has, under the same names."""
+        kinds = {"bytes": Bytes, "version": Version, "number": KeyNumber}
+        methods = {name: call for name, call in vars(Engine).items() if not name.startswith("_")}
+        self.assertEqual(set(methods), set(CALLS))
         for call in CALLS.values():
             with self.subTest(call.name):
-                answer, passed = engine._CALLS[call.name]
-                self.assertEqual(passed, tuple(kinds[p.kind] for p in call.parameters))
-                fields = [name for name, *_ in answer._fields_]
-                self.assertEqual(fields, ["refusal", *(field.name for field in call.fields)])
+                method = Sitting if call.name == "ring" else methods[call.name]
+                taken = get_type_hints(method)
+                taken.pop("return", None)
+                wanted = {p.name: kinds.get(p.kind, int) for p in call.parameters if p.kind != "out"}
+                self.assertEqual(list(taken.items()), list(wanted.items()))
 
     def test_lengths(self) -> None:
         """Each fixed length of the table is the one that the engine takes."""

@@ -16,8 +16,7 @@ from typing import Any
 from unittest import mock
 
 from common import CLASS, COMMAND, DESK, PLAIN_BOOK, RING, ROOT, SITTING, Case, Run, here, seal, taa1
-from taa1 import __version__
-from taa1.engine import NAMES, Refused
+from taa1 import NAMES, Refused, __version__
 from taa1_desk.cli import parser
 from taa1_desk.files import MOST_BYTES, Problem, write_file
 from taa1_desk.overview import EXAMPLES

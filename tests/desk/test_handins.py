@@ -12,7 +12,7 @@ from typing import Any
 
 import planted
 from common import CLASS, DESK, ENTRIES, PLAIN_BOOK, SITTING, Case, here, seal
-from taa1.engine import Sitting
+from taa1 import Sitting
 from taa1_desk.files import MOST_BYTES
 from taa1_desk.forms import FORMS
 from taa1_desk.handins import NO_BOOK, Reader, page_names

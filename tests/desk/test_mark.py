@@ -11,7 +11,7 @@ import unittest
 from common import CLASS, DESK, ENTRIES, PLAIN_BOOK, ROOT, Case, taa1
 from common import SITTING as SAMPLE
 from common import seal as sealed_under
-from taa1.engine import Sitting
+from taa1 import Sitting
 from taa1_desk.mark import Marker, Sheet
 from taa1_desk.records import KINDS, SEALED, Entry, Ring, split
 from taa1_desk.slips import SLIPS, slips_of, work

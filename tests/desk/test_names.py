@@ -3,8 +3,8 @@
 from __future__ import annotations
 
 from common import DESK, ENTRIES, RING, Case, taa1
+from taa1 import Refused
 from taa1.calls import CALLS
-from taa1.engine import Refused
 from taa1_desk import names
 from taa1_desk.model import STEPS
 from taa1_desk.records import KINDS

@@ -8,7 +8,7 @@ from html import unescape
 from unittest import mock
 
 from common import CLASS, DESK, ENTRIES, LINES, PLAIN_BOOK, SITTING, Case, here, taa1
-from taa1.engine import Sitting
+from taa1 import Sitting
 from taa1_desk import paper
 from taa1_desk.document import Document, as_page, as_text
 from taa1_desk.model import model_answer

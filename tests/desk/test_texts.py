@@ -5,7 +5,7 @@ from __future__ import annotations
 import re
 
 from common import CLASS, DESK, ENTRIES, LINES, PLAIN_BOOK, RING, SITTING, Case, taa1
-from taa1.engine import NAMES
+from taa1 import NAMES
 from taa1_desk.records import KINDS
 from taa1_desk.texts import sitting_bytes
 

@@ -8,7 +8,7 @@ import unittest
 from typing import Any
 
 from common import DESK, ENTRIES, PLAIN_BOOK, ROOT, SITTING, seal
-from taa1.engine import Sitting
+from taa1 import Sitting
 from taa1_desk.records import KINDS, SEALED, Ring, split
 from taa1_desk.working import CLAUSES, KEYS, S, S_INVERSE, STEPS, Steps
 
