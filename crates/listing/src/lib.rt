@@ -1,10 +1,7 @@
 // The listing of a plain book.
-mod answer;
-
-pub use answer::report;
-pub use answer::report_counted;
 use books::check_plain;
 use records::kind_of;
+use reports::refused_at;
 use standard::Algorithm;
 use standard::Kind;
 use standard::MOST_RECORDS;
@@ -94,16 +91,6 @@ fn entries_line(n: usize) -> Line
         .word(b"entries ")
         .decimal(n as u64)
         .word(b"\n")
-}
-
-fn refused_at(number: u32, index: usize) -> Line
-    ensures { λ r. ⌜ r ≡ emptyLine ▸ ascii "refused " ▸ decimal number ▸ ascii " at " ▸ decimal index ⌝ }
-{
-    Line::empty()
-        .word(b"refused ")
-        .decimal(number as u64)
-        .word(b" at ")
-        .decimal(index as u64)
 }
 
 fn refused_line(number: u32, index: usize) -> Line

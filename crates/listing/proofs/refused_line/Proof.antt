@@ -1,14 +1,19 @@
+use mathlib.Core.Path.{refl}
 use borrow.Author.Needs.{needs}
 use Rattle.listing.proofs.ListLaws.{refused-short}
-use Rattle.standard.specs.Listing.{refusedLine}
-use Rattle.text.proofs.LineLaws.{append, uncut}
+use Rattle.standard.specs.Listing.{refusedAt, refusedLine}
+use Rattle.standard.specs.Text.{ascii}
+use Rattle.text.proofs.LineLaws.{behind, uncut}
+use Rattle.text.specs.Lines.{emptyLine}
 use Rattle.listing.proofs.refused_line.Statement.{statement}
 use Rattle.listing.proofs.refused_line.Tie as tie
 
 returns : tie.Need-returns
 unfolding refusedLine
 returns c =
-    uncut (refusedLine _ _) {l = c .word .result} (simp append (rw (c .word .ensures, c .before .before .refused-at .ensures))) (refused-short _ _)
+    uncut (refusedLine _ _) {l = c .word .result}
+    (behind emptyLine (refusedAt _ _) (ascii "\n") (c .before .before .refused-at .ensures) (c .word .ensures))
+    (refused-short _ _)
 
 pub refused-line-spec : {M : Type 1} → statement M
 refused-line-spec =

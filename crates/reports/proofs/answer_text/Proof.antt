@@ -1,7 +1,7 @@
 use borrow.Author.Needs.{needs}
-use Rattle.listing.proofs.ListLaws.{answer-refused, answer-wrote}
-use Rattle.listing.proofs.answer.answer_text.Statement.{statement}
-use Rattle.listing.proofs.answer.answer_text.Tie as tie
+use Rattle.reports.proofs.ReportLaws.{answer-refused, answer-wrote}
+use Rattle.reports.proofs.answer_text.Statement.{statement}
+use Rattle.reports.proofs.answer_text.Tie as tie
 
 returns : tie.Need-returns
 returns c = rw (answer-refused _ _ _ (c .before .if1 .taken)) (c .meaning-text .ensures)

@@ -1,14 +1,8 @@
 use mathlib.Core.Path.{refl}
 use borrow.Author.Needs.{needs}
-use Rattle.listing.proofs.ListLaws.{said, unsaid}
-use Rattle.listing.proofs.answer.meaning.Statement.{statement}
-use Rattle.listing.proofs.answer.meaning.Tie as tie
-
--- a number that no case has
-returns-20 : tie.Need-returns-20
-returns-20 c =
-    let r = c .before .before .match .rest in
-    unsaid _ _ (r .0 .0 .0 .0 .0 .0 .0 .0 .0 .0 .0 .0 .0 .0 .0 .0 .0 .0 .1, (r .0 .0 .0 .0 .0 .0 .0 .0 .0 .0 .0 .0 .0 .0 .0 .0 .0 .1, (r .0 .0 .0 .0 .0 .0 .0 .0 .0 .0 .0 .0 .0 .0 .0 .0 .1, (r .0 .0 .0 .0 .0 .0 .0 .0 .0 .0 .0 .0 .0 .0 .0 .1, (r .0 .0 .0 .0 .0 .0 .0 .0 .0 .0 .0 .0 .0 .0 .1, (r .0 .0 .0 .0 .0 .0 .0 .0 .0 .0 .0 .0 .0 .1, (r .0 .0 .0 .0 .0 .0 .0 .0 .0 .0 .0 .0 .1, (r .0 .0 .0 .0 .0 .0 .0 .0 .0 .0 .0 .1, (r .0 .0 .0 .0 .0 .0 .0 .0 .0 .0 .1, (r .0 .0 .0 .0 .0 .0 .0 .0 .0 .1, (r .0 .0 .0 .0 .0 .0 .0 .0 .1, (r .0 .0 .0 .0 .0 .0 .0 .1, (r .0 .0 .0 .0 .0 .0 .1, (r .0 .0 .0 .0 .0 .1, (r .0 .0 .0 .0 .1, (r .0 .0 .0 .1, (r .0 .0 .1, (r .0 .1, (r .1, tt))))))))))))))))))) (c .word20 .ensures)
+use Rattle.reports.proofs.ReportLaws.{said, unsaid}
+use Rattle.reports.proofs.meaning.Statement.{statement}
+use Rattle.reports.proofs.meaning.Tie as tie
 
 pub meaning-spec : {M : Type 1} → statement M
 meaning-spec =
@@ -73,4 +67,4 @@ meaning-spec =
     (λ c. said _ _ 17 (c .before .before .match .keys17) (c .word17 .ensures) refl)
     (λ c. said _ _ 18 (c .before .before .match .keys18) (c .word18 .ensures) refl)
     (λ c. said _ _ 19 (c .before .before .match .keys19) (c .word19 .ensures) refl)
-    returns-20)
+    (λ c. unsaid _ _ _ (c .before .before .match .rest) (c .word20 .ensures)))

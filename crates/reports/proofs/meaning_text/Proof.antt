@@ -1,14 +1,16 @@
+use mathlib.Core.Path.{refl}
 use borrow.Author.Needs.{needs}
 use Rattle.standard.specs.Programs.{meaningText}
 use Rattle.text.proofs.LineLaws.{append}
-use Rattle.listing.proofs.answer.meaning_text.Statement.{statement}
-use Rattle.listing.proofs.answer.meaning_text.Tie as tie
+use Rattle.reports.proofs.meaning_text.Statement.{statement}
+use Rattle.reports.proofs.meaning_text.Tie as tie
 
 returns : tie.Need-returns
 unfolding meaningText
 returns c =
     let meaning = c .before .before in
-    simp append (rw (c .word2 .ensures, meaning .meaning .ensures, meaning .before .word .ensures, meaning .before .before .before .refused-at .ensures))
+    let at = meaning .before in
+    rw (c .word2 .ensures, meaning .meaning .ensures, at .word .ensures, at .before .before .refused-at .ensures) (simp append refl)
 
 pub meaning-text-spec : {M : Type 1} → statement M
 meaning-text-spec =

@@ -1,6 +1,6 @@
 use borrow.Author.Needs.{needs}
-use Rattle.listing.proofs.answer.report_counted.Statement.{statement}
-use Rattle.listing.proofs.answer.report_counted.Tie as tie
+use Rattle.reports.proofs.report_counted.Statement.{statement}
+use Rattle.reports.proofs.report_counted.Tie as tie
 
 returns : tie.Need-returns
 returns c = let write = c .before .before in rw (← write .before .before .counted-line .ensures) (write .write .ensures)

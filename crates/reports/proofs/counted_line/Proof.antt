@@ -1,9 +1,9 @@
 use borrow.Author.Needs.{needs}
-use Rattle.listing.proofs.ListLaws.{counted-line-short}
+use Rattle.reports.proofs.ReportLaws.{counted-line-short}
 use Rattle.standard.specs.Programs.{countedLine}
 use Rattle.text.proofs.LineLaws.{append, uncut}
-use Rattle.listing.proofs.answer.counted_line.Statement.{statement}
-use Rattle.listing.proofs.answer.counted_line.Tie as tie
+use Rattle.reports.proofs.counted_line.Statement.{statement}
+use Rattle.reports.proofs.counted_line.Tie as tie
 
 returns : tie.Need-returns
 unfolding countedLine

@@ -1,6 +1,6 @@
 use borrow.Author.Needs.{needs}
-use Rattle.listing.proofs.answer.report.Statement.{statement}
-use Rattle.listing.proofs.answer.report.Tie as tie
+use Rattle.reports.proofs.report.Statement.{statement}
+use Rattle.reports.proofs.report.Tie as tie
 
 returns : tie.Need-returns
 returns c = let write = c .before .before in rw (← write .before .before .answer-line .ensures) (write .write .ensures)

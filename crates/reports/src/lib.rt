@@ -1,12 +1,24 @@
-// The line about an answer: the bytes written, or the refusal with its meaning; and the block cipher runs, where they are counted.
-use crate::refused_at;
+// The line about an answer: the bytes written, or the refusal with its meaning; and the block cipher runs, if they are counted.
 use standard::BookAnswer;
 use standard::CountedAnswer;
 use standard::TextAnswer;
 use text::Line;
 ghost use mathlib.Core.Path.{_≡_};
-ghost use Rattle.standard.specs.Programs.{meaning as meaningOf, meaningText, wroteText, answerText, answerLine, countedLine, reportCall, countedReportCall};
+ghost use Rattle.standard.specs.Listing.{refusedAt};
+ghost use Rattle.standard.specs.Programs.{meaning as meaningOf, meaningText, wroteText, answerText};
+ghost use Rattle.standard.specs.Programs.{answerLine, countedLine, reportCall, countedReportCall};
 ghost use Rattle.text.specs.Lines.{shown, emptyLine, _▸_};
+
+// The words of a refusal without its meaning.
+pub fn refused_at(refusal: u32, index: usize) -> Line
+    ensures { λ r. ⌜ r ≡ emptyLine ▸ refusedAt refusal index ⌝ }
+{
+    Line::empty()
+        .word(b"refused ")
+        .decimal(refusal as u64)
+        .word(b" at ")
+        .decimal(index as u64)
+}
 
 // What a refusal's number means.
 fn meaning(l: Line, refusal: u32) -> Line

@@ -1,9 +1,9 @@
 use borrow.Author.Needs.{needs}
-use Rattle.listing.proofs.ListLaws.{answer-line-short}
+use Rattle.reports.proofs.ReportLaws.{answer-line-short}
 use Rattle.standard.specs.Programs.{answerLine}
 use Rattle.text.proofs.LineLaws.{append, uncut}
-use Rattle.listing.proofs.answer.answer_line.Statement.{statement}
-use Rattle.listing.proofs.answer.answer_line.Tie as tie
+use Rattle.reports.proofs.answer_line.Statement.{statement}
+use Rattle.reports.proofs.answer_line.Tie as tie
 
 returns : tie.Need-returns
 unfolding answerLine

@@ -1,8 +1,8 @@
 use borrow.Author.Needs.{needs}
 use Rattle.standard.specs.Programs.{wroteText}
 use Rattle.text.proofs.LineLaws.{append}
-use Rattle.listing.proofs.answer.wrote_text.Statement.{statement}
-use Rattle.listing.proofs.answer.wrote_text.Tie as tie
+use Rattle.reports.proofs.wrote_text.Statement.{statement}
+use Rattle.reports.proofs.wrote_text.Tie as tie
 
 returns : tie.Need-returns
 unfolding wroteText
