@@ -95,10 +95,11 @@ enum taa1_refusal {
     TAA1_OUTPUT_SHORT = 12  /* the output is shorter than the result */
 };
 
-/* What a refusal means, in the words of the programs. */
+/* What the first field of an answer means, in the words of the programs. */
 static inline const char *taa1_refusal_text(uint32_t refusal)
 {
     switch (refusal) {
+    case TAA1_ACCEPTED: return "accepted";
     case TAA1_BOOK_TOO_LONG: return "book longer than 1,024 records";
     case TAA1_BOOK_NOT_WHOLE: return "book not a whole number of records";
     case TAA1_WRONG_KIND: return "kind not 1 to 6";

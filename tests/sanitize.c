@@ -451,7 +451,8 @@ static void nulls(void)
 static void texts(void)
 {
     CHECK(strcmp(taa1_refusal_text(TAA1_OUTPUT_SHORT), "output shorter than the result") == 0);
-    CHECK(strcmp(taa1_refusal_text(TAA1_ACCEPTED), "not in the list") == 0);
+    CHECK(strcmp(taa1_refusal_text(TAA1_ACCEPTED), "accepted") == 0);
+    CHECK(strcmp(taa1_refusal_text(TAA1_GROUP_DISAGREES + 1), "not in the list") == 0);
     CHECK(strcmp(taa1_refusal_text(UINT32_MAX), "not in the list") == 0);
 }
 

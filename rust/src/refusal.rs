@@ -78,6 +78,16 @@ impl Refusal {
         }
     }
 
+    /// What the first field of an answer of `raw` means, as `taa1_refusal_text` says it
+    /// in C.
+    pub fn text(number: u32) -> &'static str {
+        match number {
+            0 => "accepted",
+            1..=19 => Refusal::ALL[number as usize - 1].name(),
+            _ => "not in the list",
+        }
+    }
+
     /// The refusal in an answer's first field, where 0 is none.
     pub(crate) fn test(number: u32) -> Result<(), Refusal> {
         match number {

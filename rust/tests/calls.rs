@@ -784,4 +784,10 @@ fn refusals_have_their_texts() {
         runs: 14,
     };
     assert_eq!(counted.to_string(), format!("{refused}, 14 runs"));
+    for refusal in Refusal::ALL {
+        assert_eq!(Refusal::text(refusal.number()), refusal.name());
+    }
+    assert_eq!(Refusal::text(0), "accepted");
+    assert_eq!(Refusal::text(20), "not in the list");
+    assert_eq!(Refusal::text(u32::MAX), "not in the list");
 }
