@@ -114,9 +114,10 @@ def class_page(
     if points:
         means = {"mean": points.mean, "median": points.median}
         said = ", ".join(f"{name} {decimal(value)}" for name, value in means.items())
-        numbers += f" Points: {said} of {' to '.join(map(decimal, points.most))}."
-        histogram_ = histogram(points.values, points.most[-1], means)
-        pictured = [tag("section", tag("h2", "Points, and how many candidates have them") + histogram_)]
+        what = "Points, in percent of what each could reach" if points.shares else "Points"
+        numbers += f" {what}: {said} of {decimal(points.most)}."
+        histogram_ = histogram(points.values, points.most, means)
+        pictured = [tag("section", text("h2", f"{what}, and how many candidates have them") + histogram_)]
     return page(
         "The class",
         fillings(),

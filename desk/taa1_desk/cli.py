@@ -536,9 +536,15 @@ def run_mark(args: argparse.Namespace) -> int:
         if sheet.problem and not args.dry:
             files.progress(0, 0)
             files.say(f"{sheet.name}: {sheet.problem}")
-        sheets.append(sheet if sheet.problem else sheet._replace(points=scheme.score(by, sheet)))
+        sheets.append(sheet)
     files.progress(0, 0)
-    sheets = [sheet._replace(candidate=name) for sheet, name in zip(sheets, who.names)]
+    asked = reader.keys.asked
+    sheets = [
+        sheet._replace(
+            candidate=name, points=None if sheet.problem else scheme.score(by, sheet, asked)
+        )
+        for sheet, name in zip(sheets, who.names)
+    ]
     of = summary(sheets)
     files.say(*(f"{place(name)}: named more than once, and marked once" for name in handed.twice))
     files.say(*map(str, [] if args.dry else told))

@@ -16,7 +16,7 @@ from .scheme import written
 from .sheets import Summary, sheet_json
 from .texts import Heading
 
-FORM, VERSION = "taa1 mark", 1
+FORM, VERSION = "taa1 mark", 2
 
 HEADS = (
     "candidate", "file", "entries", *COUNTED, "points", "of points", "opens", "slips", "read as",
@@ -53,7 +53,13 @@ def class_json(
         "class": {
             **of._asdict(),
             "absent": list(absent),
-            "points": points and {"mean": str(points.mean), "median": str(points.median)},
+            "points": points
+            and {
+                "mean": str(points.mean),
+                "median": str(points.median),
+                "of": str(points.most),
+                "in_percent": points.shares,
+            },
             "slips": [{"slip": name, "candidates": count} for name, count in of.slips],
             "checks": [
                 {"kind": kind, "check": check, "entries": count} for kind, check, count in of.checks

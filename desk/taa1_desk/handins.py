@@ -19,7 +19,7 @@ from taa1 import Refused
 
 from .files import STANDARD, Problem, place, reason
 from .forms import BYTES, FORMS, rows, text_of
-from .keysheet import KeyFile
+from .keysheet import KeyFile, KeyMarker
 from .mark import Marked, Marker, Sheet, Wanted
 from .page import is_made_by
 from .pages import MADE_BY
@@ -91,7 +91,7 @@ class Reader:
         """Takes what the model's records show in clear."""
         self.marker = marker
         self.identities = {entry.identity for entry in marker.entries}
-        self.keys = {entry.key for entry in marker.entries}
+        self.entry_keys = {entry.key for entry in marker.entries}
         plain = [entry.data for entry in marker.entries]
         self.heads = {record[:1] + record[4:6] for record in plain}
         self.names = {PLAIN: {record[1:4] for record in plain}}
@@ -123,6 +123,11 @@ class Reader:
     def wanted(self) -> Wanted:
         """What is wanted of each entry."""
         return self.marker.wanted
+
+    @property
+    def keys(self) -> KeyMarker:
+        """What marks keys."""
+        return self.marker.keys
 
     def common(self, book: bytes, size: int = SEALED) -> int:
         """How much is the model's: records, and kinds with versions or identities."""
@@ -282,7 +287,7 @@ class Reader:
         opened = entry.opened
         if opened is None or entry.slip or entry.state == "doubled":
             return True
-        return opened.identity in self.identities or opened.key in self.keys
+        return opened.identity in self.identities or opened.key in self.entry_keys
 
 
 def _said(error: Exception) -> str:

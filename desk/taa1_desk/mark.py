@@ -132,10 +132,9 @@ class Sheet(NamedTuple):
 
     @property
     def extra(self) -> int:
-        """How many records there are beyond one for each entry of the model: those too
-        many, or further attempts at the same entries."""
-        attempts = sum(entry.state == "extra" for entry in self.entries)
-        return max(len(self.entries) - self.size, attempts, self.again)
+        """How many records are no entry's own: those too many, repeats of right ones, and
+        further attempts at the same entries."""
+        return self.again + sum(entry.state in ("extra", "doubled") for entry in self.entries)
 
     @property
     def perfect(self) -> bool:

@@ -45,10 +45,9 @@ def counts(sheet: Sheet) -> Counts:
     wrong = [entry for entry in sheet.entries if entry.state == "wrong"]
     failing = sum(map(_fails, wrong))
     missing = 0 if sheet.problem else len(sheet.missing)
-    extra = sum(entry.state in ("extra", "doubled") for entry in sheet.entries)
     marked = sheet.right + len(wrong) + missing
     return Counts(
-        sheet.right, len(wrong) - failing, failing, missing, sheet.size - marked, extra
+        sheet.right, len(wrong) - failing, failing, missing, sheet.size - marked, sheet.extra
     )
 
 
@@ -100,20 +99,19 @@ def key_result(mark: KeyMark) -> str:
         return "right"
     if not mark.has:
         return "wrong: not to be read"
-    if not mark.has:
-        return "wrong: it can't be read"
     length = f": {len(mark.has)} bytes, not {len(mark.wants)}" * (len(mark.has) != len(mark.wants))
     return f"wrong{length}{f': it is {both(mark.also)}' * bool(mark.also)}"
 
 
 class Average(NamedTuple):
-    """The points of a class: those of each candidate, the means, and the most that there
-    are, or the least and the greatest of that, which depends on what was handed in."""
+    """The points of a class, of each candidate; or, if what could be reached is not the same
+    for all, the shares of that in percent. And the most that there are, and the means."""
 
     values: list[Fraction]
-    most: list[Fraction]
+    most: Fraction
     mean: Fraction
     median: Fraction
+    shares: bool
 
 
 def average(sheets: Iterable[Sheet]) -> Optional[Average]:
@@ -121,10 +119,10 @@ def average(sheets: Iterable[Sheet]) -> Optional[Average]:
     points = [sheet.points for sheet in sheets if sheet.points]
     if not points:
         return None
-    values = [each.sum for each in points]
-    most = sorted({each.most for each in points})
-    most = [most[0], most[-1]] if len(most) > 1 else most
-    return Average(values, most, mean(values), Fraction(median(values)))
+    shares = len({each.most for each in points}) > 1
+    values = [100 * each.share if shares else each.sum for each in points]
+    most = Fraction(100) if shares else points[0].most
+    return Average(values, most, mean(values), Fraction(median(values)), shares)
 
 
 def _explained(sheet: Sheet, wrong: int) -> str:

@@ -4,7 +4,7 @@ from __future__ import annotations
 
 import re
 from fractions import Fraction
-from typing import TYPE_CHECKING, Collection, NamedTuple, Optional
+from typing import TYPE_CHECKING, Collection, Iterable, NamedTuple, Optional
 
 from .files import Problem
 from .records import KINDS
@@ -19,15 +19,17 @@ DEFAULT = """\
 entry = 1             # each entry that is right: of a book that was opened, also a flag that is set
 redundancy byte = 0   # each check of an entry's redundancy that does not fail, also of wrong entries
 
-session key = 2       # each, where NAME.keys lies beside NAME.book; what is missing there costs nothing
+session key = 2       # each, where it is handed in: in NAME.keys beside NAME.book, or on the answer form
 response = 1
 key = 1
 D = 1
 O = 2
 G = 1
 
+keys asked = 0        # 0: values that are not handed in cost nothing; 1: they count in what can be reached
+
 follow-through = 1/2  # of the points, for what is wrong but right under the candidate's own keys
-extra = -1            # each record beyond one for each entry of the model
+extra = -1            # each record that is no entry's own: one too many, a repeat, a further attempt
 order = 0             # each entry in another order than the model's
 
 # The sum is never below 0.
@@ -36,6 +38,7 @@ order = 0             # each entry in another order than the model's
 Scheme = dict[str, Fraction]
 COSTS = ("extra", "order")
 SHARE = "follow-through"
+ASKED = "keys asked"
 EXTRA = "extra records"
 
 
@@ -50,12 +53,17 @@ class Points(NamedTuple):
     """The points of a hand-in."""
 
     items: tuple[Item, ...]
-    most: Fraction  # with everything right that was handed in, and no entry missing
+    most: Fraction  # with everything right that is handed in or asked for, and no entry missing
 
     @property
     def sum(self) -> Fraction:
         """Their sum, never below 0."""
         return max(Fraction(0), sum((item.points for item in self.items), Fraction(0)))
+
+    @property
+    def share(self) -> Fraction:
+        """Their share of what could be reached."""
+        return self.sum / self.most if self.most else Fraction(0)
 
     def of(self, what: str) -> Fraction:
         """The points of an item; 0 of one that gives or costs none."""
@@ -101,6 +109,8 @@ def _beyond(name: str, points: Fraction) -> str:
         wanted, good = "0 or less", points <= 0
     elif name == SHARE:
         wanted, good = "0 to 1", 0 <= points <= 1
+    elif name == ASKED:
+        wanted, good = "0 or 1", points in (0, 1)
     return "" if good else f"{name}: {said(points)}, where {wanted} is wanted"
 
 
@@ -115,8 +125,8 @@ def written(points: Fraction) -> str:
     return "-" * (points < 0) + f"{whole}" + f" {rest}" * bool(rest)
 
 
-def score(scheme: Scheme, sheet: Sheet) -> Points:
-    """The points of a sheet."""
+def score(scheme: Scheme, sheet: Sheet, asked: Iterable[str] = ()) -> Points:
+    """The points of a sheet; the names are those of the values that the sitting asks for."""
 
     def full(places: Collection[Optional[int]]) -> Fraction:
         """The points of entries with everything right."""
@@ -126,25 +136,50 @@ def score(scheme: Scheme, sheet: Sheet) -> Points:
     share = scheme[SHARE]
     right = [entry.model for entry in sheet.entries if entry.state == "right"]
     following = [entry.model for entry in sheet.entries if entry.follows]
-    passed = sum(map(_passed, sheet.entries))
     items = [
         Item("entries right", full(right)),
         Item("entries right under own keys", share * full(following)),
-        Item("redundancy bytes of wrong entries", scheme["redundancy byte"] * passed),
+        Item("redundancy bytes of wrong entries", scheme["redundancy byte"] * _redundancy(sheet)),
     ]
-    most = full(range(sheet.size))
-    for mark in sheet.keys.marks:
-        value = scheme.get(mark.name.rstrip(" 12"), Fraction(0))
-        if mark.state != "idle":
-            most += value
-        if mark.state in ("right", "follows"):
-            items.append(Item(mark.name, value if mark.state == "right" else share * value))
+    handed_in = {mark.name: mark.state for mark in sheet.keys.marks if mark.state != "idle"}
+    names = [*handed_in, *(asked if scheme[ASKED] else ())]
+    wanted = {name: scheme.get(name.rstrip(" 12"), Fraction(0)) for name in names}  # C has none
+    for name, state in handed_in.items():
+        if state in ("right", "follows"):
+            items.append(Item(name, wanted[name] * (1 if state == "right" else share)))
     moved = sum(entry.moved for entry in sheet.entries)
     items += [
         Item(EXTRA, scheme["extra"] * sheet.extra),
         Item("entries in another order", scheme["order"] * moved),
     ]
-    return Points(tuple(item for item in items if item.points), most)
+    left_out = sum(bool(value) for name, value in wanted.items() if name not in handed_in)
+    items = [item for item in items if item.points]
+    if left_out:
+        items.append(Item(f"{left_out} key{'s' * (left_out > 1)} not handed in", Fraction(0)))
+    return Points(tuple(items), full(range(sheet.size)) + sum(wanted.values()))
+
+
+def _redundancy(sheet: Sheet) -> int:
+    """How many checks of wrong entries' redundancy do not fail. A text that is not the
+    entry's own counts once, however often it stands in the book."""
+    seen = {_text(entry) for entry in sheet.entries if entry.state == "right" or _is_own(entry)}
+    passed = 0
+    for entry in sheet.entries:
+        if _is_own(entry) or _text(entry) not in seen:
+            passed += _passed(entry)
+            seen.add(_text(entry))
+    return passed
+
+
+def _text(entry: Marked) -> bytes:
+    """The text of a sealed record, with its kind and version."""
+    return entry.record[:1] + entry.record[4:]
+
+
+def _is_own(entry: Marked) -> bool:
+    """Whether an entry is wrong by its identity alone."""
+    differ = [difference.field for difference in entry.differences]
+    return bool(entry.opened and not entry.opened.failed and differ == ["identity"])
 
 
 def _passed(entry: Marked) -> int:

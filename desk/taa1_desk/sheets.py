@@ -180,7 +180,7 @@ def faults(sheet: Sheet) -> list[str]:
 
 
 def too_many(sheet: Sheet) -> list[str]:
-    """What is to be said first of a book with more records than one for each entry."""
+    """What is to be said first of a book with records that are no entry's own."""
     if not sheet.extra:
         return []
     cost = -sheet.points.of(EXTRA) if sheet.points else Fraction(0)
@@ -188,7 +188,16 @@ def too_many(sheet: Sheet) -> list[str]:
     records = len(sheet.entries) + sheet.again
     there = f"{records} records, where the model has {sheet.size} entries"
     if records <= sheet.size:
-        there = "further attempts at entries that have their record"
+        repeats = sum(entry.state == "doubled" for entry in sheet.entries)
+        counted = (
+            (repeats, "a repeat of a right record", "repeats of right records"),
+            (
+                sheet.extra - repeats,
+                "a further attempt at an entry that has its record",
+                "further attempts at entries that have their record",
+            ),
+        )
+        there = " and ".join(one if count == 1 else more for count, one, more in counted if count)
     return [f"{plural(sheet.extra, 'extra record')}{costs}: {there}"]
 
 
@@ -285,7 +294,8 @@ def summary(sheets: list[Sheet]) -> Summary:
     for sheet in sheets:
         for slip in sheet.slips:
             slips[slip.name] = slips.get(slip.name, 0) + 1
-        for opened in (entry.opened for entry in sheet.entries if entry.opened):
+        wrong = [entry.opened for entry in sheet.entries if entry.state == "wrong"]
+        for opened in filter(None, wrong):
             for check in opened.failed:
                 at = (opened.kind, check)
                 checks[at] = checks.get(at, 0) + 1

@@ -9,7 +9,7 @@ import re
 from fractions import Fraction
 from typing import Any
 
-from common import CLASS, PLAIN_BOOK, ROOT, Case, seal, taa1
+from common import CLASS, DESK, PLAIN_BOOK, ROOT, SITTING, Case, seal, taa1
 from taa1_desk import pictures
 from taa1_desk.records import PLAIN, SEALED, Entry, split
 from taa1_desk.results import COUNTED
@@ -59,7 +59,8 @@ class Class(Case):
         self.assertEqual(opens, ["yes", "yes", "no", "yes", "yes", "yes", "no", "", "no"])
         self.assertIn("0 of 1 records begin with a kind", rows[7]["problem"])
         points = [(row["points"], row["of points"]) for row in rows]
-        self.assertEqual(points[3:5] + points[7:], [("9", "12"), ("11", "12"), ("", ""), ("7", "12")])
+        wanted = [("9", "12"), ("11", "12"), ("10", "12"), ("11", "12"), ("", ""), ("5", "12")]
+        self.assertEqual(points[3:], wanted)
 
     def test_formulas(self) -> None:
         """What a spreadsheet would work out has an apostrophe in front; commas are quoted."""
@@ -74,7 +75,7 @@ class Class(Case):
     def test_json(self) -> None:
         """The form has a number, and says of the class what the sheets say."""
         said = json.loads(taa1("mark", *INPUTS, *self.books, "--json").out)
-        self.assertEqual((said["form"], said["version"]), ("taa1 mark", 1))
+        self.assertEqual((said["form"], said["version"]), ("taa1 mark", 2))
         counts = [tuple(sheet["counts"].values()) for sheet in said["sheets"]]
         self.assertEqual(counts, [counts for _, counts in BOOKS.values()])
         wrong = {each.pop("entry"): tuple(each.values()) for each in said["class"]["wrong_entries"]}
@@ -83,7 +84,10 @@ class Class(Case):
             {2: (2, 0, 0), 4: (0, 2, 0), 0: (0, 0, 1), 1: (0, 0, 1), 3: (0, 0, 1), 7: (0, 0, 1),
              9: (0, 0, 1), 10: (0, 0, 1), 11: (0, 0, 1)},
         )  # fmt: skip
-        self.assertEqual(said["class"]["points"], {"mean": "83/8", "median": "11"})
+        points = {"mean": "10", "median": "11", "of": "12", "in_percent": False}
+        self.assertEqual(said["class"]["points"], points)
+        for sheet in said["sheets"]:
+            self.assertEqual(sheet["extra"], sheet["counts"]["extra"], sheet["candidate"])
         self.fails(2, "mark: --csv or --json, not both", "mark", *INPUTS, *self.books, "--csv", "--json")
 
     def test_described(self) -> None:
@@ -134,6 +138,51 @@ class Class(Case):
         page = pictures.histogram(values, Fraction(12), means)
         self.assertIn(">mean 5.67<", page)
         self.assertIn('<text x="50.00%" y="160.0" dx="0" text-anchor="middle">▲', page)
+
+
+class Maxima(Case):
+    """What could be reached, where some handed in keys and others did not."""
+
+    def setUp(self) -> None:
+        """Ann hands in a book, Ben a book and two keys of which one is wrong."""
+        super().setUp()
+        self.books = [self.file(f"{name}.book", seal()) for name in ("ann", "ben")]
+        ring = DESK.call("ring", *SITTING)["ring"]
+        self.file("ben.keys", f"D = {ring[:10].hex()}\nO = {bytes(16).hex()}\n")
+
+    def mark(self, *options: Any) -> list[str]:
+        """The sentences about points, of each sheet and of the class."""
+        out = taa1("mark", *INPUTS, *self.books, *options).out.decode()
+        taa1("mark", *INPUTS, *self.books, *options, "--html", self.folder / "pages")
+        page = (self.folder / "pages" / "index.html").read_text()
+        return re.findall(r"  (points .*)", out) + re.findall(r"Points.*?(?=\.<|<)", page)
+
+    def test_shares(self) -> None:
+        """The class is compared by shares of what each could reach."""
+        share = "Points, in percent of what each could reach"
+        self.assertEqual(
+            self.mark(),
+            ["points 12 of 12", "points 13 of 15 (entries right: 12; D: 1)",
+             f"{share}: mean 93.33, median 93.33 of 100", f"{share}, and how many candidates have them"],
+        )  # fmt: skip
+        said = json.loads(taa1("mark", *INPUTS, *self.books, "--json").out)["class"]["points"]
+        self.assertEqual(said, {"mean": "280/3", "median": "280/3", "of": "100", "in_percent": True})
+
+    def test_asked(self) -> None:
+        """Where the scheme says that keys are asked for, one maximum holds for all, and who
+        hands in fewer wins nothing."""
+        asked = ("--scheme", self.file("scheme", "keys asked = 1\n"))
+        self.assertEqual(
+            self.mark(*asked),
+            ["points 12 of 24 (entries right: 12; 9 keys not handed in: 0)",
+             "points 13 of 24 (entries right: 12; D: 1; 7 keys not handed in: 0)",
+             "Points: mean 12.5, median 12.5 of 24", "Points, and how many candidates have them"],
+        )  # fmt: skip
+        self.file("ben.keys", "".join((self.folder / "ben.keys").read_text().splitlines(True)[:1]))
+        self.assertIn("points 13 of 24", self.mark(*asked)[1])
+        bad = self.file("scheme", "keys asked = 2\n")
+        said = f"{bad}, line 1: keys asked: 2, where 0 or 1 is wanted"
+        self.fails(2, said, "mark", *INPUTS, *self.books, *asked)
 
 
 class Names(Case):

@@ -9,8 +9,8 @@ from fractions import Fraction
 from common import CLASS, DESK, ENTRIES, LINES, PLAIN_BOOK, RING, SITTING, Case, seal, taa1
 from taa1_desk.keysheet import KeyFile, parse
 from taa1_desk.mark import Marker
-from taa1_desk.records import SEALED, split
-from taa1_desk.results import key_result
+from taa1_desk.records import KINDS, SEALED, split
+from taa1_desk.results import counts, key_result
 from taa1_desk.scheme import DEFAULT, Points, said, score
 from taa1_desk.scheme import parse as parse_scheme
 from taa1_desk.sheets import sheet_text, summary
@@ -228,6 +228,36 @@ class Schemes(unittest.TestCase):
         few = points([*noise[:6], *noise[12:18]])  # six entries tried twice: 12 records
         self.assertEqual(few.of("extra records"), -6)
         self.assertEqual(points([*MODEL, MODEL[0]], "extra = 0").sum, 12)
+
+    def test_repeats(self) -> None:
+        """A right record that stands in the place of others costs as every extra one, and
+        the words, the counts and the points agree."""
+        for often in (1, 2, 11, 12, 20):
+            book = [MODEL[0]] * often + MODEL[often:]
+            sheet = MARKER.mark("book", b"".join(book))
+            made = points(book)
+            self.assertEqual((sheet.extra, counts(sheet).extra), (often - 1, often - 1))
+            self.assertEqual(made.of("extra records"), 1 - often)
+            self.assertEqual(made.sum, max(0, sheet.right - (often - 1)))
+            said = [line for line in sheet_text(sheet).splitlines() if "extra record" in line]
+            if 1 < often <= 12:
+                what = f"{often - 1} extra record{'s' * (often > 2)}"
+                repeats = "repeats of right records" if often > 2 else "a repeat of a right record"
+                self.assertEqual(said, [f"  {what}: {repeats}"])
+
+    def test_repeated_redundancy(self) -> None:
+        """A text that is properly sealed gives its redundancy's points once, also beside
+        other identities; entries that are wrong by their identity alone keep theirs."""
+        scheme = "entry = 0\nredundancy byte = 1"
+        wrong = ENTRIES[2]._replace(version=999)  # of kind 2: five checks
+        record = DESK.call("seal_book", RING.data, wrong.data)["out"]
+        self.assertEqual(points([record] * 12, scheme).sum, 5)
+        others = [record[:1] + bytes([i] * 3) + record[4:] for i in range(12)]
+        self.assertEqual(points(others, scheme).sum, 5)
+        checks = sum(KINDS[entry.kind].checks for entry in ENTRIES)
+        renamed = [each[:1] + bytes([each[1] ^ 1]) + each[2:] for each in MODEL]
+        self.assertEqual(points(renamed, scheme).sum, checks)
+        self.assertEqual(points(MODEL[:3] + [MODEL[2]] * 9, scheme + "\nextra = 0").sum, 15)
 
     def test_order(self) -> None:
         self.assertEqual(points(MODEL[1:] + MODEL[:1]).sum, 12)

@@ -100,8 +100,8 @@ class Pages(Case):
         self.assertEqual(names, [*(f"{name}.book.html" for name in CANDIDATES), "index.html"])
         index = Page(pages / "index.html")
         self.assertEqual(index.links, names[:-1])
-        words = "6 candidates: 1 all right, 3 do not open, 0 not marked. Points: mean 11.25, median 10.5"
-        self.assertIn(f"{words} of 12 to 24.", index.texts)
+        words = "6 candidates: 1 all right, 3 do not open, 0 not marked. Points, in percent of what each could"
+        self.assertIn(f"{words} reach: mean 79.51, median 83.33 of 100.", index.texts)
         for word in ("RS for RSO", "opens; kind 2 for kind 5", "three zero bits"):
             self.assertIn(word, index.texts)
         at = index.texts.index("3, GCK under O (KSO)", index.texts.index("three zero bits"))
