@@ -1,15 +1,17 @@
--- A copy over the front of a list.
+-- A copy over the front of a list: of a string, of its end over zeros, of two strings one after the other.
 -- Assumes nothing.
 use mathlib.Core.List.{List, [], _∷_, _++_, append-nil}
 use mathlib.Core.Logic.{_⊎_, inl, inr}
 use mathlib.Core.Path.{_≡_, refl, sym, ap, ap₂, _∙_}
-use Prim.Native.Nat.{ℕ, zero, suc, _+_, _<_, _≤_}
+use Prim.Native.Nat.{ℕ, zero, suc, _+_, _-_, _<_, _≤_}
 use native.Mathlib.Nat.{zero-add}
 use native.Mathlib.Numerals.{add-one}
 use native.Mathlib.Omega.{arith}
-use lib.ListN.{length, getD, take, drop, set, drop-of-length-le}
-use lib.Seq.{take-all, paste-suc}
-use Rattle.standard.specs.Bytes.{_!_, table, zeros}
+use lib.ListN.{length, getD, take, drop, set, length-append, length-drop, drop-of-length-le, List·getD-eq-default}
+use lib.Seq.{take-all, take-at, drop-at, getD-drop, paste-suc}
+use borrow.Rule.Slice.PartMut.{midOf, putMid}
+use Rattle.standard.proofs.BytesLaws.{table-same, spelled}
+use Rattle.standard.specs.Bytes.{_!_, table, part, zeros}
 use Rattle.arrays.specs.Least.{Least}
 
 -- one store more
@@ -34,3 +36,48 @@ pub over-zeros : (n : ℕ) (s : List ℕ) → take n s ++ drop (length s) (zeros
 over-zeros zero s = drop-of-length-le [] {i = length s} (omega arith)
 over-zeros (suc n) [] = refl
 over-zeros (suc n) (x ∷ s) = ap (_∷_ x) (over-zeros n s)
+
+-- from index `from` on, over zeros: what is lent of the string, and its part
+pub read-zeros : (from : ℕ) (s out : List ℕ) → out ≡ zeros (length out)
+    → take (length out) (take (length s - from) (drop from s)) ++ drop (length (take (length s - from) (drop from s))) out ≡ part from (length out) s
+read-zeros from s out e =
+    rw (take-all (length s - from) (drop from s) (omega (arith, length-drop from s)))
+    (ap (λ (z : List ℕ). take (length out) (drop from s) ++ drop (length (drop from s)) z) e
+    ∙ over-zeros (length out) (drop from s)
+    ∙ table-same (length out) (λ i. drop from s ! i) (λ i. s ! (from + i)) (λ i h. getD-drop from s i 0))
+
+-- past the end
+pub zeros-past : (n from : ℕ) (s : List ℕ) → length s ≤ from → zeros n ≡ part from n s
+zeros-past n from s h = table-same n (λ i. 0) (λ i. s ! (from + i)) (λ i k. sym (List·getD-eq-default s 0 {n = from + i} (omega arith)))
+
+-- ---- two copied one after the other
+
+-- what `copy` makes of `out`
+abbrev over : List ℕ → List ℕ → List ℕ
+over s out = take (length out) s ++ drop (length s) out
+
+module _ (m : ℕ) (a b out : List ℕ) (ha : length a ≡ m) (h : length out ≡ m + length b) where
+  over-front : over a out ≡ a ++ drop m out
+  over-front = ap₂ _++_ (take-all (length out) a (omega arith)) (ap (λ (k : ℕ). drop k out) ha)
+
+  rest : length (drop m out) ≡ length b
+  rest = rw (length-drop, h) (omega arith)
+
+  over-rest : over b (drop m out) ≡ b
+  over-rest =
+      rw (rest, drop-of-length-le (drop m out) {i = length b} (omega (arith, rest)), append-nil) (take-all (length b) b (omega arith))
+
+  two-copied : (n : ℕ) (r₁ r₂ : List ℕ) → n ≡ length b → r₁ ≡ over a out → r₂ ≡ over b (midOf m n r₁) → putMid m n r₁ r₂ ≡ a ++ b
+  two-copied n r₁ r₂ k e₁ e₂ =
+      let f₁ : r₁ ≡ a ++ drop m out = e₁ ∙ over-front in
+      let f₂ : r₂ ≡ b =
+      (rw (f₁, drop-at a (drop m out) m ha, take-all n (drop m out) (omega (arith, rest))) at e₂) ∙ over-rest in
+      rw (f₁, f₂, take-at a (drop m out) m ha, drop-at a (drop m out) m ha, drop-of-length-le (drop m out) {i = n} (omega (arith, rest)), append-nil)
+
+  pub joined : (r₁ r₂ : List ℕ) → r₁ ≡ over a out → r₂ ≡ over b (midOf m (length r₁ - m) r₁)
+      → putMid m (length r₁ - m) r₁ r₂ ≡ part 0 m a ++ part 0 (length out - m) b
+  joined r₁ r₂ e₁ e₂ =
+      let l : length r₁ ≡ length a + length (drop m out) = ap length (e₁ ∙ over-front) ∙ length-append a (drop m out) in
+      simp zero-add
+      (two-copied (length r₁ - m) r₁ r₂ (omega (arith, rest)) e₁ e₂
+      ∙ ap₂ _++_ (sym (spelled m a ha)) (sym (spelled (length out - m) b (omega arith))))

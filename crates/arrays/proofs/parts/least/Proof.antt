@@ -1,8 +1,8 @@
 use mathlib.Core.Logic.{inl, inr}
 use mathlib.Core.Path.{refl}
 use borrow.Author.Needs.{needs}
-use Rattle.arrays.proofs.least.Statement.{statement}
-use Rattle.arrays.proofs.least.Tie as tie
+use Rattle.arrays.proofs.parts.least.Statement.{statement}
+use Rattle.arrays.proofs.parts.least.Tie as tie
 
 returns : tie.Need-returns
 returns c = record { left = search needs; right = search needs; one = inl refl }

@@ -7,8 +7,8 @@ use denote.Ref.{now}
 use Rattle.arrays.proofs.CopyLaws.{copy-next, copied}
 use Rattle.arrays.specs.Least.{Least}
 use Rattle.standard.specs.Bytes.{_!_}
-use Rattle.arrays.proofs.copy.Statement.{statement}
-use Rattle.arrays.proofs.copy.Tie as tie
+use Rattle.arrays.proofs.parts.copy.Statement.{statement}
+use Rattle.arrays.proofs.parts.copy.Tie as tie
 
 abbrev Inv-loop : tie.InvT-loop
 Inv-loop s out₀ n i₀ out i = (i ≤ n) × (length out ≡ length out₀) × (out ≡ take i s ++ drop i out₀) × Least (length s) (length out₀) n

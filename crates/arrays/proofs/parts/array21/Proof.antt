@@ -2,8 +2,8 @@ use mathlib.Core.Path.{_∙_}
 use denote.Ref.{now}
 use borrow.Author.Needs.{needs}
 use Rattle.arrays.proofs.CopyLaws.{over-zeros}
-use Rattle.arrays.proofs.array21.Statement.{statement}
-use Rattle.arrays.proofs.array21.Tie as tie
+use Rattle.arrays.proofs.parts.array21.Statement.{statement}
+use Rattle.arrays.proofs.parts.array21.Tie as tie
 
 returns : tie.Need-returns
 returns c = c .before .copy .ensures ∙ over-zeros 21 (now (c .before .before .before .before .args .s))

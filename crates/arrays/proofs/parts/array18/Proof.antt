@@ -2,8 +2,8 @@ use mathlib.Core.Path.{_∙_}
 use denote.Ref.{now}
 use borrow.Author.Needs.{needs}
 use Rattle.arrays.proofs.CopyLaws.{over-zeros}
-use Rattle.arrays.proofs.array18.Statement.{statement}
-use Rattle.arrays.proofs.array18.Tie as tie
+use Rattle.arrays.proofs.parts.array18.Statement.{statement}
+use Rattle.arrays.proofs.parts.array18.Tie as tie
 
 returns : tie.Need-returns
 returns c = c .before .copy .ensures ∙ over-zeros 18 (now (c .before .before .before .before .args .s))

@@ -5,8 +5,8 @@ use lib.ListN.{length, take, length-set}
 use denote.Ref.{now}
 use Rattle.standard.proofs.FillLaws.{fill-next, filled}
 use Rattle.standard.specs.Bytes.{_!_, _⊕_, xors}
-use Rattle.arrays.proofs.xor_into.Statement.{statement}
-use Rattle.arrays.proofs.xor_into.Tie as tie
+use Rattle.arrays.proofs.xors.xor_into.Statement.{statement}
+use Rattle.arrays.proofs.xors.xor_into.Tie as tie
 
 abbrev Inv-loop : tie.InvT-loop
 Inv-loop a b out₀ n i₀ out i = (i ≤ length out₀) × (length out ≡ length out₀) × (take i out ≡ xors i a b)
