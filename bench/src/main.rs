@@ -241,7 +241,10 @@ fn least(row: &str, steps: usize, mut contenders: [&mut Round; 3]) -> [Option<f6
     let mut wanted = None;
     for _ in 0..ROUNDS {
         for (round, least) in contenders.iter_mut().zip(&mut least) {
-            let Some(round) = round else { continue };
+            let round = match round {
+                Some(round) => round,
+                None => continue,
+            };
             let start = Instant::now();
             let block = round();
             let time = start.elapsed();
@@ -315,11 +318,10 @@ fn main() {
         ("class", "challenges", class, challenge),
         ("sheet", "derivations", sheet, derivation),
     ] {
-        let (Some(all), Some(one_by_one)) = (all, one_by_one) else {
-            continue;
-        };
-        let ratio = shown(Some(all / one_by_one), 2);
-        println!("ours: a {list} of {RECORDS} takes {ratio} times its {parts} one by one");
+        if let (Some(all), Some(one_by_one)) = (all, one_by_one) {
+            let ratio = shown(Some(all / one_by_one), 2);
+            println!("ours: a {list} of {RECORDS} takes {ratio} times its {parts} one by one");
+        }
     }
 }
 

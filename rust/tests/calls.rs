@@ -390,8 +390,8 @@ fn identities_come_back() {
 fn keys_are_made_from_keys() {
     let (a, b) = (upward::<10>(), KEY);
     let key: [u8; 16] = from_fn(|i| match i {
-        0..6 => a[i],
-        6..10 => a[i] ^ b[i - 6],
+        0..=5 => a[i],
+        6..=9 => a[i] ^ b[i - 6],
         _ => b[i - 6],
     });
     let out = taa1::ta11(&key, &xor(a, b)).unwrap();

@@ -106,7 +106,7 @@ fn play(folder: &OsStr, lines: &mut Vec<String>) -> Result<(), String> {
     lines.extend(ring_lines("one-sided ", &of_one_side));
 
     let values = taa1::lineage(&sheet).map_err(|e| format!("lineage.sheet: {e}"))?;
-    let (records, length) = (values.len(), values.as_flattened().len());
+    let (records, length) = (values.len(), values.concat().len());
     lines.push(format!("lineage {records} records, {length} bytes"));
     for value in &values {
         lines.push(format!("lineage {}", hex(value)));

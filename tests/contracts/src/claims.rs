@@ -31,8 +31,11 @@ fn place(cell: &str) -> Option<(&str, &str)> {
 
 fn row(line: &str) -> Option<Row<'_>> {
     let cells: Vec<&str> = line.split('|').map(str::trim).collect();
-    let ["", claim, sentence, verdict, proved, why, statement, theorem, ""] = cells[..] else {
-        return None;
+    let (claim, sentence, verdict, proved, why, statement, theorem) = match cells[..] {
+        ["", claim, sentence, verdict, proved, why, statement, theorem, ""] => {
+            (claim, sentence, verdict, proved, why, statement, theorem)
+        }
+        _ => return None,
     };
     let known = ["true", "false"].contains(&verdict) && ["for all", "example"].contains(&proved);
     let said = known && !sentence.is_empty() && !why.is_empty();
@@ -98,8 +101,9 @@ fn of_file<'a>(files: &'a [File], name: &str) -> &'a str {
 /// What is wrong with a row.
 fn fault(row: &Row, specs: &[File], proofs: &[File]) -> Option<&'static str> {
     let claims = claims(of_file(specs, row.statement.0));
-    let Some(claim) = claims.iter().find(|claim| claim.number == row.claim) else {
-        return Some("no such claim in that file of specs/");
+    let claim = match claims.iter().find(|claim| claim.number == row.claim) {
+        Some(claim) => claim,
+        None => return Some("no such claim in that file of specs/"),
     };
     if claim.sentence != row.sentence {
         return Some("another sentence in specs/");
@@ -122,9 +126,12 @@ pub fn check(guide: &str, specs: &[File], proofs: &[File]) -> (usize, Vec<String
     let mut faults = Vec::new();
     let mut passed = 0;
     for line in lines.skip(2) {
-        let Some(row) = row(line) else {
-            faults.push(format!("not understood: {line}"));
-            continue;
+        let row = match row(line) {
+            Some(row) => row,
+            None => {
+                faults.push(format!("not understood: {line}"));
+                continue;
+            }
         };
         let again = rows.iter().any(|other| other.claim == row.claim);
         let wrong = if again {

@@ -24,8 +24,9 @@ fn comments(text: &str) -> Option<(&str, &str)> {
 
 /// The edits of a crate, by their labels; and the files that are not understood.
 pub fn of_crate(name: &str, folder: &Path) -> (Vec<Edit>, Vec<String>) {
-    let Ok(entries) = fs::read_dir(folder) else {
-        return (Vec::new(), Vec::new());
+    let entries = match fs::read_dir(folder) {
+        Ok(entries) => entries,
+        Err(_) => return (Vec::new(), Vec::new()),
     };
     let mut paths: Vec<_> = entries
         .map(|e| e.expect("an entry of a folder").path())

@@ -89,11 +89,13 @@ fn elsewhere(source: &str) -> Vec<(String, String)> {
     let mut found = Vec::new();
     for line in source.lines() {
         let import = line.strip_prefix("ghost use Rattle·");
-        let Some((place, names)) = import.and_then(|line| line.split_once(".{")) else {
-            continue;
+        let (place, names) = match import.and_then(|line| line.split_once(".{")) {
+            Some(parts) => parts,
+            None => continue,
         };
-        let Some((owner, file)) = place.split_once(".specs.") else {
-            continue;
+        let (owner, file) = match place.split_once(".specs.") {
+            Some(parts) => parts,
+            None => continue,
         };
         let owner = owner.trim_end_matches("·specs");
         if owner == "standard" {
@@ -117,8 +119,9 @@ fn statement(clause: &str, aliases: &[(&str, &str)]) -> String {
     let mut text = inner.unwrap_or(("", "")).0.trim().replace(['«', '»'], "");
     for (moment, mark) in [(" .entry)", ""), (" .exit)", "′")] {
         while let Some(end) = text.find(moment) {
-            let Some(start) = text[..end].rfind("now (") else {
-                break;
+            let start = match text[..end].rfind("now (") {
+                Some(start) => start,
+                None => break,
             };
             let plain = format!("{}{mark}", &text[start + "now (".len()..end]);
             text.replace_range(start..end + moment.len(), &plain);
@@ -153,8 +156,9 @@ fn functions(
             owner = None;
         }
         owner = name_after(line, "impl ").or(owner);
-        let Some(name) = function_name(line) else {
-            continue;
+        let name = match function_name(line) {
+            Some(name) => name,
+            None => continue,
         };
         // The body starts at a brace of its own, or behind the head if there is
         // no contract.
@@ -215,8 +219,9 @@ fn of_crate(name: &str, folder: &Path, all: &mut Vec<Function>) -> Vec<String> {
     odd.extend(functions(name, &main, &|_| true, all));
     for line in main.lines() {
         let open = name_after(line, "pub mod ");
-        let Some(module) = open.or(name_after(line, "mod ")) else {
-            continue;
+        let module = match open.or(name_after(line, "mod ")) {
+            Some(module) => module,
+            None => continue,
         };
         let path = open.map_or(name.to_string(), |module| format!("{name}::{module}"));
         let file = folder.join(format!("{module}.rt"));

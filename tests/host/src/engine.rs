@@ -53,7 +53,7 @@ pub fn null() -> &'static [u8] {
 /// The same for an output.
 pub fn null_out() -> &'static mut [u8] {
     // SAFETY: there is no byte in it.
-    unsafe { std::slice::from_raw_parts_mut(PLACE.as_ptr().cast_mut(), 0) }
+    unsafe { std::slice::from_raw_parts_mut(PLACE.as_ptr() as *mut u8, 0) }
 }
 
 fn pointer(bytes: &[u8]) -> *const u8 {

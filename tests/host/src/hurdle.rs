@@ -123,12 +123,12 @@ thread_local! {
 
 /// How many blocks this thread has encrypted and decrypted so far.
 pub fn runs() -> usize {
-    RUNS.get()
+    RUNS.with(Cell::get)
 }
 
 /// Clause 6.2: sixteen rounds, then the swap of the halves.
 fn rounds(keys: impl Iterator<Item = [u8; 12]>, block: &[u8; 8]) -> [u8; 8] {
-    RUNS.set(RUNS.get() + 1);
+    RUNS.with(|runs| runs.set(runs.get() + 1));
     let block = u64::from_be_bytes(*block);
     let (mut l, mut r) = ((block >> 32) as u32, block as u32);
     for key in keys {

@@ -27,7 +27,8 @@ impl Tally {
     /// With `TAA1_EVERY` in the environment only every so many-th comparison of
     /// a group is made, for slow machines such as valgrind.
     pub fn from_environment() -> Self {
-        let every = settings::variable("TAA1_EVERY", "a number above 0", NonZeroUsize::MIN);
+        let all = NonZeroUsize::new(1).expect("1 is not 0");
+        let every = settings::variable("TAA1_EVERY", "a number above 0", all);
         Tally {
             every: every.get(),
             made: 0,

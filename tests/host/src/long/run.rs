@@ -133,7 +133,7 @@ impl Shared<'_> {
         count.made += 1;
         count.short += u64::from(
             call.records(&inputs)
-                .is_some_and(|records| records <= SHORT),
+                .map_or(false, |records| records <= SHORT),
         );
         if let Some(times) = count.refusals.get_mut(compared.refusal as usize) {
             *times += 1;
