@@ -8,8 +8,8 @@ from .claims import CLAIMS
 from .desk import Desk
 from .document import Block, Boxes, Document, Fields, Head, Pairs, Table, Together, Words
 from .instances import Instances
+from .records import Ring
 from .texts import Heading
-
 
 # What an argument as a whole has, in short (docs/ARGUMENT.md).
 WHOLE = (
@@ -19,9 +19,11 @@ WHOLE = (
 )
 
 
-def argument_sheet(desk: Desk, sitting: Sitting, heading: Heading, plain: bytes) -> Document:
+def argument_sheet(
+    desk: Desk, sitting: Sitting, ring: Ring, heading: Heading, plain: bytes
+) -> Document:
     """The claims with room for marks, and behind them their instances."""
-    made = Instances(desk, sitting, plain)
+    made = Instances(desk, sitting, ring, plain)
     tick, points = Boxes(1, tick=True), Boxes(1)
     rows = [(c.label, c.sentence, c.verdict, tick, tick, points) for c in CLAIMS]
     blocks: list[Block] = [

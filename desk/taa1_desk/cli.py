@@ -495,10 +495,10 @@ def run_argue(args: argparse.Namespace) -> int:
     desk = Desk()
     sitting, heading = texts.read_headed(args.sitting)
     plain = texts.read_plain(desk, args.book, args.bytes)
-    texts.make_ring(desk, sitting, place(args.sitting))
+    ring = texts.sitting_ring(desk, sitting, place(args.sitting))
     if not plain:
         raise Problem(f"{place(args.book)}: no entry in it, so there is no instance of a claim")
-    sheet = argument_sheet(desk, sitting, heading, plain)
+    sheet = argument_sheet(desk, sitting, ring, heading, plain)
     if args.html is not None:
         files.write_file(args.html, as_page(sheet).encode(), private=True)
     else:
@@ -615,14 +615,14 @@ def _reader(args: argparse.Namespace) -> tuple[Union[Reader, OpenedMarker], text
     beside the sealed book that was handed out; and the sitting's heading."""
     desk = Desk()
     sitting, heading = texts.read_headed(args.sitting)
-    texts.make_ring(desk, sitting, place(args.sitting))
+    ring = texts.sitting_ring(desk, sitting, place(args.sitting))
     if args.opened:
         sealed = texts.read_sealed(args.book, args.bytes)
-        return OpenedMarker(desk, sitting, sealed, place(args.book)), heading
+        return OpenedMarker(desk, sitting, ring, sealed, place(args.book)), heading
     plain = texts.read_plain(desk, args.book, args.bytes)
     if not plain:
         raise Problem(f"{place(args.book)}: no entry in it, so there is nothing to mark")
-    return Reader(Marker(desk, sitting, plain)), heading
+    return Reader(Marker(desk, sitting, ring, plain)), heading
 
 
 def _forms(args: argparse.Namespace, names: list[str]) -> list[str]:

@@ -57,10 +57,9 @@ def _bits(failed: int) -> tuple[int, ...]:
 class Instances:
     """The instances of a sitting, by the names of the claims' statements."""
 
-    def __init__(self, desk: Desk, sitting: Sitting, plain: bytes) -> None:
-        """Takes a book that has entries."""
-        self.desk, self.sitting, self.plain = desk, sitting, plain
-        self.ring = Ring.of(desk.call("ring", *sitting)["ring"])
+    def __init__(self, desk: Desk, sitting: Sitting, ring: Ring, plain: bytes) -> None:
+        """Takes the sitting's ring, and a book that has entries."""
+        self.desk, self.sitting, self.ring, self.plain = desk, sitting, ring, plain
         self.entries = [Entry.of(record) for record in split(plain, PLAIN)]
         self.sealed = desk.call("seal_book", self.ring.data, plain)["out"]
         self.records = split(self.sealed, SEALED)

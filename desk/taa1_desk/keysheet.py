@@ -116,12 +116,11 @@ def own_keys(kind: int, own: Ring, model: Ring) -> str:
 class KeyMarker:
     """Marks keys beside one sitting's."""
 
-    def __init__(self, desk: Desk, sitting: Sitting) -> None:
-        """Has the engine's calls make the model's keys."""
-        self.desk, self.sitting = desk, sitting
+    def __init__(self, desk: Desk, sitting: Sitting, ring: Ring) -> None:
+        """Takes the sitting's ring, and has the engine's calls make the model's other keys."""
+        self.desk, self.sitting, self.ring = desk, sitting, ring
         self.steps = Steps(desk)
         one, two = sides_of(desk, sitting)
-        ring = Ring.of(desk.call("ring", *sitting)["ring"])
         halves = [side[name] for side in (one, two) for name in ("response", "key")]
         values = (one["session_key"], two["session_key"], *halves, *ring)
         self.model: Keys = dict(zip(KEYS, values))
@@ -151,7 +150,7 @@ class KeyMarker:
                 also = next((n for n, v in self.model.items() if v == has and state == "wrong"), "")
                 marks.append(KeyMark(name, state, has, wants, under, also))
         ring = ring_of({name: own.get(name, value) for name, value in worked.items()})
-        differs = ring != ring_of(self.model)
+        differs = ring != self.ring
         return KeySheet(tuple(marks), file.problems, own, ring if differs else None)
 
     def explain(self, sheet: KeySheet, rest: Collection[Part]) -> list[Found]:

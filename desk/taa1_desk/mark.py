@@ -153,11 +153,10 @@ def parts_of(record: bytes) -> dict[str, bytes]:
 class Marker:
     """Marks books beside one model."""
 
-    def __init__(self, desk: Desk, sitting: Sitting, plain: bytes) -> None:
-        """Works the model, and every slip, once."""
-        self.desk = desk
-        self.keys = KeyMarker(desk, sitting)
-        self.ring = Ring.of(desk.call("ring", *sitting)["ring"])
+    def __init__(self, desk: Desk, sitting: Sitting, ring: Ring, plain: bytes) -> None:
+        """Takes the sitting's ring. Works the model, and every slip, once."""
+        self.desk, self.ring = desk, ring
+        self.keys = KeyMarker(desk, sitting, ring)
         self.plain = plain
         self.entries = [Entry.of(record) for record in split(plain, PLAIN)]
         sealed = desk.call("seal_book", self.ring.data, plain)["out"]

@@ -35,7 +35,7 @@ from .pairing import pair
 from .records import KINDS, PLAIN, SEALED, Entry, Ring, split, whole
 from .sheets import failed_checks
 from .slips import EXCHANGED, open_under, opened, work_opened
-from .working import Opened, Steps, ring_of
+from .working import Opened, Steps
 
 FLAG = "flag"  # the part of an entry that says whether its flag is set
 FLAGS = {FLAG, "flagged", "mf", "manipulated"}  # the words for it
@@ -72,8 +72,8 @@ class Read(NamedTuple):
 class OpenedMarker:
     """Marks opened books beside what a sealed one opens to."""
 
-    def __init__(self, desk: Desk, sitting: Sitting, sealed: bytes, where: str) -> None:
-        """Opens the book, and under every slip, once.
+    def __init__(self, desk: Desk, sitting: Sitting, ring: Ring, sealed: bytes, where: str) -> None:
+        """Takes the sitting's ring. Opens the book, and under every slip, once.
 
         A flag that is set is no refusal here; any other refusal of opening is.
         """
@@ -81,8 +81,7 @@ class OpenedMarker:
         records = split(sealed, SEALED)
         self._check(records, where)
         self.records, self.steps = records, Steps(desk)
-        self.keys = KeyMarker(desk, sitting)
-        ring = ring_of(self.keys.model)
+        self.keys = KeyMarker(desk, sitting, ring)
         self.truth = [_unsealed(desk, ring, record) for record in records]
         self.table = Table()
         for worked in work_opened(desk, sitting, records):
@@ -318,7 +317,7 @@ class OpenedMarker:
         self, keys: KeySheet, wrong: dict[Part, Any], invented: set[Part]
     ) -> list[Found]:
         """The slips that give wrong entries under the candidate's own keys."""
-        model = ring_of(self.keys.model)
+        model = self.keys.ring
         mine = {
             index: self.records[index]
             for index in sorted({index for index, _ in wrong if index != KEY})
@@ -338,7 +337,7 @@ class OpenedMarker:
         """The wrong entries that are right under the candidate's own keys, and which."""
         if keys.ring is None:
             return {}
-        model = ring_of(self.keys.model)
+        model = self.keys.ring
         own = opened(self.steps, keys.ring, self.records)
         return {
             index: own_keys(self.truth[index].kind, keys.ring, model)

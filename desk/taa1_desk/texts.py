@@ -209,7 +209,7 @@ def read_ring(desk: Desk, name: str) -> Ring:
     elif len(data) != SITTING_BYTES and b"=" not in data:
         lengths = f"a ring has {RING} or {RING_MADE_BYTES}, a sitting {SITTING_BYTES} or names"
         raise Problem(f"{where}: {len(data)} bytes, where {lengths}")
-    return Ring.of(make_ring(desk, parse_sitting(data, where)[0], where)["ring"])
+    return sitting_ring(desk, parse_sitting(data, where)[0], where)
 
 
 def make_ring(desk: Desk, sitting: Sitting, where: str) -> dict[str, bytes]:
@@ -218,6 +218,11 @@ def make_ring(desk: Desk, sitting: Sitting, where: str) -> dict[str, bytes]:
         return desk.call("ring", *sitting)
     except Refused as refused:
         raise RefusedFile(where, refused, _masks_said(refused, sitting)) from None
+
+
+def sitting_ring(desk: Desk, sitting: Sitting, where: str) -> Ring:
+    """The keys of a sitting's ring."""
+    return Ring.of(make_ring(desk, sitting, where)["ring"])
 
 
 def _masks_said(refused: Refused, sitting: Sitting) -> str:

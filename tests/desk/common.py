@@ -26,13 +26,20 @@ SITTING = read_sitting(str(CLASS / "sitting.txt"))
 LINES = (CLASS / "model.txt").read_text()
 PLAIN_BOOK = parse_lines(DESK, LINES, "model.txt")
 ENTRIES = [Entry.of(record) for record in split(PLAIN_BOOK, PLAIN)]
-RING = Ring.of(DESK.call("ring", *SITTING)["ring"])
+
+
+def ring_for(sitting: Sitting) -> Ring:
+    """A sitting's ring."""
+    return Ring.of(DESK.call("ring", *sitting)["ring"])
+
+
+RING = ring_for(SITTING)
 
 
 def seal(sitting: Sitting = SITTING, plain: bytes = PLAIN_BOOK) -> bytes:
     """A plain book, sealed under a sitting's ring."""
-    ring = DESK.call("ring", *sitting)["ring"]
-    return DESK.call("seal_book", ring, plain)["out"]
+    sealed: bytes = DESK.call("seal_book", ring_for(sitting).data, plain)["out"]
+    return sealed
 
 
 class Run(NamedTuple):

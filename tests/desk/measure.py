@@ -20,7 +20,7 @@ from taa1_desk.desk import Desk  # noqa: E402
 from taa1_desk.mark import Marker  # noqa: E402
 from taa1_desk.records import KINDS, SEALED, Entry  # noqa: E402
 from taa1_desk.slips import SLIPS, work  # noqa: E402
-from taa1_desk.texts import read_sitting  # noqa: E402
+from taa1_desk.texts import read_sitting, sitting_ring  # noqa: E402
 
 SITTING = ROOT / "samples" / "class" / "sitting.txt"
 DRAW = random.Random(1)
@@ -41,7 +41,7 @@ def main() -> None:
     desk = Desk()
     sitting = read_sitting(str(SITTING))
     plain = b"".join(entry(1 + at % len(KINDS)).data for at in range(entries))
-    model = Marker(desk, sitting, plain).model
+    model = Marker(desk, sitting, sitting_ring(desk, sitting, SITTING.name), plain).model
     slips = list(work(desk, sitting, plain))
     with tempfile.TemporaryDirectory() as folder:
         (Path(folder) / "plain").write_bytes(plain)

@@ -7,7 +7,7 @@ import stat
 from typing import Any
 from unittest import mock
 
-from common import CLASS, DESK, ENTRIES, PLAIN_BOOK, RING, ROOT, SITTING, Case, here, seal, taa1
+from common import CLASS, DESK, ENTRIES, PLAIN_BOOK, RING, ROOT, SITTING, Case, here, ring_for, seal, taa1
 from taa1 import Sitting
 from taa1_desk.argue import argument_sheet
 from taa1_desk.claims import CLAIMS
@@ -25,7 +25,7 @@ KIND1 = PLAIN_BOOK[:PLAIN]  # a book of kind 1 alone
 
 def made(name: str, sitting: Sitting = SITTING, plain: bytes = PLAIN_BOOK) -> Instance:
     """A statement's instance."""
-    return Instances(DESK, sitting, plain).of(name)
+    return Instances(DESK, sitting, ring_for(sitting), plain).of(name)
 
 
 def values(instance: Instance) -> dict[str, Any]:
@@ -158,7 +158,7 @@ class Sheets(Case):
         name = self.folder / "argue.html"
         self.assertEqual(self.accepted("argue", *INPUTS, "--html", name), b"")
         self.assertEqual(stat.S_IMODE(name.stat().st_mode), 0o600)
-        sheet = argument_sheet(DESK, SITTING, Heading(), PLAIN_BOOK)
+        sheet = argument_sheet(DESK, SITTING, RING, Heading(), PLAIN_BOOK)
         self.assertEqual(name.read_text(), as_page(sheet))
         self.assertEqual(self.accepted("argue", *INPUTS).decode(), as_text(sheet))
         self.assertEqual(name.read_text().count('<i class="tick">'), 2 * len(CLAIMS) + 3)

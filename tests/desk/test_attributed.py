@@ -7,7 +7,7 @@ from functools import lru_cache
 from typing import Union
 
 import said
-from common import DESK
+from common import DESK, ring_for
 from exams import Exam
 from planted import KeyFile, OpenedBook, SealedBook, key_files, opened_books, sealed_books
 from taa1_desk.forms import text_of
@@ -21,14 +21,15 @@ from taa1_desk.texts import parse_sitting
 @lru_cache(maxsize=None)
 def marker(exam: Exam) -> Marker:
     """Marks books beside a planted sitting's model."""
-    return Marker(DESK, parse_sitting(exam.sitting_text().encode(), exam.name)[0], exam.plain)
+    sitting = parse_sitting(exam.sitting_text().encode(), exam.name)[0]
+    return Marker(DESK, sitting, ring_for(sitting), exam.plain)
 
 
 @lru_cache(maxsize=None)
 def opened_marker(exam: Exam, sealed: bytes) -> OpenedMarker:
     """Marks what was opened from a planted book."""
     sitting = parse_sitting(exam.sitting_text().encode(), exam.name)[0]
-    return OpenedMarker(DESK, sitting, sealed, exam.name)
+    return OpenedMarker(DESK, sitting, ring_for(sitting), sealed, exam.name)
 
 
 def named(sheet: Sheet) -> set[str]:

@@ -11,7 +11,7 @@ import unittest
 from typing import Any
 
 import planted
-from common import CLASS, DESK, ENTRIES, PLAIN_BOOK, SITTING, Case, here, seal
+from common import CLASS, DESK, ENTRIES, PLAIN_BOOK, RING, SITTING, Case, here, ring_for, seal
 from taa1 import Sitting
 from taa1_desk.files import MOST_BYTES
 from taa1_desk.forms import FORMS
@@ -24,7 +24,7 @@ from taa1_desk.texts import format_lines
 INPUTS = (CLASS / "sitting.txt", CLASS / "model.txt")
 BOOK = seal()
 RECORDS = split(BOOK, SEALED)
-READER = Reader(Marker(DESK, SITTING, PLAIN_BOOK))
+READER = Reader(Marker(DESK, SITTING, RING, PLAIN_BOOK))
 OTHER = SITTING._replace(
     root=SITTING.root[::-1], rs=bytes(10), rso=bytes(range(10)), c=bytes(range(50, 60)), group_key=bytes(12)
 )  # another sitting
@@ -331,7 +331,8 @@ class Planted(unittest.TestCase):
             count += 1
             exam = each.exam
             if exam.name not in readers:
-                readers[exam.name] = Reader(Marker(DESK, Sitting(*exam.sitting), exam.plain))
+                sitting = Sitting(*exam.sitting)
+                readers[exam.name] = Reader(Marker(DESK, sitting, ring_for(sitting), exam.plain))
             with self.subTest(each.name):
                 sheet = readers[exam.name].mark("ann", each.content)
                 if each.marked is not None:

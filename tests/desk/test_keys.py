@@ -6,7 +6,7 @@ import json
 import unittest
 from fractions import Fraction
 
-from common import CLASS, DESK, ENTRIES, LINES, PLAIN_BOOK, RING, SITTING, Case, seal, taa1
+from common import CLASS, DESK, ENTRIES, LINES, PLAIN_BOOK, RING, SITTING, Case, ring_for, seal, taa1
 from taa1_desk.keysheet import KeyFile, parse
 from taa1_desk.mark import Marker
 from taa1_desk.records import KINDS, SEALED, split
@@ -17,7 +17,7 @@ from taa1_desk.sheets import sheet_text, summary
 from taa1_desk.slips import SLIPS
 from taa1_desk.working import KEYS, Steps
 
-MARKER = Marker(DESK, SITTING, PLAIN_BOOK)
+MARKER = Marker(DESK, SITTING, RING, PLAIN_BOOK)
 MODEL = MARKER.model
 VALUES = {name: value or b"" for name, value in Steps(DESK).keys(SITTING).items()}
 SCHEME = parse_scheme(DEFAULT, "the default")
@@ -93,7 +93,7 @@ class Values(unittest.TestCase):
     def test_one_challenge(self) -> None:
         """Where one side runs, no slip speaks of both challenges."""
         sitting = SITTING._replace(sides=1)
-        marker = Marker(DESK, sitting, PLAIN_BOOK)
+        marker = Marker(DESK, sitting, ring_for(sitting), PLAIN_BOOK)
         for rand1, name in (
             (SITTING.rand1[::-1], "TA12's challenge reversed (RAND1)"),
             (SITTING.rand2, "RAND2 for RAND1"),
@@ -140,7 +140,7 @@ class Values(unittest.TestCase):
         """What a side has that does not run is not asked for: it gives and costs nothing."""
         for sides, idle in ((1, "2"), (2, "1")):
             sitting = SITTING._replace(sides=sides)
-            marker = Marker(DESK, sitting, PLAIN_BOOK)
+            marker = Marker(DESK, sitting, ring_for(sitting), PLAIN_BOOK)
             values = {n: v for n, v in Steps(DESK).keys(sitting).items() if v and n[-1] != idle}
             names = [f"{name} {idle}" for name in ("session key", "response", "key")]
             zeros = dict(zip(names, (bytes(16), bytes(4), bytes(10))))

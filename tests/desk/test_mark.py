@@ -7,21 +7,24 @@ import random
 import re
 import time
 import unittest
+from typing import Any
+from unittest import mock
 
-from common import CLASS, DESK, ENTRIES, PLAIN_BOOK, ROOT, Case, taa1
+from common import CLASS, DESK, ENTRIES, PLAIN_BOOK, ROOT, Case, here, ring_for, taa1
 from common import SITTING as SAMPLE
 from common import seal as sealed_under
 from taa1 import Sitting
+from taa1.binding import Binding
 from taa1_desk.mark import Marker, Sheet
-from taa1_desk.records import KINDS, SEALED, Entry, Ring, split
+from taa1_desk.records import KINDS, SEALED, Entry, split
 from taa1_desk.slips import SLIPS, slips_of, work
 from taa1_desk.texts import read_sitting, sitting_bytes
 from taa1_desk.working import STEPS
 
 # The sample's masks are the same from either end.
 SITTING = SAMPLE._replace(response_mask=0x1221, key_mask=0x4DDE)
-RING = Ring.of(DESK.call("ring", *SITTING)["ring"])
-MARKER = Marker(DESK, SITTING, PLAIN_BOOK)
+RING = ring_for(SITTING)
+MARKER = Marker(DESK, SITTING, RING, PLAIN_BOOK)
 MODEL = MARKER.model
 
 # Exchanged masks make a D of four bytes, and no book; with both sides, the other is no slip.
@@ -180,7 +183,7 @@ class Slips(unittest.TestCase):
         for sides, derives, answers, others in ((1, "TA11", "TA12", "TA2"), (2, "TA21", "TA22", "TA1")):
             same = "TA21 for TA11" if sides == 1 else "TA11 for TA21"
             sitting = SITTING._replace(sides=sides)
-            marker = Marker(DESK, sitting, PLAIN_BOOK)
+            marker = Marker(DESK, sitting, ring_for(sitting), PLAIN_BOOK)
             (slip,) = marker.mark("a", seal(sitting._replace(rs=SITTING.rs[::-1]))).slips
             self.assertEqual({slip.name, *slip.others}, {"RS reversed", same})
             steps = {each.name: each.step_in(sides) for each in slips_of(sitting)}
@@ -249,7 +252,7 @@ class Slips(unittest.TestCase):
     def test_one_identity(self) -> None:
         """A model of one radio's entries: texts show which entry is meant, wherever it stands."""
         plain = book([entry._replace(identity=0x00A001) for entry in ENTRIES])
-        marker = Marker(DESK, SITTING, plain)
+        marker = Marker(DESK, SITTING, RING, plain)
         slipped = split(seal(SITTING._replace(rso=SITTING.rs), plain), SEALED)
         sheet = marker.mark("book", b"".join(slipped[1:]))
         self.assertEqual((sheet.right, sheet.missing), (5, (0,)))
@@ -315,7 +318,7 @@ class Books(unittest.TestCase):
     def test_alike_entries(self) -> None:
         """A model that has an entry twice wants it twice."""
         plain = ENTRIES[0].data * 2 + ENTRIES[1].data
-        marker = Marker(DESK, SITTING, plain)
+        marker = Marker(DESK, SITTING, RING, plain)
         records = split(seal(plain=plain), SEALED)
         self.assertTrue(marker.mark("book", b"".join(records[::-1])).perfect)
         self.assertEqual(marker.mark("book", b"".join(records[1:])).missing, (1,))
@@ -379,7 +382,7 @@ class Books(unittest.TestCase):
             for entry in (ENTRIES * 9)[:100]
         ]
         start = time.monotonic()
-        marker = Marker(DESK, SITTING, book(entries))
+        marker = Marker(DESK, SITTING, RING, book(entries))
         for _ in range(50):
             records = [r if draw.random() < 0.5 else draw.randbytes(SEALED) for r in marker.model]
             self.assertEqual(len(marker.mark("book", b"".join(records)).entries), 100)
@@ -440,3 +443,19 @@ class Command(Case):
         digits = self.file("a.book", seal(SAMPLE).hex("\n", 21))
         said = self.accepted("mark", CLASS / "sitting.txt", CLASS / "model.txt", digits)
         self.assertIn(b"12 of 12 entries right; opens", said)
+
+    def test_ring(self) -> None:
+        """The ring is made once, by one call, for whatever is marked with it."""
+        answer, made = Binding.answer, []
+
+        def counted(binding: Binding, name: str, *values: Any, **options: Any) -> dict[str, Any]:
+            made.append(name)
+            return answer(binding, name, *values, **options)
+
+        inputs, ann = (CLASS / "sitting.txt", CLASS / "model.txt"), CLASS / "ann.book"
+        opened = ("mark", "--opened", inputs[0], ann, CLASS / "gus.opened")
+        for command in (("mark", *inputs, ann), opened, ("argue", *inputs)):
+            with self.subTest(command), mock.patch.object(Binding, "answer", counted):
+                made.clear()
+                self.assertLess(here(*command, cwd=self.folder).status, 2)
+                self.assertEqual(made.count("ring"), 1)

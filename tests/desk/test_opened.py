@@ -18,7 +18,7 @@ from taa1_desk.working import Steps
 
 SEALED_BOOK = seal()
 DAMAGED = damaged(DESK, RING, ENTRIES, SEALED_BOOK, [Damage(2, 4), Damage(6)])
-MARKER = OpenedMarker(DESK, SITTING, DAMAGED, "handout")
+MARKER = OpenedMarker(DESK, SITTING, RING, DAMAGED, "handout")
 TRUE = [line for line in LINES.splitlines() if line.startswith("entry ")]
 TRUE[2], TRUE[6] = "entry 2 flag", "entry 6 flag"
 

@@ -5,12 +5,12 @@ from __future__ import annotations
 import random
 import unittest
 
-from common import DESK, ENTRIES, PLAIN_BOOK, SITTING
+from common import DESK, ENTRIES, PLAIN_BOOK, RING, SITTING
 from taa1_desk.mark import Marker
 from taa1_desk.records import SEALED
 from taa1_desk.sheets import MOST_LINES, failed_checks, sheet_text, spans
 
-MARKER = Marker(DESK, SITTING, PLAIN_BOOK)
+MARKER = Marker(DESK, SITTING, RING, PLAIN_BOOK)
 MODEL = MARKER.model
 
 
@@ -107,7 +107,7 @@ class Lines(unittest.TestCase):
         """A book of 1,025 records: some lines, and every record is counted."""
         draw = random.Random(3)
         entries = [entry._replace(identity=draw.getrandbits(24)) for entry in ENTRIES * 10]
-        marker = Marker(DESK, SITTING, b"".join(entry.data for entry in entries))
+        marker = Marker(DESK, SITTING, RING, b"".join(entry.data for entry in entries))
         noise = b"".join(draw.randbytes(SEALED) for _ in range(1025))
         lines = sheet_text(marker.mark("book", noise)).splitlines()
         self.assertLess(len(lines), 5 + MOST_LINES)
