@@ -1,7 +1,7 @@
 // Reads a plain book from standard input to its end, and prints its listing, or the line of its refusal.
 use libc::STDERR_FILENO;
-use listing::LISTING;
-use listing::list_plain;
+use plain_listing::LISTING;
+use plain_listing::list_plain;
 use programs::read_input;
 use programs::write_output;
 use standard::MOST_RECORDS;

@@ -1,8 +1,8 @@
 // Prints S's inverse and the key schedule's running rotations. Reads nothing.
 use libc::STDERR_FILENO;
 use programs::write_output;
-use tables::TABLES_TEXT;
-use tables::print_tables;
+use printed_tables::TABLES_TEXT;
+use printed_tables::print_tables;
 
 fn main() {
     if os::arg_count() > 1 {

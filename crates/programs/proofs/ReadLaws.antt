@@ -7,7 +7,7 @@ use Prim.Native.Nat.{ℕ, _+_, _-_, _≤_, zero-le}
 use native.Mathlib.Omega.{arith}
 use lib.ListN.{length, take, drop}
 use lib.Seq.{length-take-le, take-all, drop-at, drop-drop}
-use Rattle.text.proofs.LineLaws.{lent-rest, lent-none}
+use Rattle.lines.proofs.LineLaws.{lent-rest, lent-none}
 use Rattle.programs.specs.Reading.{Gathered, Read}
 use Rattle.programs.specs.declared.Input.{Input}
 

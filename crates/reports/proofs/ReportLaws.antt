@@ -13,9 +13,9 @@ use Rattle.standard.specs.Bytes.{choose}
 use Rattle.standard.specs.Programs.{beside, meanings, meaning, meaningText, wroteText, answerText, answerLine, countedLine}
 use Rattle.standard.specs.declared.BookAnswer.{BookAnswer}
 use Rattle.standard.specs.declared.CountedAnswer.{CountedAnswer}
-use Rattle.text.proofs.TextLaws.{digits-few}
-use Rattle.text.specs.Lines.{room, _▸_}
-use Rattle.text.specs.declared.Line.{Line}
+use Rattle.lines.proofs.TextLaws.{digits-few}
+use Rattle.lines.specs.Lines.{room, _▸_}
+use Rattle.lines.specs.declared.Line.{Line}
 
 -- ---- lengths
 

@@ -2,12 +2,12 @@
 use standard::BookAnswer;
 use standard::CountedAnswer;
 use standard::TextAnswer;
-use text::Line;
+use lines::Line;
 ghost use mathlib.Core.Path.{_≡_};
 ghost use Rattle.standard.specs.Listing.{refusedAt};
 ghost use Rattle.standard.specs.Programs.{meaning as meaningOf, meaningText, wroteText, answerText};
 ghost use Rattle.standard.specs.Programs.{answerLine, countedLine, reportCall, countedReportCall};
-ghost use Rattle.text.specs.Lines.{shown, emptyLine, _▸_};
+ghost use Rattle.lines.specs.Lines.{shown, emptyLine, _▸_};
 
 // The words of a refusal without its meaning.
 pub fn refused_at(refusal: u32, index: usize) -> Line

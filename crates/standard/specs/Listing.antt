@@ -58,6 +58,6 @@ listingRoom = 164000
 abbrev pub listCall : List ℕ → List ℕ → ℕ × List ℕ
 listCall p out = (length (listing p), listing p ++ drop (length (listing p)) out)
 
--- no listing is longer, whatever bytes are read as a book; the proof is in crates/listing/proofs/ListLaws
+-- no listing is longer, whatever bytes are read as a book; the proof is in crates/plain_listing/proofs/ListLaws
 abbrev pub ListingFits : Type 0
 ListingFits = (p : List ℕ) → length (listing p) ≤ listingRoom

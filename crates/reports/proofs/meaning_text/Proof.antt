@@ -1,7 +1,7 @@
 use mathlib.Core.Path.{refl}
 use borrow.Author.Needs.{needs}
 use Rattle.standard.specs.Programs.{meaningText}
-use Rattle.text.proofs.LineLaws.{append}
+use Rattle.lines.proofs.LineLaws.{append}
 use Rattle.reports.proofs.meaning_text.Statement.{statement}
 use Rattle.reports.proofs.meaning_text.Tie as tie
 

@@ -1,5 +1,5 @@
 use borrow.Author.Needs.{needs}
-use Rattle.text.proofs.LineLaws.{append}
+use Rattle.lines.proofs.LineLaws.{append}
 use Rattle.reports.proofs.refused_at.Statement.{statement}
 use Rattle.reports.proofs.refused_at.Tie as tie
 

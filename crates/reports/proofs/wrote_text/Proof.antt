@@ -1,6 +1,6 @@
 use borrow.Author.Needs.{needs}
 use Rattle.standard.specs.Programs.{wroteText}
-use Rattle.text.proofs.LineLaws.{append}
+use Rattle.lines.proofs.LineLaws.{append}
 use Rattle.reports.proofs.wrote_text.Statement.{statement}
 use Rattle.reports.proofs.wrote_text.Tie as tie
 

@@ -1,0 +1,119 @@
+-- The lines of the listing: none is longer than a line may be, and the book's lines one after the other.
+-- Assumes nothing.
+use mathlib.Core.Bool.{Bool, true, false}
+use mathlib.Core.List.{List, _++_}
+use mathlib.Core.Path.{_≡_, refl, ap, _∙_}
+use Prim.Native.Nat.{ℕ, zero, suc, _+_, _*_, _/_, _≤_}
+use native.Mathlib.Numerals.{add-one}
+use native.Mathlib.Omega.{arith}
+use lib.Dec.{eqb}
+use lib.ListN.{length, length-append}
+use lib.Seq.{take-all}
+use borrow.Author.Tests.{eqb-true, eq-eqb, ne-eqb}
+use Rattle.standard.proofs.AnswerLaws.{is-accepted, lengths-fine}
+use Rattle.standard.proofs.BytesLaws.{length-table}
+use Rattle.standard.specs.Books.{recordKind, plainFault, checkPlain}
+use Rattle.standard.specs.Lists.{recordAt}
+use Rattle.standard.specs.Bytes.{_!_, part, choose}
+use Rattle.standard.specs.Listing.{numberText, entryLine, entryLines, entriesLine, refusedLine, listing, listingRoom, listCall, ListingFits}
+use Rattle.standard.specs.Seals.{keyLength}
+use Rattle.standard.specs.Sizes.{plainSize}
+use Rattle.standard.specs.Text.{hex}
+use Rattle.standard.specs.declared.BookAnswer.{BookAnswer}
+use Rattle.standard.specs.declared.Algorithm.the-variants.{Ta31, Ta51, Ta81, Ta91}
+use Rattle.standard.specs.declared.Algorithm.{Algorithm}
+use Rattle.lines.proofs.LineLaws.{put-none, put-next}
+use Rattle.lines.proofs.TextLaws.{digits-few, hex-twice}
+use Rattle.lines.specs.Lines.{room, putCall}
+
+-- ---- lengths
+
+number-short : (k : Algorithm) (p : List ℕ) → length (numberText k p) ≤ 20
+number-short Ta31 p = omega arith
+number-short Ta51 p = digits-few 20 _
+number-short Ta81 p = digits-few 20 _
+number-short Ta91 p = omega arith
+
+pub key-short : (k : Algorithm) → keyLength k ≤ 12
+key-short Ta31 = omega arith
+key-short Ta51 = omega arith
+key-short Ta81 = omega arith
+key-short Ta91 = omega arith
+
+hex-part : (from n : ℕ) (p : List ℕ) → length (hex (part from n p)) ≡ n + n
+hex-part from n p = hex-twice (part from n p) ∙ rw length-table
+
+pub entry-short : (i : ℕ) (p : List ℕ) → length (entryLine i p) ≤ room
+unfolding entryLine
+entry-short i p =
+    let k = recordKind p .algorithm in
+    simp length-append
+    (omega (arith, digits-few 20 i, digits-few 20 (p ! 0), digits-few 20 (256 * p ! 4 + p ! 5), hex-part 1 3 p, hex-part 6 (keyLength k) p, key-short k, number-short k p))
+
+pub entries-short : (n : ℕ) → length (entriesLine n) ≤ room
+unfolding entriesLine
+entries-short n = simp length-append (omega (arith, digits-few 20 n))
+
+pub last-short : (n : ℕ) {line : List ℕ} → line ≡ entriesLine n → length line ≤ room
+last-short n e = omega (arith, ap length e, entries-short n)
+
+pub refused-short : (number index : ℕ) → length (refusedLine number index) ≤ room
+unfolding refusedLine
+refused-short number index = simp length-append (omega (arith, digits-few 20 number, digits-few 20 index))
+
+-- ---- the lines one behind the other
+
+pub lines-short : (n : ℕ) (p : List ℕ) → length (entryLines n p) ≤ room * n
+unfolding entryLines
+lines-short zero p = omega arith
+lines-short (suc n) p = simp length-append (omega (arith, lines-short n p, entry-short n (recordAt 18 p n)))
+
+-- those of 1,024 records and the last line have room in the output
+pub entries-most : (n : ℕ) (p : List ℕ) → n ≤ 1024 → length (entryLines n p ++ entriesLine n) ≤ listingRoom
+entries-most n p h = simp length-append (omega (arith, h, lines-short n p, entries-short n))
+
+pub lines-none : (p out : List ℕ) → (0, out) ≡ putCall 0 (entryLines 0 p) out
+unfolding entryLines
+lines-none p out = put-none out
+
+-- one record's line more
+pub lines-next : (i : ℕ) (p out₀ : List ℕ) {at n : ℕ} {line out exit : List ℕ} → line ≡ entryLine i (recordAt 18 p i)
+    → (at, out) ≡ putCall 0 (entryLines i p) out₀ → (n, exit) ≡ putCall at line out → (at + n, exit) ≡ putCall 0 (entryLines (i + 1) p) out₀
+unfolding entryLines
+lines-next i p out₀ e f g = rw (add-one, ← e) (put-next (entryLines i p) _ out₀ f g)
+
+-- the last line behind those of the records
+pub entries-put : (n : ℕ) (p out₀ : List ℕ) {at k : ℕ} {line out exit : List ℕ} → line ≡ entriesLine n
+    → (at, out) ≡ putCall 0 (entryLines n p) out₀ → (k, exit) ≡ putCall at line out → (at + k, exit) ≡ putCall 0 (entryLines n p ++ entriesLine n) out₀
+entries-put n p out₀ e f g = put-next (entryLines n p) (entriesLine n) out₀ f (rw e at g)
+
+-- ---- the calls
+
+module _ (p : List ℕ) {a : BookAnswer} (e : a ≡ checkPlain p) where
+  pub listing-refused : (a .refusal ≡ 0 → ⊥) → listing p ≡ refusedLine (a .refusal) (a .index)
+  unfolding listing
+  listing-refused r = rw (← e, ne-eqb _ _ r)
+
+  pub listing-entries : a .refusal ≡ 0 → listing p ≡ entryLines (length p / 18) p ++ entriesLine (length p / 18)
+  unfolding listing
+  listing-entries z = rw (← e, eq-eqb _ _ z)
+
+-- an accepted book has at most 1,024 records, so that no listing is longer than its output
+pub accepted-few : (p : List ℕ) → checkPlain p .refusal ≡ 0 → length p / 18 ≤ 1024
+unfolding checkPlain
+accepted-few p z = omega (arith, lengths-fine plainSize plainFault p (is-accepted _ _ _ _ z .0) .0)
+
+pub listing-fits : ListingFits
+unfolding listing
+listing-fits p = go (eqb (checkPlain p .refusal) 0) refl
+  where
+    n : ℕ
+    n = length p / 18
+
+    go : (t : Bool) → eqb (checkPlain p .refusal) 0 ≡ t
+        → length (choose t (entryLines n p ++ entriesLine n) (refusedLine (checkPlain p .refusal) (checkPlain p .index))) ≤ listingRoom
+    go true e = entries-most n p (accepted-few p (eqb-true _ 0 e))
+    go false e = omega (arith, refused-short (checkPlain p .refusal) (checkPlain p .index))
+
+pub listed : (p out : List ℕ) {n : ℕ} {exit : List ℕ} → listingRoom ≤ length out → (n, exit) ≡ putCall 0 (listing p) out → (n, exit) ≡ listCall p out
+listed p out h e = e ∙ rw (take-all (length out) (listing p) (omega (arith, h, listing-fits p)))

@@ -1,0 +1,30 @@
+use mathlib.Core.List.{List}
+use Prim.Native.Nat.{ℕ}
+use native.Mathlib.Nat.{add-sub-cancel-left}
+use native.Mathlib.Omega.{arith}
+use denote.Ref.{now}
+use borrow.Author.Needs.{needs}
+use Rattle.plain_listing.proofs.ListLaws.{key-short, entry-short}
+use Rattle.standard.proofs.BytesLaws.{part-lent}
+use Rattle.standard.specs.Books.{recordKind}
+use Rattle.standard.specs.Listing.{entryLine}
+use Rattle.standard.specs.Seals.{keyLength}
+use Rattle.lines.proofs.LineLaws.{append, uncut}
+use Rattle.plain_listing.proofs.entry_line.Statement.{statement}
+use Rattle.plain_listing.proofs.entry_line.Tie as tie
+
+returns : tie.Need-returns
+unfolding entryLine
+returns c =
+    let x = c .before .before .before .before .before in
+    let p : List ℕ = now (x .args .p) in
+    let k = keyLength (recordKind p .algorithm) in
+    let e = c .before .kind-of .ensures in
+    uncut (entryLine (x .args .index) p) {l = c .back .result}
+    (simp append (rw (← part-lent 1 3 p (omega (arith, x .pre)), ← part-lent 6 k p (omega (arith, x .pre, key-short (recordKind p .algorithm))), ← add-sub-cancel-left 6 k, ← e, c .back .ensures, c .before .before .before .front .ensures)))
+    (entry-short (x .args .index) p)
+
+pub entry-line-spec : {M : Type 1} → statement M
+entry-line-spec =
+    tie.close
+    (tie.spec (λ c κs. search needs) (λ c. search needs) (λ c κs. search needs) (λ c κs. search needs) returns)

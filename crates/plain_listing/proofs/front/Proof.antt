@@ -1,0 +1,38 @@
+use borrow.Author.Needs.{needs}
+use Rattle.plain_listing.proofs.front.Statement.{statement}
+use Rattle.plain_listing.proofs.front.Tie as tie
+
+returns : tie.Need-returns
+returns c =
+    let hex = c .before .before .before in
+    let kind = hex .before .before .before .before in
+    let index = kind .before .before .before in
+    let empty = index .before .before .before in
+    rw (c .decimal3 .ensures, c .before .word4 .ensures, hex .hex .ensures, hex .before .before .word3 .ensures, kind .decimal2 .ensures, kind .before .word2 .ensures, index .decimal .ensures, index .before .word .ensures, empty .empty .ensures, empty .before .pair .ensures, empty .before .before .before .before .wide .ensures)
+
+pub front-spec : {M : Type 1} → statement M
+front-spec =
+    tie.close
+    (tie.spec
+    (λ c. search needs)
+    (λ c κs. search needs)
+    (λ c. search needs)
+    (λ c. search needs)
+    (λ c κs. search needs)
+    (λ c κs. search needs)
+    (λ c. search needs)
+    (λ c κs. search needs)
+    (λ c κs. search needs)
+    (λ c. search needs)
+    (λ c κs. search needs)
+    (λ c κs. search needs)
+    (λ c. search needs)
+    (λ c κs. search needs)
+    (λ c. search needs)
+    (λ c. search needs)
+    (λ c. search needs)
+    (λ c κs. search needs)
+    (λ c. search needs)
+    (λ c κs. search needs)
+    (λ c κs. search needs)
+    returns)

@@ -1,0 +1,47 @@
+use mathlib.Core.List.{List}
+use mathlib.Core.Path.{_≡_, sym, ap, _∙_}
+use Prim.Native.Nat.{ℕ, _≤_}
+use native.Mathlib.Omega.{arith}
+use lib.ListN.{length}
+use denote.Ref.{now}
+use borrow.Author.Needs.{needs}
+use Rattle.plain_listing.proofs.ListLaws.{accepted-few, listed, listing-refused, listing-entries}
+use Rattle.standard.specs.Listing.{listingRoom}
+use Rattle.standard.specs.declared.BookAnswer.{BookAnswer}
+use Rattle.plain_listing.proofs.list_plain.Statement.{statement}
+use Rattle.plain_listing.proofs.list_plain.Tie as tie
+
+returns : tie.Need-returns
+returns c =
+    let line = c .before .before in
+    let check = line .before .before .before in
+    let x = check .before .before .args in
+    let room : listingRoom ≤ length (now (x .out)) = search needs in
+    let refused = listing-refused (now (x .plain)) (check .check-plain .ensures) (line .before .if1 .taken) in
+    listed (now (x .plain)) (now (x .out)) room (rw (refused, ← line .refused-line .ensures) (c .put .ensures))
+
+list-entries-requires : tie.Need-list-entries-requires
+list-entries-requires c κs =
+    let check = c .before .before .before in
+    let p : List ℕ = now (check .before .before .args .plain) in
+    let few = accepted-few p (ap (λ (a : BookAnswer). a .refusal) (sym (check .check-plain .ensures)) ∙ c .before .if1 .left) in
+    (omega arith, omega (arith, few))
+
+returns-2 : tie.Need-returns-2
+returns-2 c =
+    let check = c .before .before .before .before in
+    let x = check .before .before .args in
+    let room : listingRoom ≤ length (now (x .out)) = search needs in
+    let entries = listing-entries (now (x .plain)) (check .check-plain .ensures) (c .before .before .if1 .left) in
+    listed (now (x .plain)) (now (x .out)) room (rw entries (c .list-entries .ensures))
+
+pub list-plain-spec : {M : Type 1} → statement M
+list-plain-spec =
+    tie.close
+    (tie.spec
+    (λ c κs. search needs)
+    (λ c κs. search needs)
+    (λ c κs. search needs)
+    returns
+    list-entries-requires
+    returns-2)

@@ -1,0 +1,56 @@
+-- The lines of the tables one behind the other, and the ways in which the call returns.
+-- Assumes nothing.
+use mathlib.Core.List.{List, [], _∷_, _++_}
+use mathlib.Core.Path.{_≡_, refl, sym, ap, _∙_}
+use Prim.Native.Nat.{ℕ, zero, suc, _+_, _*_, _<_, _≤_}
+use native.Mathlib.Numerals.{add-one}
+use native.Mathlib.Omega.{arith}
+use lib.ListN.{length}
+use Rattle.standard.proofs.TableLaws.{inverse-made, line-length, text-length}
+use Rattle.standard.specs.Bytes.{_!_, part}
+use Rattle.standard.specs.Hurdle.{S, S⁻¹}
+use Rattle.standard.specs.Tables.{inverse, rotations, spaced, tableLine, tableLines, tablesText, tablesCall}
+use Rattle.standard.specs.Text.{ascii, hexByte, textCall}
+use Rattle.lines.proofs.LineLaws.{append, put-over, put-none, put-next, uncut, write-short, write-whole}
+use Rattle.lines.specs.Lines.{room, shown, emptyLine, _▸_, putCall}
+use Rattle.lines.specs.declared.Line.{Line}
+
+-- an entry more, at the end
+pub spaced-step : (t : List ℕ) (x : ℕ) → spaced (t ++ (x ∷ [])) ≡ spaced t ++ (hexByte x ++ ascii " ")
+unfolding spaced
+spaced-step [] x = refl
+spaced-step (y ∷ t) x = ap (λ (w : List ℕ). (hexByte y ++ ascii " ") ++ w) (spaced-step t x)
+
+-- a whole line, from the fifteen entries that are lent
+pub line-shown : (t s : List ℕ) {l : Line} → s ≡ part 0 15 t → l ≡ emptyLine ▸ spaced s ▸ hexByte (t ! 15) ▸ ascii "\n" → shown l ≡ tableLine t
+unfolding tableLine
+line-shown t s {l} e f =
+    uncut (tableLine t) {l = l}
+    (f ∙ ap (λ (w : List ℕ). emptyLine ▸ spaced w ▸ hexByte (t ! 15) ▸ ascii "\n") e ∙ simp append refl)
+    (omega (arith, line-length t))
+
+pub lines-none : (t out : List ℕ) → (0, out) ≡ putCall 0 (tableLines 0 t) out
+unfolding tableLines
+lines-none t out = put-none out
+
+-- one line more
+pub lines-next : (i : ℕ) (t out₀ : List ℕ) {at n : ℕ} {line out exit : List ℕ} → line ≡ tableLine (part (16 * i) 16 t)
+    → (at, out) ≡ putCall 0 (tableLines i t) out₀ → (n, exit) ≡ putCall at line out → (at + n, exit) ≡ putCall 0 (tableLines (i + 1) t) out₀
+unfolding tableLines
+lines-next i t out₀ e f g = rw (add-one, ← e) (put-next (tableLines i t) _ out₀ f g)
+
+-- ---- the call
+
+module _ (out : List ℕ) where
+  pub short : length out < 816 → (record { refusal = 12; written = 0 }, out) ≡ tablesCall out
+  short h = write-short tablesText out (sym text-length) h
+
+  pub whole : {at n : ℕ} {line out₁ exit : List ℕ} → 816 ≤ length out → (at, out₁) ≡ putCall 0 (tableLines 16 S⁻¹) out → line ≡ tableLine rotations
+      → (n, exit) ≡ putCall at line out₁ → (record { refusal = 0; written = 816 }, exit) ≡ tablesCall out
+  unfolding tablesText
+  whole h a e b =
+      write-whole tablesText out (sym text-length) h
+      (put-over 0 tablesText out (put-next (tableLines 16 (inverse S)) (tableLine rotations) out (a ∙ made) (rw e at b)))
+    where
+      made : putCall 0 (tableLines 16 S⁻¹) out ≡ putCall 0 (tableLines 16 (inverse S)) out
+      made = ap (λ (t : List ℕ). putCall 0 (tableLines 16 t) out) (sym inverse-made)

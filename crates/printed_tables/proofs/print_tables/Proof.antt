@@ -1,0 +1,36 @@
+use mathlib.Core.Path.{_≡_, ap, _∙_}
+use denote.Ref.{now}
+use borrow.Author.Needs.{needs}
+use Rattle.standard.specs.Tables.{tableLine}
+use Rattle.printed_tables.proofs.PrintLaws.{short, whole}
+use Rattle.printed_tables.proofs.print_tables.Statement.{statement}
+use Rattle.printed_tables.proofs.print_tables.Tie as tie
+
+returns : tie.Need-returns
+returns c = short (now (c .before .before .args .out)) (c .if1 .taken)
+
+returns-2 : tie.Need-returns-2
+returns-2 c =
+    let put = c .before .before in
+    let line = put .before .before in
+    let lines = line .before .before .before .before in
+    let made = lines .before .before .before in
+    let test = made .before .before in
+    let x = test .before .before .args in
+    let a = rw (made .before .inverse .ensures) at (lines .table-lines .ensures) in
+    whole (now (x .out)) (test .if1 .left) a (line .table-line .ensures ∙ ap tableLine (made .rotations .ensures)) (put .put .ensures)
+
+pub print-tables-spec : {M : Type 1} → statement M
+print-tables-spec =
+    tie.close
+    (tie.spec
+    returns
+    (λ c κs. search needs)
+    (λ c κs. search needs)
+    (λ c. search needs)
+    (λ c κs. search needs)
+    (λ c. search needs)
+    (λ c κs. search needs)
+    (λ c κs. search needs)
+    (λ c. search needs)
+    returns-2)

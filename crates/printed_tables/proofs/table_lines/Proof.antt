@@ -1,0 +1,83 @@
+use mathlib.Core.List.{List}
+use mathlib.Core.Path.{_≡_, ap, _∙_}
+use Prim.Native.Nat.{ℕ, _+_, _*_, _-_, _≤_, zero-le}
+use native.Mathlib.Omega.{arith}
+use lib.ListN.{length, take, drop, length-take, length-drop}
+use denote.Ref.{now}
+use borrow.Author.Needs.{needs}
+use Rattle.standard.proofs.BytesLaws.{lent-part}
+use Rattle.standard.proofs.TableLaws.{line-length, lines-length}
+use Rattle.standard.specs.Bytes.{part}
+use Rattle.standard.specs.Tables.{tableLine, tableLines}
+use Rattle.printed_tables.proofs.PrintLaws.{lines-none, lines-next}
+use Rattle.lines.proofs.LineLaws.{put-length, put-keeps}
+use Rattle.lines.specs.Lines.{shown, putCall}
+use Rattle.printed_tables.proofs.table_lines.Statement.{statement}
+use Rattle.printed_tables.proofs.table_lines.Tie as tie
+
+abbrev Inv-loop : tie.InvT-loop
+Inv-loop t out₀ at₀ i₀ out at i = (i ≤ 16) × ((at, out) ≡ putCall 0 (tableLines i t) out₀)
+
+abbrev μ-loop : tie.MeasureT-loop
+μ-loop t out₀ at₀ i₀ out at i = 16 - i
+
+loop-holds : tie.Need-loop-holds Inv-loop μ-loop
+loop-holds c =
+    let x = c .before .before .args in
+    (zero-le, lines-none (now (x .t)) (now (x .out)))
+
+table-line-requires : tie.Need-table-line-requires Inv-loop μ-loop
+table-line-requires c κs = simp (length-take, length-drop) (omega arith)
+
+add-at : tie.Need-add-at Inv-loop μ-loop
+add-at c =
+    let put = c .before .before in
+    let line = put .before .before .table-line in
+    let at = put .before .before .before .before .before .loop in
+    let x = put .before .before .before .before .before .before .before .before .args in
+    let t : List ℕ = now (x .t) in
+    let rec : List ℕ = take (16 * at .i + 16 - 16 * at .i) (drop (16 * at .i) t) in
+    omega (arith, put-length 0 (tableLines (at .i) t) (now (x .out)) (at .inv .1), lines-length (at .i) t, put-length (at .at) (shown (line .result)) (at .out) (put .put .ensures), ap length (line .ensures), line-length rec)
+
+loop-again : tie.Need-loop-again Inv-loop μ-loop
+loop-again c =
+    let put = c .before .before in
+    let line = put .before .before .table-line in
+    let at = put .before .before .before .before .before .loop in
+    let x = put .before .before .before .before .before .before .before .before .args in
+    let t : List ℕ = now (x .t) in
+    let made = line .ensures ∙ ap tableLine (lent-part (16 * at .i) 16 t (omega arith)) in
+    (omega arith, lines-next (at .i) t (now (x .out)) made (at .inv .1) (put .put .ensures))
+
+same-length : tie.Need-same-length Inv-loop μ-loop
+same-length c =
+    let at = c .before .loop in
+    let x = c .before .before .before .before .args in
+    put-keeps 0 (tableLines (at .i) (now (x .t))) (now (x .out)) (at .inv .1)
+
+returns : tie.Need-returns Inv-loop μ-loop
+returns c =
+    let at = c .before .loop in
+    let e : at .i ≡ 16 = omega arith in
+    rw e at (at .inv .1)
+
+pub table-lines-spec : {M : Type 1} → statement M
+table-lines-spec =
+    tie.close
+    (tie.spec
+    Inv-loop
+    μ-loop
+    loop-holds
+    (λ c. omega arith)
+    (λ c. omega arith)
+    (λ c. omega arith)
+    (λ c. omega arith)
+    (λ c. omega arith)
+    table-line-requires
+    (λ c κs. search needs)
+    add-at
+    (λ c. omega arith)
+    (λ c. omega arith)
+    loop-again
+    same-length
+    returns)
