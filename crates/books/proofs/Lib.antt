@@ -1,2 +1,2 @@
 pub mod WayLaws
-pub mod CallLaws
+pub mod BookReturnLaws

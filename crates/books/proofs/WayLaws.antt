@@ -8,7 +8,7 @@ use native.Mathlib.Omega.{arith}
 use lib.Dec.{eqb}
 use lib.ListN.{length}
 use Rattle.lists.proofs.WalkLaws.{ends}
-use Rattle.records.specs.Steps.{coreKey, plainInput, sealedWith, openedWith}
+use Rattle.records.specs.RecordForms.{coreKey, plainInput, sealedWith, openedWith}
 use Rattle.standard.proofs.AnswerLaws.{pass-most}
 use Rattle.standard.proofs.RunLaws.{look-most}
 use Rattle.standard.specs.Books.{commonKey, sealRecord, openRecord}
@@ -17,7 +17,7 @@ use Rattle.standard.specs.Identity.{bc}
 use Rattle.standard.specs.Lists.{each}
 use Rattle.standard.specs.Runs.{firstPass, secondPass}
 use Rattle.standard.specs.Seals.{seal, sealed, unseal, opened}
-use Rattle.books.specs.Steps.{sizeOf, toOf, recordOf, inputOf, coreOf, madeOf, convertOf, faultAt, lookOf, lookAt}
+use Rattle.books.specs.BothDirections.{sizeOf, toOf, recordOf, inputOf, coreOf, madeOf, convertOf, faultAt, lookOf, lookAt}
 use Rattle.books.specs.declared.walk.Way.{Way}
 use Rattle.books.specs.declared.walk.Way.the-variants.{Sealing, Opening}
 

@@ -19,13 +19,13 @@ ghost use mathlib.Core.List.{[], _∷_, _++_};
 ghost use mathlib.Core.Path.{_≡_};
 ghost use Prim.Native.Nat.{_+_, _*_, _<_, _≤_};
 ghost use lib.ListN.{length, take, drop};
-ghost use Rattle.cores.specs.Steps.{counted15};
+ghost use Rattle.cores.specs.CoreOutputs.{counted15};
 ghost use Rattle.cores_four.specs.Lanes.{lane16, lane15};
 ghost use Rattle.lists.specs.Walks.{putAt, putFour};
-ghost use Rattle.records.specs.Steps.{coreKey};
+ghost use Rattle.records.specs.RecordForms.{coreKey};
 ghost use Rattle.standard.specs.Lists.{recordAt};
 ghost use Rattle.standard.specs.Runs.{textRuns};
-ghost use Rattle.books.specs.Steps.{sizeOf, toOf, inputOf, coreOf, madeOf, convertOf, shortened};
+ghost use Rattle.books.specs.BothDirections.{sizeOf, toOf, inputOf, coreOf, madeOf, convertOf, shortened};
 
 // What the core takes of a record.
 fn task(way: Way, ring: &RingBytes, rec: &[u8]) -> Task

@@ -17,7 +17,7 @@ use standard::RING;
 use standard::WRONG_LENGTH;
 ghost use mathlib.Core.Path.{_≡_};
 ghost use Rattle.standard.specs.Books.{bookCall, sealBook, openBook, checkPlain};
-ghost use Rattle.books.specs.Steps.{wayOf};
+ghost use Rattle.books.specs.BothDirections.{wayOf};
 
 // What a refused book answers, with the block cipher runs by then.
 fn refused_after(number: u32, index: usize, runs: usize) -> CountedAnswer

@@ -17,7 +17,7 @@ ghost use Rattle.standard.specs.Books.{plainFault};
 ghost use Rattle.standard.specs.Lists.{recordAt, each};
 ghost use Rattle.standard.specs.Runs.{textRuns, firstPass, secondPass};
 ghost use Rattle.standard.specs.Sizes.{plainSize, sealedSize};
-ghost use Rattle.books.specs.Steps.{sizeOf, toOf, convertOf, recordOf, faultAt, lookAt};
+ghost use Rattle.books.specs.BothDirections.{sizeOf, toOf, convertOf, recordOf, faultAt, lookAt};
 ghost use Rattle.books.specs.declared.walk.Way.the-variants.{Opening};
 
 pub enum Way {

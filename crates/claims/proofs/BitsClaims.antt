@@ -15,7 +15,7 @@ use Rattle.standard.specs.Seals.{form51, checks, failed, key16, opened, unseal,
 use Rattle.standard.specs.declared.UnsealedNumbered.{UnsealedNumbered}
 use Rattle.standard.specs.declared.Version.{Version}
 use Rattle.standard.proofs.BytesLaws.{spell, bytes-append, bytes-one, bytes-part, same-eq, same-refl}
-use Rattle.standard.proofs.CallLaws.{ta51-opens}
+use Rattle.standard.proofs.CallPairLaws.{ta51-opens}
 use Rattle.standard.proofs.CheckLaws.{none-failed, failed-below}
 use Rattle.standard.proofs.CoreLaws.{sealCore, unsealCore, core}
 use Rattle.standard.proofs.ExpansionLaws.{bytes-grouped, bytes-ungrouped}

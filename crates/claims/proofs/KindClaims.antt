@@ -14,7 +14,7 @@ use Rattle.standard.specs.declared.Algorithm.the-variants.{Ta81, Ta91}
 use Rattle.standard.specs.declared.Bytes15.{Bytes15}
 use Rattle.standard.specs.declared.KeyNumber.{KeyNumber}
 use Rattle.standard.specs.declared.Version.{Version}
-use Rattle.standard.proofs.CallLaws.{ta51-opens, ta81-opens, ta91-opens}
+use Rattle.standard.proofs.CallPairLaws.{ta51-opens, ta81-opens, ta91-opens}
 use Rattle.standard.proofs.SealLaws.{sealing}
 use Rattle.claims.specs.Entries.{Legal, unsealCall}
 use Rattle.claims.specs.FalseClaims.{ThreeAndFour, AsThreeKinds}

@@ -17,7 +17,7 @@ use Rattle.standard.specs.declared.Bytes15.{Bytes15}
 use Rattle.standard.specs.declared.Bytes16.{Bytes16}
 use Rattle.standard.specs.declared.UnsealedNumbered.{UnsealedNumbered}
 use Rattle.standard.proofs.BytesLaws.{bytes-append, bytes-one}
-use Rattle.standard.proofs.CallLaws.{ta81-opens, ta82-seals}
+use Rattle.standard.proofs.CallPairLaws.{ta81-opens, ta82-seals}
 use Rattle.standard.proofs.Demand3Laws.{demand3}
 use Rattle.standard.proofs.ExpansionLaws.{bytes-grouped}
 use Rattle.standard.proofs.XorLaws.{xor-byte}

@@ -7,7 +7,7 @@ use Prim.Native.Nat.{ℕ, _*_, _/_, _≤_}
 use native.Mathlib.Omega.{arith}
 use lib.ListN.{length, drop}
 use borrow.Author.Tests.{eq-eqb, ne-eqb, leb-true}
-use Rattle.lists.proofs.CallLaws.{call-refused, call-done}
+use Rattle.lists.proofs.ListReturnLaws.{call-refused, call-done}
 use Rattle.standard.proofs.BookLaws.{each-same}
 use Rattle.standard.proofs.FirstLaws.{all-pass, first-append}
 use Rattle.standard.specs.Bytes.{part}
@@ -20,7 +20,7 @@ use Rattle.standard.specs.Lists.{recordAt, each, listTests, refused}
 use Rattle.standard.specs.Refusals.{wrongLength, maskTests, first}
 use Rattle.standard.specs.Sizes.{challengeSize, authenticationSize}
 use Rattle.standard.specs.declared.Authentication.{Authentication}
-use Rattle.classes.specs.Steps.{recordFrom, recordWith}
+use Rattle.classes.specs.ClassRecords.{recordFrom, recordWith}
 
 from-length : (rm km : ℕ) (o : List ℕ) → length (recordFrom rm km o) ≡ authenticationSize
 unfolding recordFrom

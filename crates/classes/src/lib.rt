@@ -28,7 +28,7 @@ ghost use Rattle.standard.specs.Classes.{ta12ClassCall};
 ghost use Rattle.standard.specs.Expansions.{exp2 as exp2Of};
 ghost use Rattle.standard.specs.Lists.{recordAt, each};
 ghost use Rattle.standard.specs.Sizes.{challengeSize, authenticationSize};
-ghost use Rattle.classes.specs.Steps.{recordFrom, recordWith};
+ghost use Rattle.classes.specs.ClassRecords.{recordFrom, recordWith};
 
 fn joined(response: [u8; 4], key: [u8; 10]) -> [u8; AUTHENTICATION]
     ensures { λ r. ⌜ r ≡ part 0 4 response ++ part 0 10 key ⌝ }

@@ -7,7 +7,7 @@ use native.Mathlib.Nat.{mul-comm}
 use native.Mathlib.Omega.{arith}
 use lib.ListN.{length, take, drop}
 use borrow.Author.Tests.{leb-true}
-use Rattle.lists.proofs.CallLaws.{call-refused, call-done}
+use Rattle.lists.proofs.ListReturnLaws.{call-refused, call-done}
 use Rattle.lists.proofs.WalkLaws.{ends, Laid, laid-none, own-length, laid-next}
 use Rattle.standard.proofs.ColumnsLaws.{column-long}
 use Rattle.standard.proofs.FirstLaws.{all-pass}

@@ -6,7 +6,7 @@ use Prim.Native.Nat.{ℕ}
 use Rattle.standard.specs.Bytes.{_!_, _⊕_, part, xors}
 use Rattle.standard.specs.Cores.{bl1With, bl1, bl2}
 use Rattle.standard.specs.Hurdle.{schedule, encryptWith, decryptWith, decrypt}
-use Rattle.cores.specs.Steps.{bl2With}
+use Rattle.cores.specs.CoreOutputs.{bl2With}
 
 -- the left block, encrypted, and the right block chained to it, encrypted
 pub bl1-steps : (keys x : List ℕ) {x₀ l x₁ r : List ℕ} → x₀ ≡ part 0 8 x → l ≡ encryptWith keys x₀ → x₁ ≡ xors 8 (part 8 8 x) l → r ≡ encryptWith keys x₁

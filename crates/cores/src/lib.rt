@@ -9,7 +9,7 @@ ghost use mathlib.Core.Path.{_≡_};
 ghost use Rattle.standard.specs.Bytes.{_!_, _⊕_, _⊞_, part, xors};
 ghost use Rattle.standard.specs.Cores.{bl1With, bl1 as bl1Of, bl2 as bl2Of};
 ghost use Rattle.standard.specs.Expansions.{exp1, exp2 as exp2Of, exp4 as exp4Of, xorOf};
-ghost use Rattle.cores.specs.Steps.{Sums as SumsOf, withSums, bl2With, counted16, counted15};
+ghost use Rattle.cores.specs.CoreOutputs.{Sums as SumsOf, withSums, bl2With, counted16, counted15};
 
 // The byte sum of the ⊕ values of the five pairs.
 fn sum_of_xors(b: [u8; 10]) -> u8

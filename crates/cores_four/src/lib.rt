@@ -13,7 +13,7 @@ use hurdle::encrypt4_with;
 use hurdle::schedule;
 ghost use mathlib.Core.List.{[], _∷_, _++_};
 ghost use mathlib.Core.Path.{_≡_};
-ghost use Rattle.cores.specs.Steps.{bl2With, counted16, counted15};
+ghost use Rattle.cores.specs.CoreOutputs.{bl2With, counted16, counted15};
 ghost use Rattle.standard.specs.Bytes.{_!_, _⊕_, part, xors};
 ghost use Rattle.standard.specs.Cores.{bl1With, bl1, bl2};
 

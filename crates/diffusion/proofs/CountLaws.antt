@@ -19,7 +19,7 @@ use Rattle.standard.specs.Hurdle.{schedule, encryptWith, encrypt}
 use Rattle.standard.specs.Lists.{recordAt, each, lengthTests}
 use Rattle.standard.specs.Refusals.{first}
 use Rattle.standard.specs.Sizes.{diffusionSize}
-use Rattle.diffusion.specs.Steps.{changeWith, Counted}
+use Rattle.diffusion.specs.ChangeCounts.{changeWith, Counted}
 
 -- ---- a flip, and what it changes
 

@@ -19,7 +19,7 @@ ghost use Rattle.standard.specs.Diffusion.{flipped, bitsSet, recordChanges, dif
 ghost use Rattle.standard.specs.Hurdle.{encryptWith};
 ghost use Rattle.standard.specs.Lists.{each};
 ghost use Rattle.standard.specs.Sizes.{diffusionSize, mostRecords};
-ghost use Rattle.diffusion.specs.Steps.{changeWith, Counted};
+ghost use Rattle.diffusion.specs.ChangeCounts.{changeWith, Counted};
 
 // A block ⊕ a number's bytes.
 fn xor_number(block: [u8; 8], m: u64) -> [u8; 8]

@@ -12,7 +12,7 @@ use borrow.Author.Tests.{eqb-true, leb-true}
 use Rattle.standard.specs.Bytes.{_!_, byte, bit, _⊕_, _⊞_, part, xors}
 use Rattle.standard.specs.Hurdle.{S, E, T, f, Halves, round, rounds, crypt, roundKey}
 use Rattle.standard.proofs.BytesLaws.{table-at, and-split, every, every-at}
-use Rattle.hurdle.specs.Steps.{bytes4, TOver, YOver, fOver, roundOver, Linked, Four, Spread, nibble, gathered, Gathered, HalvesOf, place, Turned}
+use Rattle.hurdle.specs.RoundSteps.{bytes4, TOver, YOver, fOver, roundOver, Linked, Four, Spread, nibble, gathered, Gathered, HalvesOf, place, Turned}
 
 -- ---- the chain
 

@@ -17,7 +17,7 @@ ghost use lib.Bits.{bitXor};
 ghost use lib.ListN.{length};
 ghost use Rattle.standard.specs.Bytes.{part};
 ghost use Rattle.standard.specs.Hurdle.{crypt as cryptOf, roundKey};
-ghost use Rattle.hurdle.specs.Steps.{bytes4, fOver, place as placeOf, Linked, Gathered, HalvesOf, Turned};
+ghost use Rattle.hurdle.specs.RoundSteps.{bytes4, fOver, place as placeOf, Linked, Gathered, HalvesOf, Turned};
 
 // A block of each lane.
 pub struct Blocks {

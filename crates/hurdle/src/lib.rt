@@ -22,7 +22,7 @@ use standard::WRONG_LENGTH;
 pub use tables::S;
 ghost use mathlib.Core.Path.{_≡_};
 ghost use Rattle.standard.specs.Bytes.{_!_, table, zeros};
-ghost use Rattle.hurdle.specs.Steps.{cryptCall};
+ghost use Rattle.hurdle.specs.RoundSteps.{cryptCall};
 ghost use Rattle.standard.specs.Hurdle.{S as sOf, S⁻¹ as sInverseOf, schedule as scheduleOf, encryptWith, decryptWith, encrypt as encryptOf, decrypt as decryptOf, encryptCall, decryptCall};
 
 // All sixteen round keys, the first one first.

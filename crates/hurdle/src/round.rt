@@ -8,7 +8,7 @@ ghost use Prim.Native.Nat.{_+_, _<_, _≤_};
 ghost use lib.ListN.{length};
 ghost use Rattle.standard.specs.Bytes.{_!_, byte, _⊕_, _⊞_, part};
 ghost use Rattle.standard.specs.Hurdle.{crypt as cryptOf, roundKey};
-ghost use Rattle.hurdle.specs.Steps.{bytes4, fOver, roundOver, place as placeOf, Linked, Spread, Nibbles, Gathered, HalvesOf, Turned};
+ghost use Rattle.hurdle.specs.RoundSteps.{bytes4, fOver, roundOver, place as placeOf, Linked, Spread, Nibbles, Gathered, HalvesOf, Turned};
 
 // Byte n of a half, byte 0 the rightmost.
 fn half_byte(x: u32, n: u8) -> u8

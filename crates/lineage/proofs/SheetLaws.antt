@@ -7,7 +7,7 @@ use Prim.Native.Nat.{ℕ, _*_, _/_, _<_, _≤_}
 use lib.Dec.{eqb, ltb}
 use lib.ListN.{length, drop}
 use borrow.Author.Tests.{ltb-true, leb-true, eq-eqb, ne-eqb}
-use Rattle.lists.proofs.CallLaws.{call-refused, call-stopped, call-done}
+use Rattle.lists.proofs.ListReturnLaws.{call-refused, call-stopped, call-done}
 use Rattle.lists.proofs.WalkLaws.{Laid, laid-at}
 use Rattle.lists.specs.Walks.{Clean, Stopped}
 use Rattle.standard.proofs.BytesLaws.{spelled, and-split}
@@ -20,7 +20,7 @@ use Rattle.standard.specs.Lists.{recordAt, joined, listTests, refused}
 use Rattle.standard.specs.Mixing.{tb4}
 use Rattle.standard.specs.Refusals.{wrongFilling, wrongParent, parentLength, first}
 use Rattle.standard.specs.Sizes.{sheetSize, valueSize}
-use Rattle.lineage.specs.Steps.{fromValues}
+use Rattle.lineage.specs.SheetValues.{fromValues}
 
 -- ---- the refusal of a record
 

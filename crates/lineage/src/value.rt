@@ -18,7 +18,7 @@ ghost use lib.ListN.{length};
 ghost use Rattle.standard.specs.Bytes.{part};
 ghost use Rattle.standard.specs.Lineage.{lineageFault, derived};
 ghost use Rattle.standard.specs.Sizes.{sheetSize, valueSize};
-ghost use Rattle.lineage.specs.Steps.{fromValues};
+ghost use Rattle.lineage.specs.SheetValues.{fromValues};
 
 fn given(p: Record) -> Value
     ensures { λ r. ⌜ r ≡ part 6 16 p ⌝ }

@@ -1,3 +1,3 @@
 pub mod LengthLaws
 pub mod WalkLaws
-pub mod CallLaws
+pub mod ListReturnLaws

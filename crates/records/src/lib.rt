@@ -45,7 +45,7 @@ ghost use Rattle.standard.specs.Refusals.{notZero, wrongNumber, first};
 ghost use Rattle.standard.specs.Runs.{identityRuns};
 ghost use Rattle.standard.specs.Seals.{form, form31, kindOf, with8 as with8Of};
 ghost use Rattle.standard.specs.Sizes.{plainSize, sealedSize};
-ghost use Rattle.records.specs.Steps.{coreKey, plainInput, sealedWith, openedWith};
+ghost use Rattle.records.specs.RecordForms.{coreKey, plainInput, sealedWith, openedWith};
 
 // A ring's identity strings, and the cipher run that they took.
 pub fn strings_of(ring: &RingBytes) -> IdentityStrings

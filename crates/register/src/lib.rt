@@ -16,11 +16,11 @@ use standard::WRONG_LENGTH;
 use standard::refused16;
 ghost use mathlib.Core.Path.{_≡_};
 ghost use Prim.Native.Nat.{_-_, _≤_};
-ghost use Rattle.hurdle.specs.Steps.{bytes4};
+ghost use Rattle.hurdle.specs.RoundSteps.{bytes4};
 ghost use Rattle.standard.specs.Bytes.{xors};
 ghost use Rattle.standard.specs.Hurdle.{D as dOf, rotl, next, encryptCall, decryptCall};
 ghost use Rattle.standard.specs.Register.{turned as turnedOf, onward as onwardOf, backward as backwardOf, registerCall};
-ghost use Rattle.register.specs.Steps.{stateOf, crypt as cryptOf, cryptCall};
+ghost use Rattle.register.specs.RegisterStates.{stateOf, crypt as cryptOf, cryptCall};
 
 const D: [u8; 16] = [
     0x3c,

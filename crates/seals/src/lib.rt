@@ -23,7 +23,7 @@ ghost use mathlib.Core.List.{[], _∷_, _++_};
 ghost use mathlib.Core.Path.{_≡_};
 ghost use Prim.Native.Nat.{_+_, _*_};
 ghost use Rattle.standard.specs.Bytes.{_!_, part, zeros};
-ghost use Rattle.seals.specs.Steps.{unsealedBody, opened16};
+ghost use Rattle.seals.specs.UnsealedBodies.{unsealedBody, opened16};
 ghost use Rattle.standard.specs.Refusals.{wrongLength, first, answer15};
 ghost use Rattle.standard.specs.Seals.{formOf, sealed as sealedOf, opened as openedOf, number2 as number2Of, ta31Call, ta32Call, ta51Call, ta52Call, ta81Call, ta82Call, ta91Call, ta92Call};
 

@@ -14,7 +14,7 @@ pub mod ExpansionLaws
 pub mod SealLaws
 pub mod CheckLaws
 pub mod IdentityLaws
-pub mod CallLaws
+pub mod CallPairLaws
 pub mod RecordLaws
 pub mod BookLaws
 pub mod AnswerLaws

@@ -15,7 +15,7 @@ ghost use mathlib.Core.Path.{_≡_};
 ghost use Rattle.standard.specs.Bytes.{bytesOf, xors};
 ghost use Rattle.standard.specs.Runs.{textRuns};
 ghost use Rattle.standard.specs.Seals.{clear, formOf, sealed as sealedOf, opened as openedOf, key10 as key10Of, key16 as key16Of, repeated, without8 as without8Of, with8 as with8Of};
-ghost use Rattle.texts.specs.Steps.{Opened as OpenedOf};
+ghost use Rattle.texts.specs.OpenedTexts.{Opened as OpenedOf};
 
 // The version's two bytes, the high one first.
 fn bytes_of(version: Version) -> [u8; 2]

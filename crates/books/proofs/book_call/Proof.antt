@@ -4,9 +4,9 @@ use native.Mathlib.Omega.{arith}
 use lib.ListN.{length}
 use denote.Ref.{now}
 use borrow.Author.Needs.{needs}
-use Rattle.books.proofs.CallLaws.{ring-refused, lengths-refused, record-refused, all-written, room}
+use Rattle.books.proofs.BookReturnLaws.{ring-refused, lengths-refused, record-refused, all-written, room}
 use Rattle.books.proofs.WayLaws.{sizes, both-fit}
-use Rattle.books.specs.Steps.{sizeOf}
+use Rattle.books.specs.BothDirections.{sizeOf}
 use Rattle.lists.proofs.LengthLaws.{records-within}
 use Rattle.standard.proofs.BytesLaws.{spelled}
 use Rattle.standard.specs.Sizes.{ringSize}

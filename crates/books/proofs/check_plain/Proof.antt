@@ -1,6 +1,6 @@
 use denote.Ref.{now}
 use borrow.Author.Needs.{needs}
-use Rattle.lists.proofs.CallLaws.{answer-refused, answer-stopped, answer-done}
+use Rattle.lists.proofs.ListReturnLaws.{answer-refused, answer-stopped, answer-done}
 use Rattle.standard.specs.Books.{checkPlain}
 use Rattle.books.proofs.check_plain.Statement.{statement}
 use Rattle.books.proofs.check_plain.Tie as tie

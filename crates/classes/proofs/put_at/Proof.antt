@@ -8,7 +8,7 @@ use Rattle.lists.proofs.WalkLaws.{put-lent}
 use Rattle.lists.specs.Walks.{putAt}
 use Rattle.standard.specs.Sizes.{authenticationSize}
 use Rattle.classes.proofs.ClassLaws.{record-made}
-use Rattle.classes.specs.Steps.{recordFrom}
+use Rattle.classes.specs.ClassRecords.{recordFrom}
 use Rattle.classes.proofs.put_at.Statement.{statement}
 use Rattle.classes.proofs.put_at.Tie as tie
 

@@ -8,7 +8,7 @@ use denote.Ref.{now}
 use Rattle.lists.proofs.WalkLaws.{Wrote, wrote-none, wrote-one, wrote-four}
 use Rattle.standard.specs.Sizes.{challengeSize, authenticationSize}
 use Rattle.classes.proofs.ClassLaws.{record-length}
-use Rattle.classes.specs.Steps.{recordWith}
+use Rattle.classes.specs.ClassRecords.{recordWith}
 use Rattle.classes.proofs.write.Statement.{statement}
 use Rattle.classes.proofs.write.Tie as tie
 

@@ -8,7 +8,7 @@ use Rattle.lists.proofs.WalkLaws.{four-put}
 use Rattle.standard.specs.Lists.{recordAt}
 use Rattle.standard.specs.Sizes.{challengeSize, authenticationSize}
 use Rattle.classes.proofs.ClassLaws.{record-by}
-use Rattle.classes.specs.Steps.{recordWith}
+use Rattle.classes.specs.ClassRecords.{recordWith}
 use Rattle.classes.proofs.write_four.Statement.{statement}
 use Rattle.classes.proofs.write_four.Tie as tie
 

@@ -1,7 +1,7 @@
 use mathlib.Core.Path.{ap, _∙_}
 use borrow.Author.Needs.{needs}
 use Rattle.cores.proofs.CoreSteps.{bl1-under}
-use Rattle.cores.specs.Steps.{counted16}
+use Rattle.cores.specs.CoreOutputs.{counted16}
 use Rattle.cores.proofs.bl1.Statement.{statement}
 use Rattle.cores.proofs.bl1.Tie as tie
 

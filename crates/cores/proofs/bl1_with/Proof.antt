@@ -2,7 +2,7 @@ use mathlib.Core.Path.{ap, _∙_}
 use denote.Ref.{now}
 use borrow.Author.Needs.{needs}
 use Rattle.cores.proofs.CoreSteps.{bl1-steps}
-use Rattle.cores.specs.Steps.{counted16}
+use Rattle.cores.specs.CoreOutputs.{counted16}
 use Rattle.cores.proofs.bl1_with.Statement.{statement}
 use Rattle.cores.proofs.bl1_with.Tie as tie
 

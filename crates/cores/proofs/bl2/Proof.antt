@@ -1,7 +1,7 @@
 use mathlib.Core.Path.{ap, _∙_}
 use borrow.Author.Needs.{needs}
 use Rattle.cores.proofs.CoreSteps.{bl2-under}
-use Rattle.cores.specs.Steps.{counted15}
+use Rattle.cores.specs.CoreOutputs.{counted15}
 use Rattle.cores.proofs.bl2.Statement.{statement}
 use Rattle.cores.proofs.bl2.Tie as tie
 

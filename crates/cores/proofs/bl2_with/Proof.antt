@@ -2,7 +2,7 @@ use mathlib.Core.Path.{ap, _∙_}
 use denote.Ref.{now}
 use borrow.Author.Needs.{needs}
 use Rattle.cores.proofs.CoreSteps.{bl2-steps}
-use Rattle.cores.specs.Steps.{counted15}
+use Rattle.cores.specs.CoreOutputs.{counted15}
 use Rattle.cores.proofs.bl2_with.Statement.{statement}
 use Rattle.cores.proofs.bl2_with.Tie as tie
 

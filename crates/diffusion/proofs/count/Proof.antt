@@ -9,7 +9,7 @@ use Rattle.standard.specs.Diffusion.{recordChanges}
 use Rattle.standard.specs.Lists.{each}
 use Rattle.standard.specs.Sizes.{diffusionSize}
 use Rattle.diffusion.proofs.CountLaws.{counted-none, counted-record}
-use Rattle.diffusion.specs.Steps.{Counted}
+use Rattle.diffusion.specs.ChangeCounts.{Counted}
 use Rattle.diffusion.proofs.count.Statement.{statement}
 use Rattle.diffusion.proofs.count.Tie as tie
 

@@ -5,7 +5,7 @@ use denote.Ref.{now}
 use Rattle.standard.proofs.BytesLaws.{length-table}
 use Rattle.standard.specs.Bytes.{table}
 use Rattle.diffusion.proofs.CountLaws.{counted-none, counted-four}
-use Rattle.diffusion.specs.Steps.{changeWith, Counted}
+use Rattle.diffusion.specs.ChangeCounts.{changeWith, Counted}
 use Rattle.diffusion.proofs.count_flips.Statement.{statement}
 use Rattle.diffusion.proofs.count_flips.Tie as tie
 

@@ -1,6 +1,6 @@
 use denote.Ref.{now}
 use borrow.Author.Needs.{needs}
-use Rattle.hurdle.specs.Steps.{cryptCall}
+use Rattle.hurdle.specs.RoundSteps.{cryptCall}
 use Rattle.standard.proofs.BytesLaws.{failed, passed, both-spelled}
 use Rattle.hurdle.proofs.crypted.Statement.{statement}
 use Rattle.hurdle.proofs.crypted.Tie as tie

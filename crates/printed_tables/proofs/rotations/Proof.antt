@@ -6,7 +6,7 @@ use native.Mathlib.Omega.{arith}
 use lib.ListN.{length, take, length-set}
 use borrow.Author.Needs.{needs}
 use Rattle.standard.proofs.FillLaws.{fill-next, filled}
-use Rattle.register.proofs.StepLaws.{rotation-most}
+use Rattle.register.proofs.RegisterStateLaws.{rotation-most}
 use Rattle.standard.proofs.ScheduleLaws.{turn-next}
 use Rattle.standard.specs.Bytes.{_!_, table}
 use Rattle.standard.specs.Hurdle.{a}

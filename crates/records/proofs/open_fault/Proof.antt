@@ -4,7 +4,7 @@ use mathlib.Core.Path.{_≡_, sym, ap, _∙_}
 use Prim.Native.Nat.{ℕ}
 use denote.Ref.{now}
 use borrow.Author.Needs.{needs}
-use Rattle.records.proofs.StepLaws.{named-by, open-unknown, open-set, open-clear, look-unknown, look-known}
+use Rattle.records.proofs.RecordFormLaws.{named-by, open-unknown, open-set, open-clear, look-unknown, look-known}
 use Rattle.standard.specs.Books.{sealingKey}
 use Rattle.standard.specs.Bytes.{_!_, part}
 use Rattle.standard.specs.Seals.{clear, form, opened}

@@ -3,7 +3,7 @@ use mathlib.Core.Path.{_≡_, sym, ap, _∙_}
 use Prim.Native.Nat.{ℕ}
 use denote.Ref.{now}
 use borrow.Author.Needs.{needs}
-use Rattle.records.proofs.StepLaws.{named-by, plain-unknown, plain-known}
+use Rattle.records.proofs.RecordFormLaws.{named-by, plain-unknown, plain-known}
 use Rattle.standard.specs.Bytes.{_!_, part}
 use Rattle.standard.specs.Seals.{form}
 use Rattle.records.proofs.plain_fault.Statement.{statement}

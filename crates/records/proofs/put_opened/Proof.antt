@@ -1,7 +1,7 @@
 use mathlib.Core.Path.{_∙_}
 use denote.Ref.{now}
 use borrow.Author.Needs.{needs}
-use Rattle.records.proofs.StepLaws.{opened-put}
+use Rattle.records.proofs.RecordFormLaws.{opened-put}
 use Rattle.records.proofs.put_opened.Statement.{statement}
 use Rattle.records.proofs.put_opened.Tie as tie
 

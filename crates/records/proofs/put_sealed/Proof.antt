@@ -1,7 +1,7 @@
 use mathlib.Core.Path.{_∙_}
 use denote.Ref.{now}
 use borrow.Author.Needs.{needs}
-use Rattle.records.proofs.StepLaws.{sealed-put}
+use Rattle.records.proofs.RecordFormLaws.{sealed-put}
 use Rattle.records.proofs.put_sealed.Statement.{statement}
 use Rattle.records.proofs.put_sealed.Tie as tie
 

@@ -1,5 +1,5 @@
 use borrow.Author.Needs.{needs}
-use Rattle.register.proofs.StepLaws.{encrypted, decrypted}
+use Rattle.register.proofs.RegisterStateLaws.{encrypted, decrypted}
 use Rattle.register.proofs.crypt.Statement.{statement}
 use Rattle.register.proofs.crypt.Tie as tie
 

@@ -1,6 +1,6 @@
 use denote.Ref.{now}
 use borrow.Author.Needs.{needs}
-use Rattle.register.specs.Steps.{cryptCall}
+use Rattle.register.specs.RegisterStates.{cryptCall}
 use Rattle.standard.proofs.BytesLaws.{failed, passed, both-spelled}
 use Rattle.register.proofs.crypted.Statement.{statement}
 use Rattle.register.proofs.crypted.Tie as tie

@@ -1,5 +1,5 @@
 use borrow.Author.Needs.{needs}
-use Rattle.register.specs.Steps.{cryptCall}
+use Rattle.register.specs.RegisterStates.{cryptCall}
 use Rattle.standard.specs.Hurdle.{decryptCall}
 use Rattle.register.proofs.decrypt_register.Statement.{statement}
 use Rattle.register.proofs.decrypt_register.Tie as tie

@@ -1,5 +1,5 @@
 use borrow.Author.Needs.{needs}
-use Rattle.register.specs.Steps.{cryptCall}
+use Rattle.register.specs.RegisterStates.{cryptCall}
 use Rattle.standard.specs.Hurdle.{encryptCall}
 use Rattle.register.proofs.encrypt_register.Statement.{statement}
 use Rattle.register.proofs.encrypt_register.Tie as tie

@@ -4,8 +4,8 @@ use native.Mathlib.Omega.{arith}
 use borrow.Author.Needs.{needs}
 use Rattle.standard.specs.Hurdle.{S, a}
 use Rattle.standard.specs.Register.{State, onward}
-use Rattle.register.proofs.StepLaws.{rotation-most, onward-more}
-use Rattle.register.specs.Steps.{stateOf}
+use Rattle.register.proofs.RegisterStateLaws.{rotation-most, onward-more}
+use Rattle.register.specs.RegisterStates.{stateOf}
 use Rattle.register.proofs.onward.Statement.{statement}
 use Rattle.register.proofs.onward.Tie as tie
 

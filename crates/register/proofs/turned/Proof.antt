@@ -3,7 +3,7 @@ use Prim.Native.Nat.{_-_, _≤_, zero-le}
 use native.Mathlib.Omega.{arith}
 use Rattle.standard.specs.Hurdle.{a}
 use Rattle.standard.specs.Register.{turned}
-use Rattle.register.proofs.StepLaws.{rotation-most, turned-more}
+use Rattle.register.proofs.RegisterStateLaws.{rotation-most, turned-more}
 use Rattle.register.proofs.turned.Statement.{statement}
 use Rattle.register.proofs.turned.Tie as tie
 

@@ -1,5 +1,5 @@
 use borrow.Author.Needs.{needs}
-use Rattle.seals.proofs.AnswerLaws.{key16-part, opened-part}
+use Rattle.seals.proofs.UnsealedBodyLaws.{key16-part, opened-part}
 use Rattle.seals.proofs.open16.Statement.{statement}
 use Rattle.seals.proofs.open16.Tie as tie
 

@@ -1,6 +1,6 @@
 use mathlib.Core.Path.{refl}
 use borrow.Author.Needs.{needs}
-use Rattle.seals.proofs.AnswerLaws.{number-out}
+use Rattle.seals.proofs.UnsealedBodyLaws.{number-out}
 use Rattle.standard.specs.Bytes.{_!_}
 use Rattle.standard.specs.Seals.{form51, unseal, fails, ta52Call}
 use Rattle.seals.proofs.ta52.Statement.{statement}

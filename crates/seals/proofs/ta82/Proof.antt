@@ -1,6 +1,6 @@
 use mathlib.Core.Path.{refl}
 use borrow.Author.Needs.{needs}
-use Rattle.seals.proofs.AnswerLaws.{number-out}
+use Rattle.seals.proofs.UnsealedBodyLaws.{number-out}
 use Rattle.standard.specs.Seals.{form81, unseal, fails, number2, ta82Call}
 use Rattle.seals.proofs.ta82.Statement.{statement}
 use Rattle.seals.proofs.ta82.Tie as tie

@@ -1,5 +1,5 @@
 use borrow.Author.Needs.{needs}
-use Rattle.seals.proofs.AnswerLaws.{group-key-out}
+use Rattle.seals.proofs.UnsealedBodyLaws.{group-key-out}
 use Rattle.standard.specs.Seals.{form81, unseal, fails, ta92Call}
 use Rattle.seals.proofs.ta92.Statement.{statement}
 use Rattle.seals.proofs.ta92.Tie as tie

@@ -4,7 +4,7 @@ use native.Mathlib.Omega.{arith}
 use denote.Ref.{now}
 use borrow.Author.Needs.{needs}
 use Rattle.books.proofs.WayLaws.{converted-by}
-use Rattle.books.specs.Steps.{sizeOf, toOf, convertOf}
+use Rattle.books.specs.BothDirections.{sizeOf, toOf, convertOf}
 use Rattle.cores.specs.declared.CoreOutput15.{CoreOutput15}
 use Rattle.cores_four.specs.Lanes.{lane15}
 use Rattle.lists.proofs.WalkLaws.{four-put}

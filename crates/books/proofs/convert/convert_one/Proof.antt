@@ -4,7 +4,7 @@ use Prim.Native.Nat.{ℕ}
 use denote.Ref.{now}
 use borrow.Author.Needs.{needs}
 use Rattle.books.proofs.WayLaws.{converted-by}
-use Rattle.books.specs.Steps.{toOf}
+use Rattle.books.specs.BothDirections.{toOf}
 use Rattle.cores.specs.declared.CoreOutput15.{CoreOutput15}
 use Rattle.lists.specs.Walks.{putAt}
 use Rattle.books.proofs.convert.convert_one.Statement.{statement}

@@ -5,7 +5,7 @@ use native.Mathlib.Omega.{arith}
 use denote.Ref.{now}
 use borrow.Author.Needs.{needs}
 use Rattle.books.proofs.WayLaws.{fits, made-length}
-use Rattle.books.specs.Steps.{sizeOf, toOf, madeOf}
+use Rattle.books.specs.BothDirections.{sizeOf, toOf, madeOf}
 use Rattle.lists.proofs.WalkLaws.{lent, put-lent}
 use Rattle.lists.specs.Walks.{putAt}
 use Rattle.standard.specs.Lists.{recordAt}

@@ -4,9 +4,9 @@ use native.Mathlib.Omega.{arith}
 use denote.Ref.{now}
 use borrow.Author.Needs.{needs}
 use Rattle.books.proofs.WayLaws.{fits}
-use Rattle.books.specs.Steps.{sizeOf, inputOf}
+use Rattle.books.specs.BothDirections.{sizeOf, inputOf}
 use Rattle.lists.proofs.WalkLaws.{lent}
-use Rattle.records.specs.Steps.{coreKey}
+use Rattle.records.specs.RecordForms.{coreKey}
 use Rattle.standard.specs.Lists.{recordAt}
 use Rattle.books.proofs.convert.task_at.Statement.{statement}
 use Rattle.books.proofs.convert.task_at.Tie as tie

@@ -11,7 +11,7 @@ use borrow.Author.Needs.{needs}
 use Rattle.lists.proofs.WalkLaws.{lent, clean-none, clean-more, stopped-at, stopped-not}
 use Rattle.lists.specs.Walks.{Clean}
 use Rattle.books.proofs.WayLaws.{looks-few, looks-most, runs-fit}
-use Rattle.books.specs.Steps.{faultAt, lookAt}
+use Rattle.books.specs.BothDirections.{faultAt, lookAt}
 use Rattle.books.specs.declared.walk.Way.the-variants.{Opening}
 use Rattle.standard.proofs.AnswerLaws.{pass-more, pass-stopped}
 use Rattle.standard.specs.Books.{openFault, openLook}

@@ -8,7 +8,7 @@ use denote.Ref.{now}
 use borrow.Author.Needs.{needs}
 use borrow.Author.Tests.{ne-eqb}
 use Rattle.books.proofs.WayLaws.{converted-is, runs-fit}
-use Rattle.books.specs.Steps.{sizeOf, toOf, convertOf}
+use Rattle.books.specs.BothDirections.{sizeOf, toOf, convertOf}
 use Rattle.identity.specs.declared.IdentityStrings.{IdentityStrings}
 use Rattle.standard.specs.Lists.{each}
 use Rattle.standard.specs.Runs.{identityRuns}

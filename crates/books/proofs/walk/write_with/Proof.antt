@@ -7,7 +7,7 @@ use native.Mathlib.Omega.{arith}
 use denote.Ref.{now}
 use Rattle.lists.proofs.WalkLaws.{Wrote, wrote-none, wrote-one, wrote-four}
 use Rattle.books.proofs.WayLaws.{converted-length, runs-fit}
-use Rattle.books.specs.Steps.{sizeOf, toOf, convertOf}
+use Rattle.books.specs.BothDirections.{sizeOf, toOf, convertOf}
 use Rattle.standard.specs.Runs.{textRuns}
 use Rattle.books.proofs.walk.write_with.Statement.{statement}
 use Rattle.books.proofs.walk.write_with.Tie as tie

@@ -1,7 +1,7 @@
 use denote.Ref.{now}
 use borrow.Author.Needs.{needs}
 use Rattle.hurdle.proofs.RoundLaws.{f-made}
-use Rattle.hurdle.specs.Steps.{bytes4}
+use Rattle.hurdle.specs.RoundSteps.{bytes4}
 use Rattle.hurdle.proofs.lanes.fs.Statement.{statement}
 use Rattle.hurdle.proofs.lanes.fs.Tie as tie
 

@@ -3,7 +3,7 @@ use Prim.Native.Nat.{_+_, _*_}
 use native.Mathlib.Omega.{arith}
 use borrow.Author.Needs.{needs}
 use Rattle.hurdle.proofs.RoundLaws.{bytes4-of}
-use Rattle.hurdle.specs.Steps.{bytes4}
+use Rattle.hurdle.specs.RoundSteps.{bytes4}
 use Rattle.hurdle.proofs.round.word.Statement.{statement}
 use Rattle.hurdle.proofs.round.word.Tie as tie
 

@@ -6,7 +6,7 @@ use Prim.Native.Nat.{ℕ, _+_, _*_, _/_, _<_, _≤_}
 use native.Mathlib.Omega.{arith}
 use lib.ListN.{length, drop}
 use borrow.Author.Tests.{eq-eqb, ne-eqb, leb-true}
-use Rattle.lists.proofs.CallLaws.{call-refused, call-stopped, call-done}
+use Rattle.lists.proofs.ListReturnLaws.{call-refused, call-stopped, call-done}
 use Rattle.lists.specs.Walks.{Clean, Stopped}
 use Rattle.standard.proofs.AnswerLaws.{no-fault}
 use Rattle.standard.proofs.FirstLaws.{all-pass}
@@ -15,7 +15,7 @@ use Rattle.standard.specs.Lists.{each, listTests, refused}
 use Rattle.standard.specs.Refusals.{wrongLength, first}
 use Rattle.standard.specs.Runs.{firstPass, secondPass, callRuns}
 use Rattle.standard.specs.Sizes.{ringSize}
-use Rattle.books.specs.Steps.{sizeOf, toOf, recordOf, wayOf, faultAt, lookAt}
+use Rattle.books.specs.BothDirections.{sizeOf, toOf, recordOf, wayOf, faultAt, lookAt}
 use Rattle.books.specs.declared.walk.Way.{Way}
 
 -- ---- the cipher runs

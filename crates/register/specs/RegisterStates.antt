@@ -1,9 +1,9 @@
--- What the steps of the code compute on their way to the definitions.
+-- What the rounds of the cipher with one register keep, and what they compute on their way to the definitions.
 -- Assumes nothing.
 use mathlib.Core.Bool.{Bool, _&&_}
 use mathlib.Core.List.{List, [], _∷_}
 use Prim.Native.Nat.{ℕ}
-use Rattle.hurdle.specs.Steps.{bytes4}
+use Rattle.hurdle.specs.RoundSteps.{bytes4}
 use Rattle.standard.specs.Bytes.{choose}
 use Rattle.standard.specs.Hurdle.{encrypt, decrypt}
 use Rattle.standard.specs.Refusals.{wrongLength, long, first, answer8}

@@ -7,12 +7,12 @@ use native.Mathlib.Nat.{mod-eq-of-lt}
 use native.Mathlib.Numerals.{add-one}
 use lib.ListN.{length}
 use Rattle.hurdle.proofs.RoundLaws.{round-over}
-use Rattle.hurdle.specs.Steps.{bytes4, roundOver, HalvesOf}
+use Rattle.hurdle.specs.RoundSteps.{bytes4, roundOver, HalvesOf}
 use Rattle.standard.proofs.RegisterLaws.{a-most, same-cipher}
 use Rattle.standard.specs.Bytes.{_!_, part, xors}
 use Rattle.standard.specs.Hurdle.{S, Halves, D, a, rotl, next, encrypt, decrypt}
 use Rattle.standard.specs.Register.{step, stepBack, turned, State, roundUnder, onward, backward, encryptRegister, decryptRegister}
-use Rattle.register.specs.Steps.{stateOf}
+use Rattle.register.specs.RegisterStates.{stateOf}
 
 abbrev state : List ℕ → Halves → State
 state q h = record { register = q; halves = h }

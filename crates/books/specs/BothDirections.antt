@@ -4,7 +4,7 @@ use mathlib.Core.List.{List}
 use Prim.Native.Nat.{ℕ}
 use Rattle.cores.specs.declared.CoreOutput15.{CoreOutput15}
 use Rattle.cores.specs.declared.CoreOutput16.{CoreOutput16}
-use Rattle.records.specs.Steps.{coreKey, plainInput, sealedWith, openedWith}
+use Rattle.records.specs.RecordForms.{coreKey, plainInput, sealedWith, openedWith}
 use Rattle.standard.specs.Books.{plainFault, sealRecord, openFault, openLook, openRecord, Way as WayOf}
 use Rattle.standard.specs.Bytes.{part}
 use Rattle.standard.specs.Cores.{bl1, bl2}

@@ -8,7 +8,7 @@ use Prim.Native.Nat.{ℕ}
 use Rattle.standard.specs.Bytes.{part, zeros}
 use Rattle.standard.specs.Refusals.{wrongLength, first, unsealed, unsealedNumbered, unsealedGroup}
 use Rattle.standard.specs.Seals.{Form, failed, key10, key16, opened}
-use Rattle.seals.specs.Steps.{unsealedBody}
+use Rattle.seals.specs.UnsealedBodies.{unsealedBody}
 use Rattle.seals.specs.declared.UnsealedBody.{UnsealedBody}
 
 pub key10-part : (s v : List ℕ) → key10 (part 0 10 s) v ≡ key10 s v

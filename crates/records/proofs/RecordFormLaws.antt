@@ -14,7 +14,7 @@ use Rattle.standard.specs.Sizes.{plainSize, sealedSize}
 use Rattle.standard.specs.declared.Kind.{Kind}
 use Rattle.standard.specs.declared.Named.{Named}
 use Rattle.standard.specs.declared.Named.the-variants.{Known, Unknown}
-use Rattle.records.specs.Steps.{coreKey, plainInput, sealedWith, openedWith}
+use Rattle.records.specs.RecordForms.{coreKey, plainInput, sealedWith, openedWith}
 
 -- the kind byte is read from a copy x of the record's first n bytes
 pub named-by : (rec x : List ℕ) {found : Named} → x ! 0 ≡ rec ! 0 → found ≡ kindOf (x ! 0) → kindOf (rec ! 0) ≡ found
