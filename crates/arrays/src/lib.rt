@@ -37,11 +37,11 @@ pub use xors::xor10;
 pub use xors::xor16;
 ghost use mathlib.Core.Bool.{_&&_};
 ghost use mathlib.Core.Path.{_≡_};
-ghost use Rattle.standard.specs.Refusals.{long};
+ghost use Rattle.standard.specs.Refusals.{hasLength};
 
 // Both strings have their lengths.
-pub fn both_long(a: &[u8], m: usize, b: &[u8], n: usize) -> bool
-    ensures { λ r. ⌜ r ≡ (long m (now (a .entry)) && long n (now (b .entry))) ⌝ }
+pub fn have_lengths(a: &[u8], m: usize, b: &[u8], n: usize) -> bool
+    ensures { λ r. ⌜ r ≡ (hasLength m (now (a .entry)) && hasLength n (now (b .entry))) ⌝ }
 {
     (a.len() == m) & (b.len() == n)
 }

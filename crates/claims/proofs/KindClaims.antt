@@ -8,7 +8,7 @@ use native.Mathlib.Omega.{arith}
 use lib.ListN.{length}
 use borrow.Author.Tests.{eqb-true, eq-eqb}
 use Rattle.standard.specs.Bytes.{Bytes}
-use Rattle.standard.specs.Refusals.{long}
+use Rattle.standard.specs.Refusals.{hasLength}
 use Rattle.standard.specs.Seals.{seal, sealed, ta51Call, ta52Call, ta81Call, ta82Call, ta91Call, ta92Call}
 use Rattle.standard.specs.declared.Algorithm.the-variants.{Ta81, Ta91}
 use Rattle.standard.specs.declared.Bytes15.{Bytes15}
@@ -22,13 +22,13 @@ use Rattle.claims.proofs.TermLaws.{literal-bytes, pair, legal-body, sea
 
 -- ---- kinds 3 and 4
 
-both : (t s : List ℕ) (v : Version) → Bytes 15 t → (z : Bool) → long 16 s ≡ z → unsealCall Ta81 t s v ≡ unsealCall Ta91 t s v
+both : (t s : List ℕ) (v : Version) → Bytes 15 t → (z : Bool) → hasLength 16 s ≡ z → unsealCall Ta81 t s v ≡ unsealCall Ta91 t s v
 unfolding ta82Call ta92Call
 both t s v h true e = let hs = eqb-true (length s) 16 e in unsealed-by Ta81 s v t hs h ∙ sym (unsealed-by Ta91 s v t hs h)
 both t s v h false e = rw (eq-eqb _ _ (h .len), e)
 
 pub three-and-four : ThreeAndFour
-three-and-four t s v h = both t s v h (long 16 s) refl
+three-and-four t s v h = both t s v h (hasLength 16 s) refl
 
 -- ---- kinds 2, 3 and 4: one input of BL1
 

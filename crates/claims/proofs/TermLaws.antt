@@ -11,7 +11,7 @@ use lib.ListN.{length}
 use borrow.Author.Tests.{eqb-true, eq-eqb, le-leb, ltb-true}
 use Rattle.standard.specs.Bytes.{_!_, bytesOf, Bytes}
 use Rattle.standard.specs.Expansions.{x16Groups}
-use Rattle.standard.specs.Refusals.{long, wrongLength, wrongNumber}
+use Rattle.standard.specs.Refusals.{hasLength, wrongLength, wrongNumber}
 use Rattle.standard.specs.Seals.{formOf, form81, key16, opened, seal, unseal, fails, number2, body31, body51, body81, ta31Call, ta32Call, ta51Call, ta52Call, ta81Call, ta82Call, ta91Call, ta92Call}
 use Rattle.standard.specs.declared.Algorithm.{Algorithm}
 use Rattle.standard.specs.declared.Algorithm.the-variants.{Ta31, Ta51, Ta81, Ta91}
@@ -47,11 +47,11 @@ legal-body a b = (
 -- a call that is not refused got a sealing key of its length
 pub sealing-size : (a : Algorithm) (s : List ℕ) (v : Version) (b : List ℕ) → sealCall a b v s .refusal ≡ 0 → length s ≡ sealingSize a
 unfolding ta31Call ta51Call ta81Call ta91Call
-sealing-size Ta31 s v b e = eqb-true _ _ (and-split true (long 10 s) (all-pass ((true && long 10 s, wrongLength) ∷ []) refl e 0) .1)
+sealing-size Ta31 s v b e = eqb-true _ _ (and-split true (hasLength 10 s) (all-pass ((true && hasLength 10 s, wrongLength) ∷ []) refl e 0) .1)
 sealing-size Ta51 s v b e =
-    eqb-true _ _ (and-split true (long 16 s) (all-pass ((true && long 16 s, wrongLength) ∷ (leb (b ! 11) 31, wrongNumber) ∷ []) refl e 0) .1)
-sealing-size Ta81 s v b e = eqb-true _ _ (and-split true (long 16 s) (all-pass ((true && long 16 s, wrongLength) ∷ []) refl e 0) .1)
-sealing-size Ta91 s v b e = eqb-true _ _ (and-split true (long 16 s) (all-pass ((true && long 16 s, wrongLength) ∷ []) refl e 0) .1)
+    eqb-true _ _ (and-split true (hasLength 16 s) (all-pass ((true && hasLength 16 s, wrongLength) ∷ (leb (b ! 11) 31, wrongNumber) ∷ []) refl e 0) .1)
+sealing-size Ta81 s v b e = eqb-true _ _ (and-split true (hasLength 16 s) (all-pass ((true && hasLength 16 s, wrongLength) ∷ []) refl e 0) .1)
+sealing-size Ta91 s v b e = eqb-true _ _ (and-split true (hasLength 16 s) (all-pass ((true && hasLength 16 s, wrongLength) ∷ []) refl e 0) .1)
 
 pub sealed-by : (a : Algorithm) (s : List ℕ) (v : Version) (b : List ℕ) → length s ≡ sealingSize a → Legal a b
     → sealCall a b v s ≡ record { refusal = 0; bytes = seal (formOf a) s (pair v) b }
@@ -73,10 +73,10 @@ sealed-by Ta91 s v b hs h = rw (eq-eqb _ _ hs, spell (h .bytes))
 
 pub unsealing-size : (a : Algorithm) (s : List ℕ) (v : Version) (t : List ℕ) → unsealCall a t s v .refusal ≡ 0 → length s ≡ sealingSize a
 unfolding ta32Call ta52Call ta82Call ta92Call
-unsealing-size Ta31 s v t e = eqb-true _ _ (and-split (long 15 t) (long 10 s) (all-pass ((long 15 t && long 10 s, wrongLength) ∷ []) refl e 0) .1)
-unsealing-size Ta51 s v t e = eqb-true _ _ (and-split (long 15 t) (long 16 s) (all-pass ((long 15 t && long 16 s, wrongLength) ∷ []) refl e 0) .1)
-unsealing-size Ta81 s v t e = eqb-true _ _ (and-split (long 15 t) (long 16 s) (all-pass ((long 15 t && long 16 s, wrongLength) ∷ []) refl e 0) .1)
-unsealing-size Ta91 s v t e = eqb-true _ _ (and-split (long 15 t) (long 16 s) (all-pass ((long 15 t && long 16 s, wrongLength) ∷ []) refl e 0) .1)
+unsealing-size Ta31 s v t e = eqb-true _ _ (and-split (hasLength 15 t) (hasLength 10 s) (all-pass ((hasLength 15 t && hasLength 10 s, wrongLength) ∷ []) refl e 0) .1)
+unsealing-size Ta51 s v t e = eqb-true _ _ (and-split (hasLength 15 t) (hasLength 16 s) (all-pass ((hasLength 15 t && hasLength 16 s, wrongLength) ∷ []) refl e 0) .1)
+unsealing-size Ta81 s v t e = eqb-true _ _ (and-split (hasLength 15 t) (hasLength 16 s) (all-pass ((hasLength 15 t && hasLength 16 s, wrongLength) ∷ []) refl e 0) .1)
+unsealing-size Ta91 s v t e = eqb-true _ _ (and-split (hasLength 15 t) (hasLength 16 s) (all-pass ((hasLength 15 t && hasLength 16 s, wrongLength) ∷ []) refl e 0) .1)
 
 -- what a text opens to, before it is shrunk: bytes, whatever the text
 pub opened-bytes : (k t : List ℕ) → Bytes 15 t → Bytes 15 (opened k t)

@@ -13,7 +13,7 @@ use Rattle.standard.specs.Demand3.{Demand3}
 use Rattle.standard.specs.Derivation.{half, ring, ta22Call, ta12Call, ta41Call}
 use Rattle.standard.specs.Expansions.{inserted, expected, exp3Groups, xorOf, exp1, exp2}
 use Rattle.standard.specs.Mixing.{tb4, tb7}
-use Rattle.standard.specs.Refusals.{wrongLength, long, first, unsealedNumbered, answer16}
+use Rattle.standard.specs.Refusals.{wrongLength, hasLength, first, unsealedNumbered, answer16}
 use Rattle.standard.specs.Seals.{Form, form51, form81, failed, number2, unseal, fails, ta51Call, ta52Call, ta81Call, ta82Call}
 use Rattle.standard.specs.Sizes.{plainSize, sealedSize}
 use Rattle.standard.specs.declared.Authentication.{Authentication}
@@ -36,7 +36,7 @@ openedAtEnd k t = bl2 k (withZeroAtEnd t)
 unfoldable pub ta82AtEnd : List ℕ → List ℕ → Version → UnsealedNumbered
 ta82AtEnd t s v =
     let u : List ℕ = openedAtEnd (form81 .key s (bytesOf 2 (v .0))) t in
-    unsealedNumbered (first ((long 15 t && long 16 s, wrongLength) ∷ [])) (part 0 10 (form81 .shrink u)) (number2 (form81 .shrink u)) (failed form81 u)
+    unsealedNumbered (first ((hasLength 15 t && hasLength 16 s, wrongLength) ∷ [])) (part 0 10 (form81 .shrink u)) (number2 (form81 .shrink u)) (failed form81 u)
 
 -- 14a: "The zero byte can as well be put back at the end." A sealed text would no longer open: here all three checks of it fail
 abbrev pub sealedText : List ℕ
@@ -76,7 +76,7 @@ formWithoutBits = record {
 -- TA52 with it
 unfoldable pub ta52WithoutBits : List ℕ → List ℕ → Version → UnsealedNumbered
 ta52WithoutBits t s v =
-    unsealedNumbered (first ((long 15 t && long 16 s, wrongLength) ∷ []))
+    unsealedNumbered (first ((hasLength 15 t && hasLength 16 s, wrongLength) ∷ []))
     (part 0 10 (unseal formWithoutBits s (bytesOf 2 (v .0)) t)) (unseal formWithoutBits s (bytesOf 2 (v .0)) t ! 11)
     (fails formWithoutBits s (bytesOf 2 (v .0)) t)
 
@@ -98,7 +98,7 @@ exp2ByXor b = exp1 b ++ (xorOf 0 2 b ⊕ xorOf 2 2 b ⊕ xorOf 4 2 b ⊕ xorOf 6
 
 -- TA41 with it
 unfoldable pub ta41ByXor : List ℕ → List ℕ → Bytes16
-ta41ByXor root seed = answer16 (first ((long 16 root && long 10 seed, wrongLength) ∷ [])) (bl1 root (exp2ByXor seed))
+ta41ByXor root seed = answer16 (first ((hasLength 16 root && hasLength 10 seed, wrongLength) ∷ [])) (bl1 root (exp2ByXor seed))
 
 -- 14d: "EXP2's last byte is the ⊕ of the five inserted bytes." On the seed 01 02 .. 0a it would be 0b and not 1f, and so TA41 would answer
 -- otherwise under every root

@@ -6,7 +6,7 @@ use mathlib.Core.Path.{_≡_}
 use Prim.Native.Nat.{ℕ, zero, suc, _+_, _-_, _*_, _/_, _%_, _^_, _≤_}
 use Rattle.standard.specs.Bytes.{_!_, byte, bit, _⊕_, _⊞_, part, xors}
 use Rattle.standard.specs.Hurdle.{E, ofBits, Halves, rounds, crypt, schedule, roundKey}
-use Rattle.standard.specs.Refusals.{wrongLength, long, first, answer8}
+use Rattle.standard.specs.Refusals.{wrongLength, hasLength, first, answer8}
 use Rattle.standard.specs.declared.Bytes8.{Bytes8}
 
 -- the four bytes of a word, leftmost first
@@ -74,7 +74,7 @@ place true i = 15 - i
 -- the call in either direction
 unfoldable pub cryptCall : List ℕ → List ℕ → Bool → Bytes8
 cryptCall key block back =
-    answer8 (first ((long 16 key && long 8 block, wrongLength) ∷ [])) (crypt (λ i. roundKey (schedule key) (place back i)) block)
+    answer8 (first ((hasLength 16 key && hasLength 8 block, wrongLength) ∷ [])) (crypt (λ i. roundKey (schedule key) (place back i)) block)
 
 -- the words l and r are what the first i rounds make of l₀ and r₀
 pub record Turned (back : Bool) (keys : List ℕ) (l₀ r₀ i l r : ℕ) : Type 0 where

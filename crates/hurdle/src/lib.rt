@@ -11,7 +11,7 @@ use crate::tables::S_INVERSE;
 use crate::tables::entry;
 use arrays::array8;
 use arrays::array16;
-use arrays::both_long;
+use arrays::have_lengths;
 pub use lanes::Blocks;
 pub use round::Halves;
 pub use round::joined;
@@ -125,7 +125,7 @@ pub fn refused8(number: u32) -> Bytes8
 fn crypted(key: &[u8], block: &[u8], back: bool) -> Bytes8
     ensures { λ r. ⌜ r ≡ cryptCall (now (key .entry)) (now (block .entry)) back ⌝ }
 {
-    if !both_long(key, 16, block, 8) {
+    if !have_lengths(key, 16, block, 8) {
         return refused8(WRONG_LENGTH);
     }
     let keys = lay(array16(key));

@@ -6,7 +6,7 @@ use crate::bits::field;
 use crate::bits::same;
 use crate::bits::unmixed;
 use arrays::array8;
-use arrays::both_long;
+use arrays::have_lengths;
 use mixing::tb1;
 use mixing::tb3;
 use mixing::tb5;
@@ -84,7 +84,7 @@ pub fn tb1_inverse(result: &[u8], width: u64) -> Value
 pub fn tb3_inverse(input: &[u8], result: &[u8], width: u64) -> Value
     ensures { λ r. ⌜ r ≡ tb3⁻¹Call (now (input .entry)) (now (result .entry)) width ⌝ }
 {
-    if !both_long(input, 16, result, 16) {
+    if !have_lengths(input, 16, result, 16) {
         return refused_value(WRONG_LENGTH);
     }
     if !wide(width) {
@@ -99,7 +99,7 @@ pub fn tb3_inverse(input: &[u8], result: &[u8], width: u64) -> Value
 pub fn tb5_inverse(cipher_key: &[u8], result: &[u8]) -> Cell
     ensures { λ r. ⌜ r ≡ tb5⁻¹Call (now («cipher_key» .entry)) (now (result .entry)) ⌝ }
 {
-    if !both_long(cipher_key, 10, result, 10) {
+    if !have_lengths(cipher_key, 10, result, 10) {
         return refused_cell(WRONG_LENGTH);
     }
     let front = unmixed(cipher_key, result);
@@ -127,7 +127,7 @@ pub fn tb5_inverse(cipher_key: &[u8], result: &[u8]) -> Cell
 pub fn tb6_inverse(cipher_key: &[u8], result: &[u8]) -> CarrierIdentity
     ensures { λ r. ⌜ r ≡ tb6⁻¹Call (now («cipher_key» .entry)) (now (result .entry)) ⌝ }
 {
-    if !both_long(cipher_key, 10, result, 10) {
+    if !have_lengths(cipher_key, 10, result, 10) {
         return refused_pair(WRONG_LENGTH);
     }
     let front = unmixed(cipher_key, result);

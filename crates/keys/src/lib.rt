@@ -9,7 +9,7 @@ use crate::recipe::make;
 use arrays::array10;
 use arrays::array12;
 use arrays::array16;
-use arrays::both_long;
+use arrays::have_lengths;
 pub use derivation::combined;
 pub use derivation::core;
 pub use derivation::reversed;
@@ -31,13 +31,13 @@ ghost use mathlib.Core.List.{[], _∷_};
 ghost use mathlib.Core.Path.{_≡_};
 ghost use Rattle.standard.specs.Bytes.{zeros};
 ghost use Rattle.standard.specs.Derivation.{core as coreOf, ta11Call, ta21Call, ta41Call, ta12Call, ta22Call, ta71Call, ta101Call, ringOf, ringCall};
-ghost use Rattle.standard.specs.Refusals.{wrongLength, long as longOf, first, answer16};
+ghost use Rattle.standard.specs.Refusals.{wrongLength, hasLength, first, answer16};
 
-// The core under a root of any length; `long` says that the seed had its length.
-fn under_root(root: &[u8], seed: [u8; 10], long: bool) -> Bytes16
-    ensures { λ r. ⌜ r ≡ answer16 (first ((longOf 16 (now (root .entry)) && long, wrongLength) ∷ [])) (coreOf (now (root .entry)) seed) ⌝ }
+// The core under a root of any length; `seed_has_length` says that the seed had its length.
+fn under_root(root: &[u8], seed: [u8; 10], seed_has_length: bool) -> Bytes16
+    ensures { λ r. ⌜ r ≡ answer16 (first ((hasLength 16 (now (root .entry)) && «seed_has_length», wrongLength) ∷ [])) (coreOf (now (root .entry)) seed) ⌝ }
 {
-    let both = (root.len() == 16) & long;
+    let both = (root.len() == 16) & seed_has_length;
     if !both {
         return refused16(WRONG_LENGTH);
     }
@@ -75,7 +75,7 @@ pub fn ta12(
 ) -> Authentication
     ensures { λ r. ⌜ r ≡ ta12Call (now («session_key» .entry)) (now (challenge .entry)) «response_mask» «key_mask» ⌝ }
 {
-    if !both_long(session_key, 16, challenge, 10) {
+    if !have_lengths(session_key, 16, challenge, 10) {
         return refused_split(WRONG_LENGTH);
     }
     let number = mask_refusal(response_mask, key_mask);
@@ -104,7 +104,7 @@ pub fn ta22(
 pub fn ta71(key1: &[u8], key2: &[u8]) -> Bytes10
     ensures { λ r. ⌜ r ≡ ta71Call (now (key1 .entry)) (now (key2 .entry)) ⌝ }
 {
-    if !both_long(key1, 10, key2, 10) {
+    if !have_lengths(key1, 10, key2, 10) {
         return refused10(WRONG_LENGTH);
     }
     Bytes10 {
@@ -116,7 +116,7 @@ pub fn ta71(key1: &[u8], key2: &[u8]) -> Bytes10
 pub fn ta101(ks: &[u8], gck0: &[u8], mni: u64) -> Bytes16
     ensures { λ r. ⌜ r ≡ ta101Call (now (ks .entry)) (now (gck0 .entry)) mni ⌝ }
 {
-    if !both_long(ks, 16, gck0, 10) {
+    if !have_lengths(ks, 16, gck0, 10) {
         return refused16(WRONG_LENGTH);
     }
     if mni >= 16777216 {
@@ -157,14 +157,14 @@ pub fn ring(
 ) -> RingMade
     ensures { λ r. ⌜ r ≡ ringCall (now (root .entry)) (now (rs .entry)) (now (rso .entry)) (now (rand1 .entry)) (now (rand2 .entry)) (now (c .entry)) (now («group_key» .entry)) sides «response_mask» «key_mask» ⌝ }
 {
-    let long = (root.len() == 16)
+    let right_lengths = (root.len() == 16)
         & (rs.len() == 10)
         & (rso.len() == 10)
         & (rand1.len() == 10)
         & (rand2.len() == 10)
         & (c.len() == 10)
         & (group_key.len() == 12);
-    if !long {
+    if !right_lengths {
         return refused_ring(WRONG_LENGTH);
     }
     ring_of(RingInputs {

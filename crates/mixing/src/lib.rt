@@ -8,7 +8,7 @@ use crate::fields::repeated;
 use arrays::array10;
 use arrays::array12;
 use arrays::array16;
-use arrays::both_long;
+use arrays::have_lengths;
 use arrays::xor10;
 use arrays::xor16;
 pub use fields::wide;
@@ -102,7 +102,7 @@ pub fn tb3(input: &[u8], value: u64, width: u64) -> Bytes16
 pub fn tb4(input1: &[u8], input2: &[u8]) -> Bytes10
     ensures { λ r. ⌜ r ≡ tb4Call (now (input1 .entry)) (now (input2 .entry)) ⌝ }
 {
-    if !both_long(input1, 10, input2, 10) {
+    if !have_lengths(input1, 10, input2, 10) {
         return refused10(WRONG_LENGTH);
     }
     Bytes10 {

@@ -6,7 +6,7 @@ use Prim.Native.Nat.{ℕ}
 use Rattle.hurdle.specs.RoundSteps.{bytes4}
 use Rattle.standard.specs.Bytes.{choose}
 use Rattle.standard.specs.Hurdle.{encrypt, decrypt}
-use Rattle.standard.specs.Refusals.{wrongLength, long, first, answer8}
+use Rattle.standard.specs.Refusals.{wrongLength, hasLength, first, answer8}
 use Rattle.standard.specs.Register.{State}
 use Rattle.standard.specs.declared.Bytes8.{Bytes8}
 
@@ -19,4 +19,4 @@ abbrev pub crypt : List ℕ → List ℕ → Bool → List ℕ
 crypt key b back = choose back (decrypt key b) (encrypt key b)
 
 unfoldable pub cryptCall : List ℕ → List ℕ → Bool → Bytes8
-cryptCall key b back = answer8 (first ((long 16 key && long 8 b, wrongLength) ∷ [])) (crypt key b back)
+cryptCall key b back = answer8 (first ((hasLength 16 key && hasLength 8 b, wrongLength) ∷ [])) (crypt key b back)

@@ -2,7 +2,7 @@
 // round until the key is back. The calls answer what those of `hurdle` do.
 use arrays::array8;
 use arrays::array16;
-use arrays::both_long;
+use arrays::have_lengths;
 use arrays::xor16;
 use hurdle::Halves;
 use hurdle::S;
@@ -131,7 +131,7 @@ fn crypt(key: [u8; 16], block: [u8; 8], back: bool) -> [u8; 8]
 fn crypted(key: &[u8], block: &[u8], back: bool) -> Bytes8
     ensures { λ r. ⌜ r ≡ cryptCall (now (key .entry)) (now (block .entry)) back ⌝ }
 {
-    if !both_long(key, 16, block, 8) {
+    if !have_lengths(key, 16, block, 8) {
         return refused8(WRONG_LENGTH);
     }
     Bytes8 {

@@ -4,7 +4,7 @@ use mathlib.Core.Bool.{Bool, _&&_}
 use mathlib.Core.List.{List, [], _∷_}
 use Prim.Native.Nat.{ℕ}
 use Rattle.standard.specs.Bytes.{zeros, bytesOf, choose}
-use Rattle.standard.specs.Refusals.{wrongLength, long, first}
+use Rattle.standard.specs.Refusals.{wrongLength, hasLength, first}
 use Rattle.standard.specs.Seals.{Form, failed, key16, opened}
 use Rattle.standard.specs.declared.Version.{Version}
 use Rattle.seals.specs.declared.UnsealedBody.{UnsealedBody}
@@ -16,4 +16,4 @@ unsealedBody t F u =
 
 -- under a sealing key of kinds 2 to 6
 abbrev pub opened16 : Form → List ℕ → List ℕ → Version → UnsealedBody
-opened16 F t s v = unsealedBody (long 15 t && long 16 s) F (opened (key16 s (bytesOf 2 (v .0))) t)
+opened16 F t s v = unsealedBody (hasLength 15 t && hasLength 16 s) F (opened (key16 s (bytesOf 2 (v .0))) t)

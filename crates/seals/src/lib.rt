@@ -3,7 +3,7 @@ use arrays::array10;
 use arrays::array12;
 use arrays::array15;
 use arrays::array16;
-use arrays::both_long;
+use arrays::have_lengths;
 use standard::Algorithm;
 use standard::Bytes15;
 use standard::KeyNumber;
@@ -78,10 +78,10 @@ fn number81(b: [u8; 12]) -> u16
 }
 
 // The sealed text of a body, if the strings that it came from had their lengths.
-fn seal_if(long: bool, algorithm: Algorithm, key: [u8; 16], body: [u8; 12]) -> Bytes15
-    ensures { λ r. ⌜ r ≡ answer15 (first ((long, wrongLength) ∷ [])) (sealedOf (formOf algorithm) key body) ⌝ }
+fn seal_if(right_lengths: bool, algorithm: Algorithm, key: [u8; 16], body: [u8; 12]) -> Bytes15
+    ensures { λ r. ⌜ r ≡ answer15 (first ((«right_lengths», wrongLength) ∷ [])) (sealedOf (formOf algorithm) key body) ⌝ }
 {
-    if !long {
+    if !right_lengths {
         return refused15(WRONG_LENGTH);
     }
     Bytes15 {
@@ -98,10 +98,10 @@ struct UnsealedBody {
 }
 
 // The body of a text and its checks that fail, if the strings that it came from had their lengths.
-fn open_if(long: bool, algorithm: Algorithm, key: [u8; 16], text: [u8; 15]) -> UnsealedBody
-    ensures { λ r. ⌜ r ≡ unsealedBody long (formOf algorithm) (openedOf key text) ⌝ }
+fn open_if(right_lengths: bool, algorithm: Algorithm, key: [u8; 16], text: [u8; 15]) -> UnsealedBody
+    ensures { λ r. ⌜ r ≡ unsealedBody «right_lengths» (formOf algorithm) (openedOf key text) ⌝ }
 {
-    if !long {
+    if !right_lengths {
         return UnsealedBody {
             refusal: WRONG_LENGTH,
             body: [0; 12],
@@ -121,30 +121,30 @@ fn open_if(long: bool, algorithm: Algorithm, key: [u8; 16], text: [u8; 15]) -> U
 fn open16(algorithm: Algorithm, text: &[u8], sealing_key: &[u8], version: Version) -> UnsealedBody
     ensures { λ r. ⌜ r ≡ opened16 (formOf algorithm) (now (text .entry)) (now («sealing_key» .entry)) version ⌝ }
 {
-    let long = both_long(text, TEXT, sealing_key, Kind::SEALING_KEY);
+    let right_lengths = have_lengths(text, TEXT, sealing_key, Kind::SEALING_KEY);
     let key = key16(array16(sealing_key), version);
-    open_if(long, algorithm, key, array15(text))
+    open_if(right_lengths, algorithm, key, array15(text))
 }
 
 pub fn ta31(cipher_key: &[u8], version: Version, sealing_key: &[u8]) -> Bytes15
     ensures { λ r. ⌜ r ≡ ta31Call (now («cipher_key» .entry)) version (now («sealing_key» .entry)) ⌝ }
 {
-    let long = both_long(
+    let right_lengths = have_lengths(
         cipher_key,
         Kind::CIPHER_KEY,
         sealing_key,
         Kind::TA31_SEALING_KEY,
     );
     let key = key10(array10(sealing_key), version);
-    seal_if(long, Algorithm::Ta31, key, body(array10(cipher_key), 0, 0))
+    seal_if(right_lengths, Algorithm::Ta31, key, body(array10(cipher_key), 0, 0))
 }
 
 pub fn ta32(text: &[u8], sealing_key: &[u8], version: Version) -> Unsealed
     ensures { λ r. ⌜ r ≡ ta32Call (now (text .entry)) (now («sealing_key» .entry)) version ⌝ }
 {
-    let long = both_long(text, TEXT, sealing_key, Kind::TA31_SEALING_KEY);
+    let right_lengths = have_lengths(text, TEXT, sealing_key, Kind::TA31_SEALING_KEY);
     let key = key10(array10(sealing_key), version);
-    let opened = open_if(long, Algorithm::Ta31, key, array15(text));
+    let opened = open_if(right_lengths, Algorithm::Ta31, key, array15(text));
     let body = opened.body;
     Unsealed {
         refusal: opened.refusal,
@@ -156,7 +156,7 @@ pub fn ta32(text: &[u8], sealing_key: &[u8], version: Version) -> Unsealed
 pub fn ta51(cipher_key: &[u8], version: Version, sealing_key: &[u8], number: KeyNumber) -> Bytes15
     ensures { λ r. ⌜ r ≡ ta51Call (now («cipher_key» .entry)) version (now («sealing_key» .entry)) number ⌝ }
 {
-    if !both_long(cipher_key, Kind::CIPHER_KEY, sealing_key, Kind::SEALING_KEY) {
+    if !have_lengths(cipher_key, Kind::CIPHER_KEY, sealing_key, Kind::SEALING_KEY) {
         return refused15(WRONG_LENGTH);
     }
     if number.0 > Kind::TA51_HIGHEST {
@@ -187,12 +187,12 @@ pub fn ta52(text: &[u8], sealing_key: &[u8], version: Version) -> UnsealedNumber
 pub fn ta81(cipher_key: &[u8], version: Version, sealing_key: &[u8], number: KeyNumber) -> Bytes15
     ensures { λ r. ⌜ r ≡ ta81Call (now («cipher_key» .entry)) version (now («sealing_key» .entry)) number ⌝ }
 {
-    let long = both_long(cipher_key, Kind::CIPHER_KEY, sealing_key, Kind::SEALING_KEY);
+    let right_lengths = have_lengths(cipher_key, Kind::CIPHER_KEY, sealing_key, Kind::SEALING_KEY);
     let key = key16(array16(sealing_key), version);
     let high = (number.0 / 256 % 256) as u8;
     let low = (number.0 % 256) as u8;
     seal_if(
-        long,
+        right_lengths,
         Algorithm::Ta81,
         key,
         body(array10(cipher_key), high, low),
@@ -215,9 +215,9 @@ pub fn ta82(text: &[u8], sealing_key: &[u8], version: Version) -> UnsealedNumber
 pub fn ta91(group_key: &[u8], version: Version, sealing_key: &[u8]) -> Bytes15
     ensures { λ r. ⌜ r ≡ ta91Call (now («group_key» .entry)) version (now («sealing_key» .entry)) ⌝ }
 {
-    let long = both_long(group_key, Kind::GROUP_KEY, sealing_key, Kind::SEALING_KEY);
+    let right_lengths = have_lengths(group_key, Kind::GROUP_KEY, sealing_key, Kind::SEALING_KEY);
     let key = key16(array16(sealing_key), version);
-    seal_if(long, Algorithm::Ta91, key, array12(group_key))
+    seal_if(right_lengths, Algorithm::Ta91, key, array12(group_key))
 }
 
 pub fn ta92(text: &[u8], sealing_key: &[u8], version: Version) -> UnsealedGroup

@@ -14,7 +14,7 @@ use borrow.Author.Tests.{ltb-true, ltb-false, eqb-true, eqb-false, leb-true, eq-
 use Rattle.standard.specs.Books.{Way, bookCall}
 use Rattle.standard.specs.Bytes.{_!_, choose, Bytes}
 use Rattle.standard.specs.Lists.{recordAt, each, firstFault, refused, answer, lengthTests, listTests, written}
-use Rattle.standard.specs.Refusals.{wrongLength, long, first}
+use Rattle.standard.specs.Refusals.{wrongLength, hasLength, first}
 use Rattle.standard.specs.Runs.{firstPass, secondPass, acceptedRuns}
 use Rattle.standard.specs.Sizes.{ringSize, mostRecords}
 use Rattle.standard.specs.declared.BookAnswer.{BookAnswer}
@@ -192,7 +192,7 @@ module _ (W : Way) (r xs out : List ℕ) where
   l i = W .look (recordAt (W .size) xs i)
 
   abbrev pub tests : List (Bool × ℕ)
-  tests = (long ringSize r, wrongLength) ∷ listTests (W .size) (W .to) (length xs) (length out)
+  tests = (hasLength ringSize r, wrongLength) ∷ listTests (W .size) (W .to) (length xs) (length out)
 
   -- an accepted call had no test that failed, and no record with a fault
   pub call-tests : bookCall W r xs out .0 .refusal ≡ 0 → ((i : ℕ) → testAt tests i ≡ true) × ((i : ℕ) → i < n → g i ≡ 0)

@@ -11,7 +11,7 @@ use lib.ListN.{length, take, drop, length-append, List·getD-append}
 use lib.Seq.{drop-cons, getD-append-add}
 use borrow.Author.Tests.{eqb-true, eq-eqb, not-true, not-false}
 use Rattle.standard.specs.Bytes.{_!_, _⊕_, table, part, xors, bytesOf, sameOn, same, Bytes}
-use Rattle.standard.specs.Refusals.{long}
+use Rattle.standard.specs.Refusals.{hasLength}
 use Rattle.standard.proofs.XorLaws.{xor-byte}
 
 -- ---- tables
@@ -52,8 +52,8 @@ spelled (suc n) [] e = absurd (suc-ne-zero n (sym e))
 spelled (suc n) (x ∷ xs) e = ap (_∷_ x) (spelled n xs (suc-inj e))
 
 -- a string that passes the test of its length
-pub long-spelled : (n : ℕ) (xs : List ℕ) → long n xs ≡ true → table n (λ i. xs ! i) ≡ xs
-long-spelled n xs t = spelled n xs (eqb-true (length xs) n t)
+pub length-spelled : (n : ℕ) (xs : List ℕ) → hasLength n xs ≡ true → table n (λ i. xs ! i) ≡ xs
+length-spelled n xs t = spelled n xs (eqb-true (length xs) n t)
 
 -- ---- strings of bytes
 
@@ -162,8 +162,8 @@ pub passed : {r t : Bool} → r ≡ t → not r ≡ false → t ≡ true
 passed {r} e h = sym e ∙ not-false r h
 
 -- two strings that pass the tests of their lengths
-pub both-spelled : (m n : ℕ) (a b : List ℕ) → long m a && long n b ≡ true → (table m (λ i. a ! i) ≡ a) × (table n (λ i. b ! i) ≡ b)
-both-spelled m n a b t = let s = and-split _ _ t in (long-spelled m a (s .0), long-spelled n b (s .1))
+pub both-spelled : (m n : ℕ) (a b : List ℕ) → hasLength m a && hasLength n b ≡ true → (table m (λ i. a ! i) ≡ a) × (table n (λ i. b ! i) ≡ b)
+both-spelled m n a b t = let s = and-split _ _ t in (length-spelled m a (s .0), length-spelled n b (s .1))
 
 sameOn-split : (t : Bool) (xs ys : List ℕ) → sameOn t xs ys ≡ true → (t ≡ true) × (xs ≡ ys)
 sameOn-split t [] [] e = (e, refl)

@@ -11,7 +11,7 @@ use lib.ListN.{length}
 use borrow.Author.Tests.{eqb-true, eq-eqb, le-leb, lt-ltb}
 use Rattle.standard.specs.Bytes.{_!_, part, table, zeros, bytesOf, number3, choose, Bytes}
 use Rattle.standard.specs.Identity.{ta61, ta61⁻¹, ta61Call, ta61⁻¹Call}
-use Rattle.standard.specs.Refusals.{long, unsealed}
+use Rattle.standard.specs.Refusals.{hasLength, unsealed}
 use Rattle.standard.specs.Seals.{form31, form51, form81, form, seal, unseal, fails, clears, body31, body51, body81, body91, number2, ta31Call, ta32Call, ta51Call, ta52Call, ta81Call, ta82Call, ta91Call, ta92Call}
 use Rattle.standard.specs.declared.KeyNumber.{KeyNumber}
 use Rattle.standard.specs.declared.Kind.{Kind}

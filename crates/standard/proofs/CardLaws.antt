@@ -13,7 +13,7 @@ use borrow.Author.Tests.{eqb-false, eq-eqb, ne-eqb}
 use Rattle.standard.specs.Bytes.{_!_, bit, _⊕_, part, choose, Bytes}
 use Rattle.standard.specs.Cards.{unreadable, readable, gapsOn, gaps, few, agrees, everyGroup, restored, keyOf, restoreCall, SameReadable, FormOf, OnlyOne, None, Several, CardLaw}
 use Rattle.standard.specs.Mixing.{tb7}
-use Rattle.standard.specs.Refusals.{wrongLength, groupUnreadable, groupDisagrees, long, first}
+use Rattle.standard.specs.Refusals.{wrongLength, groupUnreadable, groupDisagrees, hasLength, first}
 use Rattle.standard.proofs.BytesLaws.{table-at, table-same, spell, bytes-append, bytes-cons, bytes-nil, bytes-part, and-split, and-join}
 use Rattle.standard.proofs.FirstLaws.{all-pass, not-first}
 use Rattle.standard.proofs.GapLaws.{Group, end, place, count, rest, filled, Fits, fits-long, Decides, group-decided, fits-right, Joined, join, both-decided, same-decided}
@@ -211,7 +211,7 @@ module _ (x : List ℕ) (m : ℕ) (h : Bytes 16 x) where
       (both-decided (G 8) _ 4 (fits-long (group 8) 0) (right 8) _ _ _ (group-tested 8) (group-tested 12))))
 
   abbrev tests : List (Bool × ℕ)
-  tests = (long 16 x, wrongLength) ∷ (everyGroup (few m), groupUnreadable) ∷ (everyGroup (agrees (readable x m) m), groupDisagrees) ∷ []
+  tests = (hasLength 16 x, wrongLength) ∷ (everyGroup (few m), groupUnreadable) ∷ (everyGroup (agrees (readable x m) m), groupDisagrees) ∷ []
 
   all-right : first tests ≡ 0 → all ≡ true
   all-right z =
@@ -248,7 +248,7 @@ module _ (x : List ℕ) (m : ℕ) (h : Bytes 16 x) where
   -- so where a readable group disagrees there is none
   no-form : first tests ≡ groupDisagrees → None (FormOf x m)
   no-form e z f =
-      not-first groupDisagrees ((long 16 x, wrongLength) ∷ (everyGroup (few m), groupUnreadable) ∷ []) refl
+      not-first groupDisagrees ((hasLength 16 x, wrongLength) ∷ (everyGroup (few m), groupUnreadable) ∷ []) refl
       (rw (forms-agree z (to-forms z f)) at e)
 
   -- exactly one form where nothing is refused, none or several where something is

@@ -13,9 +13,9 @@ use lib.ListN.{length}
 use lib.Pow.{pow-pos, mod-pow-add}
 use borrow.Author.Tests.{eqb-true}
 use Rattle.standard.specs.Bytes.{byte, bit, part, choose}
-use Rattle.standard.specs.Derivation.{chosenOf, chosen, ringOf, long7, ringCall}
-use Rattle.standard.specs.Refusals.{long, maskTests, first}
-use Rattle.standard.proofs.BytesLaws.{long-spelled, and-split}
+use Rattle.standard.specs.Derivation.{chosenOf, chosen, ringOf, haveLengths, ringCall}
+use Rattle.standard.specs.Refusals.{hasLength, maskTests, first}
+use Rattle.standard.proofs.BytesLaws.{length-spelled, and-split}
 use Rattle.standard.proofs.FirstLaws.{all-pass}
 
 -- masks that no test refuses
@@ -48,9 +48,9 @@ length-chosen m o h = length-of 16 m o ∙ ap ones (mod-eq-of-lt h)
 -- ---- the ring recipe
 
 -- the seven strings, one by one
-pub long7-split : (root rs rso rand1 rand2 c gk : List ℕ) → long7 root rs rso rand1 rand2 c gk ≡ true
-    → (long 16 root ≡ true) × (long 10 rs ≡ true) × (long 10 rso ≡ true) × (long 10 rand1 ≡ true) × (long 10 rand2 ≡ true) × (long 10 c ≡ true) × (long 12 gk ≡ true)
-long7-split root rs rso rand1 rand2 c gk t =
+pub lengths-split : (root rs rso rand1 rand2 c gk : List ℕ) → haveLengths root rs rso rand1 rand2 c gk ≡ true
+    → (hasLength 16 root ≡ true) × (hasLength 10 rs ≡ true) × (hasLength 10 rso ≡ true) × (hasLength 10 rand1 ≡ true) × (hasLength 10 rand2 ≡ true) × (hasLength 10 c ≡ true) × (hasLength 12 gk ≡ true)
+lengths-split root rs rso rand1 rand2 c gk t =
     let s₆ = and-split _ _ t in
     let s₅ = and-split _ _ (s₆ .0) in
     let s₄ = and-split _ _ (s₅ .0) in
@@ -59,7 +59,7 @@ long7-split root rs rso rand1 rand2 c gk t =
     let s₁ = and-split _ _ (s₂ .0) in
     (s₁ .0, s₁ .1, s₂ .1, s₃ .1, s₄ .1, s₅ .1, s₆ .1)
 
-pub ring-long : (root rs rso rand1 rand2 c gk : List ℕ) (sides rm km : ℕ) → long7 root rs rso rand1 rand2 c gk ≡ true
+pub ring-long : (root rs rso rand1 rand2 c gk : List ℕ) (sides rm km : ℕ) → haveLengths root rs rso rand1 rand2 c gk ≡ true
     → ringOf (record {
       root = part 0 16 root;
       rs = part 0 10 rs;
@@ -74,5 +74,5 @@ pub ring-long : (root rs rso rand1 rand2 c gk : List ℕ) (sides rm km : ℕ) �
     }) ≡ ringCall root rs rso rand1 rand2 c gk sides rm km
 unfolding ringOf ringCall
 ring-long root rs rso rand1 rand2 c gk sides rm km t =
-    let s = long7-split root rs rso rand1 rand2 c gk t in
-    rw (long-spelled 16 root (s .0), long-spelled 10 rs (s .1), long-spelled 10 rso (s .2), long-spelled 10 rand1 (s .3), long-spelled 10 rand2 (s .4), long-spelled 10 c (s .5), long-spelled 12 gk (s .6), t)
+    let s = lengths-split root rs rso rand1 rand2 c gk t in
+    rw (length-spelled 16 root (s .0), length-spelled 10 rs (s .1), length-spelled 10 rso (s .2), length-spelled 10 rand1 (s .3), length-spelled 10 rand2 (s .4), length-spelled 10 c (s .5), length-spelled 12 gk (s .6), t)

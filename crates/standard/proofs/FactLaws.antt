@@ -15,12 +15,12 @@ use Rattle.standard.specs.Books.{recordKind, sealingKey, plainFault, ope
 use Rattle.standard.specs.Bytes.{_!_, bit, part, zeros, bytesOf, choose}
 use Rattle.standard.specs.Classes.{classRecord, ta12ClassCall}
 use Rattle.standard.specs.Cores.{bl1With, bl1}
-use Rattle.standard.specs.Derivation.{core, ta11, ta21, ta41, chosen, ta12Call, sidesTest, ring, long7, ringCall}
+use Rattle.standard.specs.Derivation.{core, ta11, ta21, ta41, chosen, ta12Call, sidesTest, ring, haveLengths, ringCall}
 use Rattle.standard.specs.Expansions.{inserted, expected, exp3Groups}
 use Rattle.standard.specs.Facts.{BothSides, OneSide, IdleChallenge, SingleCalls, OrIsFlag, ChecksBits, groupsOf, checkCount, sealingLength, failedChecks, openedBy, FailedChecks, flagClear, FlagIsNonzero, OrIsZero, flagFault, SameBooks, SameChecks}
 use Rattle.standard.specs.Lists.{recordAt, each, lengthTests, listTests, written}
 use Rattle.standard.specs.Mixing.{tb4, tb7}
-use Rattle.standard.specs.Refusals.{wrongLength, long, maskTests, first, ringMade}
+use Rattle.standard.specs.Refusals.{wrongLength, hasLength, maskTests, first, ringMade}
 use Rattle.standard.specs.Seals.{checks, failed, clear, formOf, form, opened, fails, ta32Call, ta52Call, ta82Call, ta92Call}
 use Rattle.standard.specs.Sizes.{plainSize, sealedSize, challengeSize, authenticationSize}
 use Rattle.standard.specs.declared.Algorithm.{Algorithm}
@@ -29,9 +29,9 @@ use Rattle.standard.specs.declared.Authentication.{Authentication}
 use Rattle.standard.specs.declared.Version.{Version}
 use Rattle.standard.proofs.AnswerLaws.{is-accepted, accepted, answer-alike}
 use Rattle.standard.proofs.BookLaws.{joined-front}
-use Rattle.standard.proofs.BytesLaws.{spelled, long-spelled}
+use Rattle.standard.proofs.BytesLaws.{spelled, length-spelled}
 use Rattle.standard.proofs.CheckLaws.{as-many, clear-same, or-clear, failed-bit, failed-below, failed-at}
-use Rattle.standard.proofs.DerivationLaws.{masks-ones, length-chosen, long7-split}
+use Rattle.standard.proofs.DerivationLaws.{masks-ones, length-chosen, lengths-split}
 use Rattle.standard.proofs.FirstLaws.{testAt, all-pass, none-fails}
 
 -- ---- one-sided authentication (02, 1)
@@ -42,21 +42,21 @@ ring-same zero k k′ s s′ t t′ h = let e = h refl in rw (e .0, e .1, e .2)
 ring-same (suc r) k k′ s s′ t t′ h = rw (ne-eqb (suc r) 0 (suc-ne-zero r))
 
 -- TA12 under a session key of 16 bytes, where its challenge and the masks pass
-ta12-passes : (ks rand : List ℕ) (rm km : ℕ) → long 16 ks ≡ true → long 10 rand ≡ true → first (maskTests rm km) ≡ 0
+ta12-passes : (ks rand : List ℕ) (rm km : ℕ) → hasLength 16 ks ≡ true → hasLength 10 rand ≡ true → first (maskTests rm km) ≡ 0
     → ta12Call ks rand rm km ≡ record { refusal = 0; response = chosen rm (core ks rand); key = chosen km (core ks rand) }
 unfolding ta12Call
 ta12-passes ks rand rm km l₁ l₂ m = rw (l₁, l₂, m)
 
 -- a session key has 16 bytes
-core-long : (k seed : List ℕ) → long 16 (core k seed) ≡ true
+core-long : (k seed : List ℕ) → hasLength 16 (core k seed) ≡ true
 unfolding bl1 bl1With
 core-long k seed = refl
 
 core-spelled : (k seed : List ℕ) → part 0 16 (core k seed) ≡ core k seed
-core-spelled k seed = long-spelled 16 (core k seed) (core-long k seed)
+core-spelled k seed = length-spelled 16 (core k seed) (core-long k seed)
 
 abbrev recipeTests : (root rs rso rand1 rand2 c gk : List ℕ) (sides rm km : ℕ) → List (Bool × ℕ)
-recipeTests root rs rso rand1 rand2 c gk sides rm km = (long7 root rs rso rand1 rand2 c gk, wrongLength) ∷ sidesTest sides ∷ maskTests rm km
+recipeTests root rs rso rand1 rand2 c gk sides rm km = (haveLengths root rs rso rand1 rand2 c gk, wrongLength) ∷ sidesTest sides ∷ maskTests rm km
 
 -- an accepted recipe
 module _ (root rs rso rand1 rand2 c gk : List ℕ) (sides rm km : ℕ) (z : first (recipeTests root rs rso rand1 rand2 c gk sides rm km) ≡ 0) where
@@ -68,21 +68,21 @@ module _ (root rs rso rand1 rand2 c gk : List ℕ) (sides rm km : ℕ) (z : firs
 
   -- each side's call passes too, and gives what its half gives
   side1 : let o = core (ta11 root rs) rand1 in ta12Call (ta11 root rs) rand1 rm km ≡ record { refusal = 0; response = chosen rm o; key = chosen km o }
-  side1 = ta12-passes (ta11 root rs) rand1 rm km (core-long root rs) (long7-split root rs rso rand1 rand2 c gk (passed 0) .3) masks
+  side1 = ta12-passes (ta11 root rs) rand1 rm km (core-long root rs) (lengths-split root rs rso rand1 rand2 c gk (passed 0) .3) masks
 
   side2 : let o = core (ta21 root rs) rand2 in ta12Call (ta21 root rs) rand2 rm km ≡ record { refusal = 0; response = chosen rm o; key = chosen km o }
-  side2 = ta12-passes (ta21 root rs) rand2 rm km (core-long root _) (long7-split root rs rso rand1 rand2 c gk (passed 0) .4) masks
+  side2 = ta12-passes (ta21 root rs) rand2 rm km (core-long root _) (lengths-split root rs rso rand1 rand2 c gk (passed 0) .4) masks
 
   -- the other keys behind D
   behind : (d : List ℕ) → d ++ part 0 16 (ta41 root rso) ++ part 0 10 c ++ tb7 gk ≡ d ++ ta41 root rso ++ c ++ tb7 gk
   behind d =
       ap₂ (λ (o k : List ℕ). d ++ o ++ k ++ tb7 gk) (core-spelled root rso)
-      (long-spelled 10 c (long7-split root rs rso rand1 rand2 c gk (passed 0) .5))
+      (length-spelled 10 c (lengths-split root rs rso rand1 rand2 c gk (passed 0) .5))
 
 pub both-sides : BothSides
 unfolding ringCall ring
 both-sides root rs rso rand1 rand2 c gk rm km =
-    ring-same (first ((long7 root rs rso rand1 rand2 c gk, wrongLength) ∷ maskTests rm km)) _ _ _ _ _ _
+    ring-same (first ((haveLengths root rs rso rand1 rand2 c gk, wrongLength) ∷ maskTests rm km)) _ _ _ _ _ _
     (λ z.
     let d = tb4 (chosen km (core (ta11 root rs) rand1)) (chosen km (core (ta21 root rs) rand2)) in
     rw (side1 root rs rso rand1 rand2 c gk 3 rm km z, side2 root rs rso rand1 rand2 c gk 3 rm km z)
@@ -92,12 +92,12 @@ pub one-side : OneSide
 unfolding ringCall ring
 one-side = record {
   ta12-alone = λ root rs rso rand1 rand2 c gk rm km.
-      ring-same (first ((long7 root rs rso rand1 rand2 c gk, wrongLength) ∷ maskTests rm km)) _ _ _ _ _ _
+      ring-same (first ((haveLengths root rs rso rand1 rand2 c gk, wrongLength) ∷ maskTests rm km)) _ _ _ _ _ _
       (λ z.
       let d = tb4 (chosen km (core (ta11 root rs) rand1)) (zeros 10) in
       rw (side1 root rs rso rand1 rand2 c gk 1 rm km z) (behind root rs rso rand1 rand2 c gk 1 rm km z d, refl, refl));
   ta22-alone = λ root rs rso rand1 rand2 c gk rm km.
-      ring-same (first ((long7 root rs rso rand1 rand2 c gk, wrongLength) ∷ maskTests rm km)) _ _ _ _ _ _
+      ring-same (first ((haveLengths root rs rso rand1 rand2 c gk, wrongLength) ∷ maskTests rm km)) _ _ _ _ _ _
       (λ z.
       let d = tb4 (zeros 10) (chosen km (core (ta21 root rs) rand2)) in
       rw (side2 root rs rso rand1 rand2 c gk 2 rm km z) (behind root rs rso rand1 rand2 c gk 2 rm km z d, refl, refl));
@@ -122,7 +122,7 @@ module _ (ks xs : List ℕ) (rm km : ℕ) (out : List ℕ) (z : ta12ClassCall ks
   n = length xs / challengeSize
 
   abbrev tests : List (Bool × ℕ)
-  tests = (long 16 ks, wrongLength) ∷ listTests challengeSize authenticationSize (length xs) (length out) ++ maskTests rm km
+  tests = (hasLength 16 ks, wrongLength) ∷ listTests challengeSize authenticationSize (length xs) (length out) ++ maskTests rm km
 
   none-refuses : first tests ≡ 0
   unfolding ta12ClassCall written
@@ -200,7 +200,7 @@ check-count Ta91 u = refl
 
 -- the test of an unsealing call
 abbrev passes : Algorithm → (t s : List ℕ) → Bool
-passes a t s = eqb (first ((long 15 t && long (sealingLength a) s, wrongLength) ∷ [])) 0
+passes a t s = eqb (first ((hasLength 15 t && hasLength (sealingLength a) s, wrongLength) ∷ [])) 0
 
 -- an answer's number, and 0 in a refusal
 below-both : (t : Bool) (n k : ℕ) → n < 2 ^ k → choose t n 0 < 2 ^ k

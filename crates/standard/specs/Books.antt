@@ -8,7 +8,7 @@ use lib.ListN.{length}
 use Rattle.standard.specs.Bytes.{_!_, part, choose}
 use Rattle.standard.specs.Identity.{ta61, ta61⁻¹}
 use Rattle.standard.specs.Lists.{recordAt, each, lengthTests, listTests, answer, written}
-use Rattle.standard.specs.Refusals.{wrongKind, flagSet, wrongLength, long, first}
+use Rattle.standard.specs.Refusals.{wrongKind, flagSet, wrongLength, hasLength, first}
 use Rattle.standard.specs.Runs.{textRuns, callRuns}
 use Rattle.standard.specs.Seals.{kindOf, form, seal, unseal, clears}
 use Rattle.standard.specs.Sizes.{ringSize, plainSize, sealedSize, mostRecords}
@@ -113,7 +113,7 @@ counted a runs = (record { refusal = a .0 .refusal; index = a .0 .index; written
 unfoldable pub bookCall : Way → List ℕ → List ℕ → List ℕ → CountedAnswer × List ℕ
 bookCall W r xs out =
     let n = length xs / W .size in
-    let head = first ((long ringSize r, wrongLength) ∷ listTests (W .size) (W .to) (length xs) (length out)) in
+    let head = first ((hasLength ringSize r, wrongLength) ∷ listTests (W .size) (W .to) (length xs) (length out)) in
     let fault : ℕ → ℕ = λ i. W .fault (recordAt (W .size) xs i) in
     let look : ℕ → ℕ = λ i. W .look (recordAt (W .size) xs i) in
     counted (written (answer head n fault (W .to * n)) (each n (W .size) (W .convert) xs) out) (callRuns head n fault look)

@@ -11,7 +11,7 @@ use lib.ListN.{length}
 use Rattle.standard.specs.Bytes.{_!_, byte, bit, table, choose, Bytes}
 use Rattle.standard.specs.Expansions.{xorOf, ungrouped}
 use Rattle.standard.specs.Mixing.{tb7}
-use Rattle.standard.specs.Refusals.{wrongLength, groupUnreadable, groupDisagrees, long, first, card}
+use Rattle.standard.specs.Refusals.{wrongLength, groupUnreadable, groupDisagrees, hasLength, first, card}
 use Rattle.standard.specs.declared.Card.{Card}
 
 -- the byte at index i from the left, B(15 − i), is unreadable
@@ -61,7 +61,7 @@ keyOf y = ungrouped (3 ∷ 3 ∷ 3 ∷ 3 ∷ []) 0 y
 unfoldable pub restoreCall : List ℕ → ℕ → Card
 restoreCall x m =
     let r = readable x m in
-    card (first ((long 16 x, wrongLength) ∷ (everyGroup (few m), groupUnreadable) ∷ (everyGroup (agrees r m), groupDisagrees) ∷ []))
+    card (first ((hasLength 16 x, wrongLength) ∷ (everyGroup (few m), groupUnreadable) ∷ (everyGroup (agrees r m), groupDisagrees) ∷ []))
     (keyOf (restored r m)) (restored r m)
 
 -- ---- what is proved of it

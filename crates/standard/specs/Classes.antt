@@ -6,7 +6,7 @@ use lib.ListN.{length}
 use Rattle.standard.specs.Bytes.{part}
 use Rattle.standard.specs.Derivation.{ta12Call}
 use Rattle.standard.specs.Lists.{each, listTests, answer, written}
-use Rattle.standard.specs.Refusals.{wrongLength, long, maskTests, first}
+use Rattle.standard.specs.Refusals.{wrongLength, hasLength, maskTests, first}
 use Rattle.standard.specs.Sizes.{challengeSize, authenticationSize}
 use Rattle.standard.specs.declared.BookAnswer.{BookAnswer}
 
@@ -20,6 +20,6 @@ ta12ClassCall ks xs rm km out =
     let n = length xs / challengeSize in
     written
     (answer
-    (first ((long 16 ks, wrongLength) ∷ listTests challengeSize authenticationSize (length xs) (length out) ++ maskTests rm km))
+    (first ((hasLength 16 ks, wrongLength) ∷ listTests challengeSize authenticationSize (length xs) (length out) ++ maskTests rm km))
     n (λ i. 0) (authenticationSize * n))
     (each n challengeSize (classRecord ks rm km) xs) out

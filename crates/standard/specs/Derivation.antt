@@ -8,7 +8,7 @@ use Rattle.standard.specs.Bytes.{_!_, byte, bit, _⊕_, table, part, xor
 use Rattle.standard.specs.Cores.{bl1}
 use Rattle.standard.specs.Expansions.{exp2, shr3}
 use Rattle.standard.specs.Mixing.{tb4, tb7}
-use Rattle.standard.specs.Refusals.{wrongLength, wrongSides, valueWide, long, fits, maskTests, first, answer10, answer16, authentication, ringMade}
+use Rattle.standard.specs.Refusals.{wrongLength, wrongSides, valueWide, hasLength, fits, maskTests, first, answer10, answer16, authentication, ringMade}
 use Rattle.standard.specs.declared.Authentication.{Authentication}
 use Rattle.standard.specs.declared.Bytes10.{Bytes10}
 use Rattle.standard.specs.declared.Bytes16.{Bytes16}
@@ -101,36 +101,36 @@ ringOf x = ringAnswer (first (ringTests x)) x
 -- ---- the calls
 
 unfoldable pub ta11Call : List ℕ → List ℕ → Bytes16
-ta11Call root seed = answer16 (first ((long 16 root && long 10 seed, wrongLength) ∷ [])) (ta11 root seed)
+ta11Call root seed = answer16 (first ((hasLength 16 root && hasLength 10 seed, wrongLength) ∷ [])) (ta11 root seed)
 
 unfoldable pub ta21Call : List ℕ → List ℕ → Bytes16
-ta21Call root seed = answer16 (first ((long 16 root && long 10 seed, wrongLength) ∷ [])) (ta21 root seed)
+ta21Call root seed = answer16 (first ((hasLength 16 root && hasLength 10 seed, wrongLength) ∷ [])) (ta21 root seed)
 
 unfoldable pub ta41Call : List ℕ → List ℕ → Bytes16
-ta41Call root seed = answer16 (first ((long 16 root && long 10 seed, wrongLength) ∷ [])) (ta41 root seed)
+ta41Call root seed = answer16 (first ((hasLength 16 root && hasLength 10 seed, wrongLength) ∷ [])) (ta41 root seed)
 
 -- session key, challenge, response mask, key mask
 unfoldable pub ta12Call : List ℕ → List ℕ → ℕ → ℕ → Authentication
 ta12Call ks rand rm km =
-    authentication (first ((long 16 ks && long 10 rand, wrongLength) ∷ maskTests rm km)) (chosen rm (core ks rand)) (chosen km (core ks rand))
+    authentication (first ((hasLength 16 ks && hasLength 10 rand, wrongLength) ∷ maskTests rm km)) (chosen rm (core ks rand)) (chosen km (core ks rand))
 
 -- the same under TA21's session key
 abbrev pub ta22Call : List ℕ → List ℕ → ℕ → ℕ → Authentication
 ta22Call ks rand rm km = ta12Call ks rand rm km
 
 unfoldable pub ta71Call : List ℕ → List ℕ → Bytes10
-ta71Call a b = answer10 (first ((long 10 a && long 10 b, wrongLength) ∷ [])) (ta71 a b)
+ta71Call a b = answer10 (first ((hasLength 10 a && hasLength 10 b, wrongLength) ∷ [])) (ta71 a b)
 
 unfoldable pub ta101Call : List ℕ → List ℕ → ℕ → Bytes16
 ta101Call ks gck0 mni =
-    answer16 (first ((long 16 ks && long 10 gck0, wrongLength) ∷ (fits 24 mni, valueWide) ∷ [])) (ta101 ks gck0 mni)
+    answer16 (first ((hasLength 16 ks && hasLength 10 gck0, wrongLength) ∷ (fits 24 mni, valueWide) ∷ [])) (ta101 ks gck0 mni)
 
 -- the seven strings have their lengths
-abbrev pub long7 : (root rs rso rand1 rand2 c gk : List ℕ) → Bool
-long7 root rs rso rand1 rand2 c gk =
-    long 16 root && long 10 rs && long 10 rso && long 10 rand1 && long 10 rand2 && long 10 c && long 12 gk
+abbrev pub haveLengths : (root rs rso rand1 rand2 c gk : List ℕ) → Bool
+haveLengths root rs rso rand1 rand2 c gk =
+    hasLength 16 root && hasLength 10 rs && hasLength 10 rso && hasLength 10 rand1 && hasLength 10 rand2 && hasLength 10 c && hasLength 12 gk
 
 unfoldable pub ringCall : (root rs rso rand1 rand2 c gk : List ℕ) (sides rm km : ℕ) → RingMade
 ringCall root rs rso rand1 rand2 c gk sides rm km =
     let x : RingInputs = record { root = root; rs = rs; rso = rso; rand1 = rand1; rand2 = rand2; c = c; «group_key» = gk; sides = sides; «response_mask» = rm; «key_mask» = km } in
-    ringAnswer (first ((long7 root rs rso rand1 rand2 c gk, wrongLength) ∷ ringTests x)) x
+    ringAnswer (first ((haveLengths root rs rso rand1 rand2 c gk, wrongLength) ∷ ringTests x)) x

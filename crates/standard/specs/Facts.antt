@@ -10,7 +10,7 @@ use lib.ListN.{length}
 use Rattle.standard.specs.Books.{isKnown, recordKind, sealingKey, openRecord, openLook, bookCall, sealBook, openBook, checkPlain}
 use Rattle.standard.specs.Bytes.{_!_, bit, part, zeros, bytesOf, same}
 use Rattle.standard.specs.Classes.{ta12ClassCall}
-use Rattle.standard.specs.Derivation.{ta11, ta21, ta41, ta12Call, ta22Call, long7, ringCall}
+use Rattle.standard.specs.Derivation.{ta11, ta21, ta41, ta12Call, ta22Call, haveLengths, ringCall}
 use Rattle.standard.specs.Expansions.{inserted, expected, exp1Groups, exp3Groups, x16Groups}
 use Rattle.standard.specs.Lists.{recordAt}
 use Rattle.standard.specs.Mixing.{tb4, tb7}
@@ -32,7 +32,7 @@ BothSides = (root rs rso rand1 rand2 c gk : List ℕ) (rm km : ℕ)
     → let a : Authentication = ta12Call (ta11 root rs) rand1 rm km in
     let b : Authentication = ta22Call (ta21 root rs) rand2 rm km in
     ringCall root rs rso rand1 rand2 c gk 3 rm km
-    ≡ ringMade (first ((long7 root rs rso rand1 rand2 c gk, wrongLength) ∷ maskTests rm km))
+    ≡ ringMade (first ((haveLengths root rs rso rand1 rand2 c gk, wrongLength) ∷ maskTests rm km))
     (tb4 (a .key) (b .key) ++ ta41 root rso ++ c ++ tb7 gk) (a .response) (b .response)
 
 -- with one side, the whole answer is the same recipe, but that the other side gives ten zero bytes to TB4 and a response of four
@@ -40,12 +40,12 @@ pub record OneSide : Type 0 where
   pub ta12-alone : (root rs rso rand1 rand2 c gk : List ℕ) (rm km : ℕ)
       → let a : Authentication = ta12Call (ta11 root rs) rand1 rm km in
       ringCall root rs rso rand1 rand2 c gk 1 rm km
-      ≡ ringMade (first ((long7 root rs rso rand1 rand2 c gk, wrongLength) ∷ maskTests rm km))
+      ≡ ringMade (first ((haveLengths root rs rso rand1 rand2 c gk, wrongLength) ∷ maskTests rm km))
       (tb4 (a .key) (zeros 10) ++ ta41 root rso ++ c ++ tb7 gk) (a .response) (zeros 4)
   pub ta22-alone : (root rs rso rand1 rand2 c gk : List ℕ) (rm km : ℕ)
       → let b : Authentication = ta22Call (ta21 root rs) rand2 rm km in
       ringCall root rs rso rand1 rand2 c gk 2 rm km
-      ≡ ringMade (first ((long7 root rs rso rand1 rand2 c gk, wrongLength) ∷ maskTests rm km))
+      ≡ ringMade (first ((haveLengths root rs rso rand1 rand2 c gk, wrongLength) ∷ maskTests rm km))
       (tb4 (zeros 10) (b .key) ++ ta41 root rso ++ c ++ tb7 gk) (zeros 4) (b .response)
 
 -- with one side, nothing but the length of the other side's challenge is looked at: two that are equally long give the same answer

@@ -4,7 +4,7 @@ use mathlib.Core.Bool.{_&&_}
 use mathlib.Core.List.{List, [], _∷_, _++_}
 use Prim.Native.Nat.{ℕ, zero, suc, _+_, _-_, _*_, _%_}
 use Rattle.standard.specs.Bytes.{_!_, byte, bit, _⊕_, _⊞_, table, part, xors}
-use Rattle.standard.specs.Refusals.{wrongLength, long, first, answer8}
+use Rattle.standard.specs.Refusals.{wrongLength, hasLength, first, answer8}
 use Rattle.standard.specs.declared.Bytes8.{Bytes8}
 
 -- ---- S (6.7, Table 1)
@@ -142,7 +142,7 @@ decrypt key = decryptWith (schedule key)
 -- ---- the calls
 
 unfoldable pub encryptCall : List ℕ → List ℕ → Bytes8
-encryptCall key block = answer8 (first ((long 16 key && long 8 block, wrongLength) ∷ [])) (encrypt key block)
+encryptCall key block = answer8 (first ((hasLength 16 key && hasLength 8 block, wrongLength) ∷ [])) (encrypt key block)
 
 unfoldable pub decryptCall : List ℕ → List ℕ → Bytes8
-decryptCall key block = answer8 (first ((long 16 key && long 8 block, wrongLength) ∷ [])) (decrypt key block)
+decryptCall key block = answer8 (first ((hasLength 16 key && hasLength 8 block, wrongLength) ∷ [])) (decrypt key block)

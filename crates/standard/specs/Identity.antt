@@ -5,7 +5,7 @@ use Prim.Native.Nat.{ℕ, _+_, _-_, _*_, _%_}
 use Rattle.standard.specs.Bytes.{_!_, byte, _⊕_, table, xors, bytesOf, number3}
 use Rattle.standard.specs.Expansions.{exp4}
 use Rattle.standard.specs.Hurdle.{S, S⁻¹, encrypt}
-use Rattle.standard.specs.Refusals.{wrongLength, valueWide, long, fits, first, identity}
+use Rattle.standard.specs.Refusals.{wrongLength, valueWide, hasLength, fits, first, identity}
 use Rattle.standard.specs.declared.Identity.{Identity}
 
 -- ---- P (5.12.4), on a2 a1 a0
@@ -65,7 +65,7 @@ ta61⁻¹ a y = reveal (bc a) y
 -- ---- the calls
 
 unfoldable pub ta61Call : List ℕ → ℕ → Identity
-ta61Call a n = identity (first ((long 10 a, wrongLength) ∷ (fits 24 n, valueWide) ∷ [])) (number3 (ta61 a (bytesOf 3 n)))
+ta61Call a n = identity (first ((hasLength 10 a, wrongLength) ∷ (fits 24 n, valueWide) ∷ [])) (number3 (ta61 a (bytesOf 3 n)))
 
 unfoldable pub ta61⁻¹Call : List ℕ → ℕ → Identity
-ta61⁻¹Call a n = identity (first ((long 10 a, wrongLength) ∷ (fits 24 n, valueWide) ∷ [])) (number3 (ta61⁻¹ a (bytesOf 3 n)))
+ta61⁻¹Call a n = identity (first ((hasLength 10 a, wrongLength) ∷ (fits 24 n, valueWide) ∷ [])) (number3 (ta61⁻¹ a (bytesOf 3 n)))

@@ -9,7 +9,7 @@ use Prim.Native.Nat.{ℕ, _+_, _-_, _/_, _%_, _^_, _<_, _≤_}
 use lib.ListN.{length}
 use Rattle.standard.specs.Bytes.{part, xors, number, same}
 use Rattle.standard.specs.Mixing.{tb1, tb3, tb5, tb6}
-use Rattle.standard.specs.Refusals.{wrongLength, wrongWidth, noInput, long, wide, first, value, cell, carrierIdentity}
+use Rattle.standard.specs.Refusals.{wrongLength, wrongWidth, noInput, hasLength, wide, first, value, cell, carrierIdentity}
 use Rattle.standard.specs.declared.CarrierIdentity.{CarrierIdentity}
 use Rattle.standard.specs.declared.Cell.{Cell}
 use Rattle.standard.specs.declared.Value.{Value}
@@ -23,12 +23,12 @@ field a w b = number b / 2 ^ (64 - (a + w)) % 2 ^ w
 unfoldable pub tb1⁻¹Call : List ℕ → ℕ → Value
 tb1⁻¹Call y w =
     let v = field 0 w (part 0 8 y) in
-    value (first ((long 16 y, wrongLength) ∷ (wide w, wrongWidth) ∷ (same (tb1 v w) y, noInput) ∷ [])) v
+    value (first ((hasLength 16 y, wrongLength) ∷ (wide w, wrongWidth) ∷ (same (tb1 v w) y, noInput) ∷ [])) v
 
 unfoldable pub tb3⁻¹Call : List ℕ → List ℕ → ℕ → Value
 tb3⁻¹Call x y w =
     let v = field 0 w (xors 8 x y) in
-    value (first ((long 16 x && long 16 y, wrongLength) ∷ (wide w, wrongWidth) ∷ (same (tb3 x v w) y, noInput) ∷ [])) v
+    value (first ((hasLength 16 x && hasLength 16 y, wrongLength) ∷ (wide w, wrongWidth) ∷ (same (tb3 x v w) y, noInput) ∷ [])) v
 
 unfoldable pub tb5⁻¹Call : List ℕ → List ℕ → Cell
 tb5⁻¹Call ck y =
@@ -36,14 +36,14 @@ tb5⁻¹Call ck y =
     let la = field 0 14 b in
     let cn = field 14 12 b in
     let cc = field 26 6 b in
-    cell (first ((long 10 ck && long 10 y, wrongLength) ∷ (same (tb5 ck la cn cc) y, noInput) ∷ [])) la cn cc
+    cell (first ((hasLength 10 ck && hasLength 10 y, wrongLength) ∷ (same (tb5 ck la cn cc) y, noInput) ∷ [])) la cn cc
 
 unfoldable pub tb6⁻¹Call : List ℕ → List ℕ → CarrierIdentity
 tb6⁻¹Call ck y =
     let b = xors 8 ck y in
     let cn = field 0 12 b in
     let ssi = field 12 24 b in
-    carrierIdentity (first ((long 10 ck && long 10 y, wrongLength) ∷ (same (tb6 ck cn ssi) y, noInput) ∷ [])) cn ssi
+    carrierIdentity (first ((hasLength 10 ck && hasLength 10 y, wrongLength) ∷ (same (tb6 ck cn ssi) y, noInput) ∷ [])) cn ssi
 
 -- ---- the facts. Their proofs are in proofs/FindLaws
 

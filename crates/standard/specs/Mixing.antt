@@ -7,7 +7,7 @@ use lib.Dec.{leb}
 use lib.ListN.{replicate}
 use Rattle.standard.specs.Bytes.{_!_, part, xors, bytesOf}
 use Rattle.standard.specs.Expansions.{grouped}
-use Rattle.standard.specs.Refusals.{wrongLength, wrongWidth, valueWide, long, wide, fits, first, answer10, answer16}
+use Rattle.standard.specs.Refusals.{wrongLength, wrongWidth, valueWide, hasLength, wide, fits, first, answer10, answer16}
 use Rattle.standard.specs.declared.Bytes10.{Bytes10}
 use Rattle.standard.specs.declared.Bytes16.{Bytes16}
 
@@ -54,20 +54,20 @@ unfoldable pub tb1Call : ℕ → ℕ → Bytes16
 tb1Call v w = answer16 (first ((wide w, wrongWidth) ∷ (fits w v, valueWide) ∷ [])) (tb1 v w)
 
 unfoldable pub tb2Call : List ℕ → Bytes16
-tb2Call x = answer16 (first ((long 16 x, wrongLength) ∷ [])) (tb2 x)
+tb2Call x = answer16 (first ((hasLength 16 x, wrongLength) ∷ [])) (tb2 x)
 
 unfoldable pub tb3Call : List ℕ → ℕ → ℕ → Bytes16
-tb3Call x v w = answer16 (first ((long 16 x, wrongLength) ∷ (wide w, wrongWidth) ∷ (fits w v, valueWide) ∷ [])) (tb3 x v w)
+tb3Call x v w = answer16 (first ((hasLength 16 x, wrongLength) ∷ (wide w, wrongWidth) ∷ (fits w v, valueWide) ∷ [])) (tb3 x v w)
 
 unfoldable pub tb4Call : List ℕ → List ℕ → Bytes10
-tb4Call x y = answer10 (first ((long 10 x && long 10 y, wrongLength) ∷ [])) (tb4 x y)
+tb4Call x y = answer10 (first ((hasLength 10 x && hasLength 10 y, wrongLength) ∷ [])) (tb4 x y)
 
 unfoldable pub tb5Call : List ℕ → ℕ → ℕ → ℕ → Bytes10
 tb5Call ck la cn cc =
-    answer10 (first ((long 10 ck, wrongLength) ∷ (fits 14 la && fits 12 cn && fits 6 cc, valueWide) ∷ [])) (tb5 ck la cn cc)
+    answer10 (first ((hasLength 10 ck, wrongLength) ∷ (fits 14 la && fits 12 cn && fits 6 cc, valueWide) ∷ [])) (tb5 ck la cn cc)
 
 unfoldable pub tb6Call : List ℕ → ℕ → ℕ → Bytes10
-tb6Call ck cn ssi = answer10 (first ((long 10 ck, wrongLength) ∷ (fits 12 cn && fits 24 ssi, valueWide) ∷ [])) (tb6 ck cn ssi)
+tb6Call ck cn ssi = answer10 (first ((hasLength 10 ck, wrongLength) ∷ (fits 12 cn && fits 24 ssi, valueWide) ∷ [])) (tb6 ck cn ssi)
 
 unfoldable pub tb7Call : List ℕ → Bytes16
-tb7Call b = answer16 (first ((long 12 b, wrongLength) ∷ [])) (tb7 b)
+tb7Call b = answer16 (first ((hasLength 12 b, wrongLength) ∷ [])) (tb7 b)

@@ -6,7 +6,7 @@ use lib.Dec.{eqb}
 use Rattle.standard.specs.Bytes.{_!_, part, choose}
 use Rattle.standard.specs.Derivation.{ringCall}
 use Rattle.standard.specs.Listing.{refusedAt}
-use Rattle.standard.specs.Refusals.{bookTooLong, bookNotWhole, wrongKind, notZero, wrongNumber, flagSet, wrongMask, sharedBit, wrongWidth, valueWide, wrongLength, outputShort, wrongSides, wrongFilling, wrongParent, parentLength, noInput, groupUnreadable, groupDisagrees, long, ringMade}
+use Rattle.standard.specs.Refusals.{bookTooLong, bookNotWhole, wrongKind, notZero, wrongNumber, flagSet, wrongMask, sharedBit, wrongWidth, valueWide, wrongLength, outputShort, wrongSides, wrongFilling, wrongParent, parentLength, noInput, groupUnreadable, groupDisagrees, hasLength, ringMade}
 use Rattle.standard.specs.Sizes.{sittingSize}
 use Rattle.standard.specs.Text.{ascii, decimal, textCall}
 use Rattle.standard.specs.declared.BookAnswer.{BookAnswer}
@@ -20,7 +20,7 @@ use Rattle.standard.specs.declared.TextAnswer.{TextAnswer}
 -- 2, key mask 2, the high byte first
 unfoldable pub sittingRing : List ℕ → RingMade
 sittingRing s =
-    choose (long sittingSize s)
+    choose (hasLength sittingSize s)
     (ringCall (part 0 16 s) (part 16 10 s) (part 26 10 s) (part 36 10 s) (part 46 10 s) (part 56 10 s) (part 66 12 s)
     (s ! 78) (256 * s ! 79 + s ! 80) (256 * s ! 81 + s ! 82))
     (ringMade wrongLength [] [] [])

@@ -112,8 +112,8 @@ outputShort = 12
 -- ---- tests
 
 -- the string has n bytes
-abbrev pub long : ℕ → List ℕ → Bool
-long n xs = eqb (length xs) n
+abbrev pub hasLength : ℕ → List ℕ → Bool
+hasLength n xs = eqb (length xs) n
 
 -- the response mask has four ones and the key mask ten; none is shared
 abbrev pub maskTests : ℕ → ℕ → List (Bool × ℕ)

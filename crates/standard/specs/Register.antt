@@ -6,7 +6,7 @@ use Prim.Native.Nat.{ℕ, zero, suc, _-_, _%_, _<_}
 use lib.ListN.{length}
 use Rattle.standard.specs.Bytes.{_!_, part, xors}
 use Rattle.standard.specs.Hurdle.{Halves, round, D, a, rotl, next, encrypt, decrypt}
-use Rattle.standard.specs.Refusals.{wrongLength, long, first, answer16}
+use Rattle.standard.specs.Refusals.{wrongLength, hasLength, first, answer16}
 use Rattle.standard.specs.declared.Bytes16.{Bytes16}
 
 -- the step after round i + 1, as from one Q to the next: by a(i+1) bytes to the left, then ⊕ D
@@ -64,7 +64,7 @@ decryptRegister key b = joined (backward 16 (start key b))
 -- ---- the call that shows the register; those of the cipher are `encryptCall` and `decryptCall`
 
 unfoldable pub registerCall : List ℕ → ℕ → Bytes16
-registerCall key n = answer16 (first ((long 16 key, wrongLength) ∷ [])) (turned key n)
+registerCall key n = answer16 (first ((hasLength 16 key, wrongLength) ∷ [])) (turned key n)
 
 -- ---- what the request asks for, stated; the proofs are in proofs/RegisterLaws
 

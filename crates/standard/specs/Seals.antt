@@ -9,7 +9,7 @@ use lib.Dec.{eqb, leb}
 use Rattle.standard.specs.Bytes.{_!_, _⊕_, _∣_, table, part, xors, zeros, bytesOf, choose}
 use Rattle.standard.specs.Cores.{bl1, bl2}
 use Rattle.standard.specs.Expansions.{ungrouped, inserted, expected, exp1Groups, exp3Groups, x16Groups, exp1, exp3, exp4, x16, shr1, shr2}
-use Rattle.standard.specs.Refusals.{wrongLength, wrongNumber, notZero, long, first, answer15, unsealed, unsealedNumbered, unsealedGroup}
+use Rattle.standard.specs.Refusals.{wrongLength, wrongNumber, notZero, hasLength, first, answer15, unsealed, unsealedNumbered, unsealedGroup}
 use Rattle.standard.specs.declared.Algorithm.{Algorithm}
 use Rattle.standard.specs.declared.Algorithm.the-variants.{Ta31, Ta51, Ta81, Ta91}
 use Rattle.standard.specs.declared.Bytes15.{Bytes15}
@@ -199,38 +199,38 @@ number2 b = 256 * b ! 10 + b ! 11
 -- ---- the calls
 
 unfoldable pub ta31Call : List ℕ → Version → List ℕ → Bytes15
-ta31Call ck v s = answer15 (first ((long 10 ck && long 10 s, wrongLength) ∷ [])) (seal form31 s (bytesOf 2 (v .0)) (body31 ck))
+ta31Call ck v s = answer15 (first ((hasLength 10 ck && hasLength 10 s, wrongLength) ∷ [])) (seal form31 s (bytesOf 2 (v .0)) (body31 ck))
 
 unfoldable pub ta32Call : List ℕ → List ℕ → Version → Unsealed
 ta32Call t s v =
-    unsealed (first ((long 15 t && long 10 s, wrongLength) ∷ []))
+    unsealed (first ((hasLength 15 t && hasLength 10 s, wrongLength) ∷ []))
     (part 0 10 (unseal form31 s (bytesOf 2 (v .0)) t)) (fails form31 s (bytesOf 2 (v .0)) t)
 
 unfoldable pub ta51Call : List ℕ → Version → List ℕ → KeyNumber → Bytes15
 ta51Call ck v s n =
-    answer15 (first ((long 10 ck && long 16 s, wrongLength) ∷ (leb (n .0) (highestNumber Ta51), wrongNumber) ∷ []))
+    answer15 (first ((hasLength 10 ck && hasLength 16 s, wrongLength) ∷ (leb (n .0) (highestNumber Ta51), wrongNumber) ∷ []))
     (seal form51 s (bytesOf 2 (v .0)) (body51 ck (n .0)))
 
 unfoldable pub ta52Call : List ℕ → List ℕ → Version → UnsealedNumbered
 ta52Call t s v =
-    unsealedNumbered (first ((long 15 t && long 16 s, wrongLength) ∷ []))
+    unsealedNumbered (first ((hasLength 15 t && hasLength 16 s, wrongLength) ∷ []))
     (part 0 10 (unseal form51 s (bytesOf 2 (v .0)) t)) (unseal form51 s (bytesOf 2 (v .0)) t ! 11)
     (fails form51 s (bytesOf 2 (v .0)) t)
 
 unfoldable pub ta81Call : List ℕ → Version → List ℕ → KeyNumber → Bytes15
 ta81Call ck v s n =
-    answer15 (first ((long 10 ck && long 16 s, wrongLength) ∷ [])) (seal form81 s (bytesOf 2 (v .0)) (body81 ck (n .0)))
+    answer15 (first ((hasLength 10 ck && hasLength 16 s, wrongLength) ∷ [])) (seal form81 s (bytesOf 2 (v .0)) (body81 ck (n .0)))
 
 unfoldable pub ta82Call : List ℕ → List ℕ → Version → UnsealedNumbered
 ta82Call t s v =
-    unsealedNumbered (first ((long 15 t && long 16 s, wrongLength) ∷ []))
+    unsealedNumbered (first ((hasLength 15 t && hasLength 16 s, wrongLength) ∷ []))
     (part 0 10 (unseal form81 s (bytesOf 2 (v .0)) t)) (number2 (unseal form81 s (bytesOf 2 (v .0)) t))
     (fails form81 s (bytesOf 2 (v .0)) t)
 
 unfoldable pub ta91Call : List ℕ → Version → List ℕ → Bytes15
-ta91Call gk v s = answer15 (first ((long 12 gk && long 16 s, wrongLength) ∷ [])) (seal form81 s (bytesOf 2 (v .0)) (body91 gk))
+ta91Call gk v s = answer15 (first ((hasLength 12 gk && hasLength 16 s, wrongLength) ∷ [])) (seal form81 s (bytesOf 2 (v .0)) (body91 gk))
 
 unfoldable pub ta92Call : List ℕ → List ℕ → Version → UnsealedGroup
 ta92Call t s v =
-    unsealedGroup (first ((long 15 t && long 16 s, wrongLength) ∷ []))
+    unsealedGroup (first ((hasLength 15 t && hasLength 16 s, wrongLength) ∷ []))
     (unseal form81 s (bytesOf 2 (v .0)) t) (fails form81 s (bytesOf 2 (v .0)) t)

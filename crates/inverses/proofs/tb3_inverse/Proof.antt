@@ -7,20 +7,20 @@ use Rattle.mixing.proofs.FieldLaws.{wide-split}
 use Rattle.standard.proofs.BytesLaws.{and-split, failed, passed}
 use Rattle.standard.specs.Bytes.{xors}
 use Rattle.standard.specs.Inverses.{tb3⁻¹Call}
-use Rattle.standard.specs.Refusals.{long, wide}
+use Rattle.standard.specs.Refusals.{hasLength, wide}
 use Rattle.inverses.proofs.AgainLaws.{result-length, tb3-again}
 use Rattle.inverses.proofs.tb3_inverse.Statement.{statement}
 use Rattle.inverses.proofs.tb3_inverse.Tie as tie
 
 returns : tie.Need-returns
 unfolding tb3⁻¹Call
-returns c = rw (c .refused-value .ensures, failed (c .before .before .both-long .ensures) (c .before .if1 .taken))
+returns c = rw (c .refused-value .ensures, failed (c .before .before .have-lengths .ensures) (c .before .if1 .taken))
 
 returns-2 : tie.Need-returns-2
 unfolding tb3⁻¹Call
 returns-2 c =
     let tested = c .before .before .before in
-    rw (c .refused-value2 .ensures, passed (tested .before .both-long .ensures) (tested .if1 .left), failed (c .before .before .wide .ensures) (c .before .if2 .taken))
+    rw (c .refused-value2 .ensures, passed (tested .before .have-lengths .ensures) (tested .if1 .left), failed (c .before .before .wide .ensures) (c .before .if2 .taken))
 
 field-requires : tie.Need-field-requires
 field-requires c κs =
@@ -32,7 +32,7 @@ confirmed-requires : tie.Need-confirmed-requires
 confirmed-requires c κs =
     let tested = c .before .before .before .before .before .before in
     let x = tested .before .before .before .before .args in
-    result-length 16 16 (now (x .input)) (now (x .result)) (passed (tested .before .both-long .ensures) (tested .if1 .left))
+    result-length 16 16 (now (x .input)) (now (x .result)) (passed (tested .before .have-lengths .ensures) (tested .if1 .left))
 
 returns-3 : tie.Need-returns-3
 unfolding tb3⁻¹Call
@@ -41,7 +41,7 @@ returns-3 c =
     let tested = made .before .before .before in
     let long-tested = tested .before .before in
     let x = long-tested .before .before .before .before .args in
-    let l : long 16 (now (x .input)) && long 16 (now (x .result)) ≡ true = passed (long-tested .before .both-long .ensures) (long-tested .if1 .left) in
+    let l : hasLength 16 (now (x .input)) && hasLength 16 (now (x .result)) ≡ true = passed (long-tested .before .have-lengths .ensures) (long-tested .if1 .left) in
     let t : wide (x .width) ≡ true = passed (tested .before .wide .ensures) (tested .if2 .left) in
     let b = xors 8 (now (x .input)) (now (x .result)) in
     rw (c .confirmed .ensures, made .tb3 .ensures, made .before .field .ensures, made .before .before .unmixed .ensures, tb3-again (now (x .input)) b (x .width) (and-split _ _ l .0) t, l, t)

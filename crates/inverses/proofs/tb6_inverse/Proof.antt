@@ -5,20 +5,20 @@ use borrow.Author.Needs.{needs}
 use Rattle.standard.proofs.BytesLaws.{and-split, failed, passed}
 use Rattle.standard.specs.Bytes.{xors}
 use Rattle.standard.specs.Inverses.{tb6⁻¹Call}
-use Rattle.standard.specs.Refusals.{long}
+use Rattle.standard.specs.Refusals.{hasLength}
 use Rattle.inverses.proofs.AgainLaws.{result-length, tb6-again}
 use Rattle.inverses.proofs.tb6_inverse.Statement.{statement}
 use Rattle.inverses.proofs.tb6_inverse.Tie as tie
 
 returns : tie.Need-returns
 unfolding tb6⁻¹Call
-returns c = rw (c .refused-pair .ensures, failed (c .before .before .both-long .ensures) (c .before .if1 .taken))
+returns c = rw (c .refused-pair .ensures, failed (c .before .before .have-lengths .ensures) (c .before .if1 .taken))
 
 same-requires : tie.Need-same-requires
 same-requires c κs =
     let tested = c .before .before .before .before .before .before in
     let x = tested .before .before .before .before .args in
-    let n = result-length 10 10 (now (x .cipher-key)) (now (x .result)) (passed (tested .before .both-long .ensures) (tested .if1 .left)) in
+    let n = result-length 10 10 (now (x .cipher-key)) (now (x .result)) (passed (tested .before .have-lengths .ensures) (tested .if1 .left)) in
     search (needs, n)
 
 returns-2 : tie.Need-returns-2
@@ -27,7 +27,7 @@ returns-2 c =
     let made = c .before .before .before .before .before in
     let tested = made .before .before .before .before in
     let x = tested .before .before .before .before .args in
-    let l : long 10 (now (x .cipher-key)) && long 10 (now (x .result)) ≡ true = passed (tested .before .both-long .ensures) (tested .if1 .left) in
+    let l : hasLength 10 (now (x .cipher-key)) && hasLength 10 (now (x .result)) ≡ true = passed (tested .before .have-lengths .ensures) (tested .if1 .left) in
     let b = xors 8 (now (x .cipher-key)) (now (x .result)) in
     let e = rw (made .tb6 .ensures, made .before .field2 .ensures, made .before .before .field .ensures, made .before .before .before .unmixed .ensures, tb6-again (now (x .cipher-key)) b (and-split _ _ l .0)) at (c .before .before .same .ensures) in
     rw (c .refused-pair2 .ensures, l, failed e (c .before .if2 .taken))
@@ -38,7 +38,7 @@ returns-3 c =
     let made = c .before .before .before .before in
     let tested = made .before .before .before .before in
     let x = tested .before .before .before .before .args in
-    let l : long 10 (now (x .cipher-key)) && long 10 (now (x .result)) ≡ true = passed (tested .before .both-long .ensures) (tested .if1 .left) in
+    let l : hasLength 10 (now (x .cipher-key)) && hasLength 10 (now (x .result)) ≡ true = passed (tested .before .have-lengths .ensures) (tested .if1 .left) in
     let b = xors 8 (now (x .cipher-key)) (now (x .result)) in
     let e = rw (made .tb6 .ensures, made .before .field2 .ensures, made .before .before .field .ensures, made .before .before .before .unmixed .ensures, tb6-again (now (x .cipher-key)) b (and-split _ _ l .0)) at (c .before .same .ensures) in
     rw (made .before .field2 .ensures, made .before .before .field .ensures, made .before .before .before .unmixed .ensures, l, passed e (c .if2 .left))

@@ -4,7 +4,7 @@ use denote.Ref.{now}
 use borrow.Author.Needs.{needs}
 use borrow.Author.Tests.{not-true, not-false}
 use Rattle.standard.proofs.DerivationLaws.{ring-long}
-use Rattle.standard.specs.Derivation.{long7, ringCall}
+use Rattle.standard.specs.Derivation.{haveLengths, ringCall}
 use Rattle.keys.proofs.ring.Statement.{statement}
 use Rattle.keys.proofs.ring.Tie as tie
 
@@ -12,7 +12,7 @@ returns : tie.Need-returns
 unfolding ringCall
 returns c =
     let x = c .before .before .before .before .before .before .before .before .before .args in
-    let t : long7 (now (x .root)) (now (x .rs)) (now (x .rso)) (now (x .rand1)) (now (x .rand2)) (now (x .c)) (now (x .group-key)) ≡ false = not-true _ (c .before .if1 .taken) in
+    let t : haveLengths (now (x .root)) (now (x .rs)) (now (x .rso)) (now (x .rand1)) (now (x .rand2)) (now (x .c)) (now (x .group-key)) ≡ false = not-true _ (c .before .if1 .taken) in
     rw (c .refused-ring .ensures, t)
 
 returns-2 : tie.Need-returns-2

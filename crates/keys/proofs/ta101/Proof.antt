@@ -8,13 +8,13 @@ use Rattle.keys.proofs.ta101.Tie as tie
 
 returns : tie.Need-returns
 unfolding ta101Call
-returns c = rw (c .refused16 .ensures, failed (c .before .before .both-long .ensures) (c .before .if1 .taken))
+returns c = rw (c .refused16 .ensures, failed (c .before .before .have-lengths .ensures) (c .before .if1 .taken))
 
 returns-2 : tie.Need-returns-2
 unfolding ta101Call
 returns-2 c =
     let tested = c .before .before in
-    rw (c .refused162 .ensures, passed (tested .before .both-long .ensures) (tested .if1 .left), le-ltb _ _ (c .before .if2 .taken))
+    rw (c .refused162 .ensures, passed (tested .before .have-lengths .ensures) (tested .if1 .left), le-ltb _ _ (c .before .if2 .taken))
 
 returns-3 : tie.Need-returns-3
 unfolding ta101Call
@@ -22,7 +22,7 @@ returns-3 c =
     let fit = c .before .before .before .before in
     let tested = fit .before .before in
     let x = tested .before .before .before .args in
-    let t = passed (tested .both-long .ensures) (fit .before .if1 .left) in
+    let t = passed (tested .have-lengths .ensures) (fit .before .if1 .left) in
     let s = both-spelled 16 10 (now (x .ks)) (now (x .gck0)) t in
     rw (c .core .ensures, c .before .int .ensures, c .before .before .array10 .ensures, c .before .before .before .array16 .ensures, s .0, s .1, t, lt-ltb _ _ (fit .if2 .left))
 

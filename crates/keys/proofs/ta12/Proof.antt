@@ -12,13 +12,13 @@ use Rattle.keys.proofs.ta12.Tie as tie
 
 returns : tie.Need-returns
 unfolding ta12Call
-returns c = rw (c .refused-split .ensures, failed (c .before .before .both-long .ensures) (c .before .if1 .taken))
+returns c = rw (c .refused-split .ensures, failed (c .before .before .have-lengths .ensures) (c .before .if1 .taken))
 
 returns-2 : tie.Need-returns-2
 unfolding ta12Call
 returns-2 c =
     let masked = c .before .before in
-    let t = passed (masked .before .before .both-long .ensures) (masked .before .if1 .left) in
+    let t = passed (masked .before .before .have-lengths .ensures) (masked .before .if1 .left) in
     rw (c .refused-split2 .ensures, t, ← masked .mask-refusal .ensures, ne-eqb _ _ (c .before .if2 .taken))
 
 returns-3 : tie.Need-returns-3
@@ -27,7 +27,7 @@ returns-3 c =
     let accepted = c .before .before .before .before in
     let tested = accepted .before .before .before in
     let x = tested .before .before .before .args in
-    let t = passed (tested .both-long .ensures) (accepted .before .before .if1 .left) in
+    let t = passed (tested .have-lengths .ensures) (accepted .before .before .if1 .left) in
     let s = both-spelled 16 10 (now (x .session-key)) (now (x .challenge)) t in
     let m : first (maskTests (x .response-mask) (x .key-mask)) ≡ 0 = sym (accepted .before .mask-refusal .ensures) ∙ accepted .if2 .left in
     rw (c .split .ensures, whole-split (x .response-mask) (x .key-mask) _ (search needs) (search needs) (masks-ones _ _ m), c .before .core .ensures, c .before .before .array10 .ensures, c .before .before .before .array16 .ensures, s .0, s .1, t, m)

@@ -3,21 +3,21 @@ use mathlib.Core.Path.{_≡_}
 use denote.Ref.{now}
 use borrow.Author.Needs.{needs}
 use borrow.Author.Tests.{not-true, not-false}
-use Rattle.standard.proofs.BytesLaws.{and-split, long-spelled}
-use Rattle.standard.specs.Refusals.{long}
+use Rattle.standard.proofs.BytesLaws.{and-split, length-spelled}
+use Rattle.standard.specs.Refusals.{hasLength}
 use Rattle.keys.proofs.under_root.Statement.{statement}
 use Rattle.keys.proofs.under_root.Tie as tie
 
 returns : tie.Need-returns
 returns c =
-    let t : long 16 (now (c .before .before .before .args .root)) && c .before .before .before .args .long ≡ false = not-true _ (c .before .if1 .taken) in
+    let t : hasLength 16 (now (c .before .before .before .args .root)) && c .before .before .before .args .seed-has-length ≡ false = not-true _ (c .before .if1 .taken) in
     rw (c .refused16 .ensures, t)
 
 returns-2 : tie.Need-returns-2
 returns-2 c =
     let x = c .before .before .before .before .args in
-    let t : long 16 (now (x .root)) && x .long ≡ true = not-false _ (c .before .before .if1 .left) in
-    rw (c .core .ensures, c .before .array16 .ensures, long-spelled 16 (now (x .root)) (and-split _ (x .long) t .0), t)
+    let t : hasLength 16 (now (x .root)) && x .seed-has-length ≡ true = not-false _ (c .before .before .if1 .left) in
+    rw (c .core .ensures, c .before .array16 .ensures, length-spelled 16 (now (x .root)) (and-split _ (x .seed-has-length) t .0), t)
 
 pub under-root-spec : {M : Type 1} → statement M
 under-root-spec =

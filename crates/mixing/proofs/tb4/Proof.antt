@@ -6,13 +6,13 @@ use Rattle.mixing.proofs.tb4.Tie as tie
 
 returns : tie.Need-returns
 unfolding tb4Call
-returns c = rw (c .refused10 .ensures, failed (c .before .before .both-long .ensures) (c .before .if1 .taken))
+returns c = rw (c .refused10 .ensures, failed (c .before .before .have-lengths .ensures) (c .before .if1 .taken))
 
 returns-2 : tie.Need-returns-2
 unfolding tb4Call
 returns-2 c =
     let tested = c .before .before .before in
-    rw (c .mix4 .ensures, c .before .array102 .ensures, c .before .before .array10 .ensures, passed (tested .before .both-long .ensures) (tested .if1 .left))
+    rw (c .mix4 .ensures, c .before .array102 .ensures, c .before .before .array10 .ensures, passed (tested .before .have-lengths .ensures) (tested .if1 .left))
 
 pub tb4-spec : {M : Type 1} → statement M
 tb4-spec =

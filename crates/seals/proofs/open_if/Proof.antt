@@ -6,13 +6,13 @@ use Rattle.seals.proofs.open_if.Tie as tie
 
 returns : tie.Need-returns
 unfolding unsealedBody
-returns c = rw (not-true (c .before .args .long) (c .if1 .taken))
+returns c = rw (not-true (c .before .args .right-lengths) (c .if1 .taken))
 
 returns-2 : tie.Need-returns-2
 unfolding unsealedBody
 returns-2 c =
     let o = c .before .open-text .ensures in
-    rw (o .is, o .told, not-false (c .before .before .before .args .long) (c .before .before .if1 .left))
+    rw (o .is, o .told, not-false (c .before .before .before .args .right-lengths) (c .before .before .if1 .left))
 
 pub open-if-spec : {M : Type 1} → statement M
 open-if-spec = tie.close (tie.spec returns (λ c κs. search needs) returns-2)

@@ -7,13 +7,13 @@ use Rattle.seals.proofs.ta51.Tie as tie
 
 returns : tie.Need-returns
 unfolding ta51Call
-returns c = rw (c .refused15 .ensures, failed (c .before .before .both-long .ensures) (c .before .if1 .taken))
+returns c = rw (c .refused15 .ensures, failed (c .before .before .have-lengths .ensures) (c .before .if1 .taken))
 
 returns-2 : tie.Need-returns-2
 unfolding ta51Call
 returns-2 c =
     let tested = c .before .before .before in
-    rw (c .refused152 .ensures, passed (tested .before .both-long .ensures) (tested .if1 .left), lt-leb _ _ (c .before .if2 .taken))
+    rw (c .refused152 .ensures, passed (tested .before .have-lengths .ensures) (tested .if1 .left), lt-leb _ _ (c .before .if2 .taken))
 
 returns-3 : tie.Need-returns-3
 unfolding ta51Call seal key16
@@ -21,7 +21,7 @@ returns-3 c =
     let key = c .before .before .before .before in
     let fit = key .before .before in
     let tested = fit .before .before in
-    rw (c .seal-if .ensures, c .before .body .ensures, c .before .before .before .array10 .ensures, key .key16 .ensures, key .before .array16 .ensures, passed (tested .before .both-long .ensures) (tested .if1 .left), le-leb _ _ (fit .if2 .left))
+    rw (c .seal-if .ensures, c .before .body .ensures, c .before .before .before .array10 .ensures, key .key16 .ensures, key .before .array16 .ensures, passed (tested .before .have-lengths .ensures) (tested .if1 .left), le-leb _ _ (fit .if2 .left))
 
 pub ta51-spec : {M : Type 1} → statement M
 ta51-spec =
