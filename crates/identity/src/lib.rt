@@ -14,7 +14,7 @@ ghost use mathlib.Core.List.{[], _∷_};
 ghost use mathlib.Core.Path.{_≡_};
 ghost use Prim.Native.Nat.{_+_, _-_, _*_, _%_};
 ghost use Rattle.standard.specs.Bytes.{_!_, _⊕_, table, xors, bytesOf, number3 as number3Of};
-ghost use Rattle.standard.specs.Identity.{mix as mixOf, unmix as unmixOf, P, P⁻¹, bc as bcOf, K1, K2, K3, hide as hideOf, reveal as revealOf, ta61Call, ta61⁻¹Call};
+ghost use Rattle.standard.specs.Identity.{mix as mixOf, unmix as unmixOf, P, P⁻¹, bc as bcOf, K1, K2, K3, encryptIdentity, decryptIdentity, ta61Call, ta61⁻¹Call};
 ghost use Rattle.standard.specs.Runs.{identityRuns};
 
 fn difference(a: u8, b: u8) -> u8
@@ -124,8 +124,8 @@ pub fn bc(common_key: [u8; 10]) -> IdentityStrings
 }
 
 // Three bytes of identity, encrypted, from the cipher run's output.
-pub fn hide(b: [u8; 8], x: [u8; 3]) -> [u8; 3]
-    ensures { λ r. ⌜ r ≡ hideOf b x ⌝ }
+pub fn encrypt_identity(b: [u8; 8], x: [u8; 3]) -> [u8; 3]
+    ensures { λ r. ⌜ r ≡ encryptIdentity b x ⌝ }
 {
     let once = permuted(xor3(x, k1(b)));
     let twice = permuted(xor3(once, k2(b)));
@@ -133,8 +133,8 @@ pub fn hide(b: [u8; 8], x: [u8; 3]) -> [u8; 3]
 }
 
 // And recovered.
-pub fn reveal(b: [u8; 8], y: [u8; 3]) -> [u8; 3]
-    ensures { λ r. ⌜ r ≡ revealOf b y ⌝ }
+pub fn decrypt_identity(b: [u8; 8], y: [u8; 3]) -> [u8; 3]
+    ensures { λ r. ⌜ r ≡ decryptIdentity b y ⌝ }
 {
     let once = permuted_back(xor3(y, k3(b)));
     let twice = permuted_back(xor3(once, k2(b)));
@@ -185,7 +185,7 @@ pub fn ta61(common_key: &[u8], identity: u64) -> Identity
     let b = strings.bytes;
     Identity {
         refusal: 0,
-        identity: number3(hide(b, bytes3(identity))),
+        identity: number3(encrypt_identity(b, bytes3(identity))),
     }
 }
 
@@ -202,6 +202,6 @@ pub fn ta61_inverse(common_key: &[u8], encrypted_identity: u64) -> Identity
     let b = strings.bytes;
     Identity {
         refusal: 0,
-        identity: number3(reveal(b, bytes3(encrypted_identity))),
+        identity: number3(decrypt_identity(b, bytes3(encrypted_identity))),
     }
 }

@@ -8,7 +8,7 @@ use lib.ListN.{length, take, drop}
 use borrow.Author.Tests.{not-true, not-false}
 use Rattle.standard.specs.Books.{sealingKey, named, plainFault, openFault, openLook}
 use Rattle.standard.specs.Bytes.{_!_, part, bytesOf}
-use Rattle.standard.specs.Identity.{hide, reveal}
+use Rattle.standard.specs.Identity.{encryptIdentity, decryptIdentity}
 use Rattle.standard.specs.Seals.{clear, kindOf, form, opened, fails, clears}
 use Rattle.standard.specs.Sizes.{plainSize, sealedSize}
 use Rattle.standard.specs.declared.Kind.{Kind}
@@ -72,12 +72,12 @@ module _ (r rec x : List ℕ) (k : Kind) (head : List ℕ) (ek : k ≡ named (ki
 
 module _ (b rec x head id h out exit made : List ℕ) (eh : head ≡ part 0 6 x) (e : h ≡ head ! 0 ∷ part 0 3 id ++ part 4 2 head)
     (ec : exit ≡ take (length out) made ++ drop (length made) out) where
-  pub sealed-put : (text : List ℕ) → x ≡ part 0 plainSize rec → id ≡ hide b (part 1 3 head) → made ≡ part 0 6 h ++ part 0 15 text
+  pub sealed-put : (text : List ℕ) → x ≡ part 0 plainSize rec → id ≡ encryptIdentity b (part 1 3 head) → made ≡ part 0 6 h ++ part 0 15 text
       → exit ≡ take (length out) (sealedWith b rec text) ++ drop sealedSize out
   unfolding sealedWith
   sealed-put text ex ei em = ec ∙ rw (em, e, ei, eh, ex)
 
-  pub opened-put : (k : Kind) (u body : List ℕ) → x ≡ part 0 sealedSize rec → k ≡ named (kindOf (head ! 0)) → id ≡ reveal b (part 1 3 head) → body ≡ form k .shrink u
+  pub opened-put : (k : Kind) (u body : List ℕ) → x ≡ part 0 sealedSize rec → k ≡ named (kindOf (head ! 0)) → id ≡ decryptIdentity b (part 1 3 head) → body ≡ form k .shrink u
       → made ≡ part 0 6 h ++ part 0 12 body → exit ≡ take (length out) (openedWith b rec u) ++ drop plainSize out
   unfolding openedWith
   opened-put k u body ex ek ei eb em = ec ∙ rw (em, eb, e, ei, ek, eh, ex)

@@ -5,7 +5,7 @@ use mathlib.Core.List.{List, _∷_, _++_}
 use Prim.Native.Nat.{ℕ}
 use Rattle.standard.specs.Books.{sealingKey, recordKind}
 use Rattle.standard.specs.Bytes.{_!_, part}
-use Rattle.standard.specs.Identity.{hide, reveal}
+use Rattle.standard.specs.Identity.{encryptIdentity, decryptIdentity}
 use Rattle.standard.specs.Seals.{form}
 
 -- the core's key, of a plain or a sealed record
@@ -18,7 +18,7 @@ plainInput p = form (recordKind p) .input (part 6 12 p)
 
 -- the head with its identity encrypted, then the sealed text; and the head with its identity recovered, then the body of BL2's output
 unfoldable pub sealedWith : (b p text : List ℕ) → List ℕ
-sealedWith b p text = p ! 0 ∷ part 0 3 (hide b (part 1 3 p)) ++ part 4 2 p ++ part 0 15 text
+sealedWith b p text = p ! 0 ∷ part 0 3 (encryptIdentity b (part 1 3 p)) ++ part 4 2 p ++ part 0 15 text
 
 unfoldable pub openedWith : (b t u : List ℕ) → List ℕ
-openedWith b t u = t ! 0 ∷ part 0 3 (reveal b (part 1 3 t)) ++ part 4 2 t ++ part 0 12 (form (recordKind t) .shrink u)
+openedWith b t u = t ! 0 ∷ part 0 3 (decryptIdentity b (part 1 3 t)) ++ part 4 2 t ++ part 0 12 (form (recordKind t) .shrink u)

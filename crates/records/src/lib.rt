@@ -18,8 +18,8 @@ use arrays::array21;
 use arrays::copy;
 use identity::IdentityStrings;
 use identity::bc;
-use identity::hide;
-use identity::reveal;
+use identity::encrypt_identity;
+use identity::decrypt_identity;
 pub use parts::ring_bytes;
 use standard::Algorithm;
 use standard::FLAG_SET;
@@ -192,8 +192,8 @@ pub fn put_sealed(strings: [u8; 8], rec: &[u8], text: [u8; 15], out: &mut [u8])
     ensures { λ _. ⌜ now (out .exit) ≡ take (length (now (out .entry))) (sealedWith strings (now (rec .entry)) text) ++ drop sealedSize (now (out .entry)) ⌝ }
 {
     let head = plain_head(array18(rec));
-    let hidden = hide(strings, identity_of(head));
-    copy(&sealed_record(with_identity(head, hidden), text), out);
+    let encrypted = encrypt_identity(strings, identity_of(head));
+    copy(&sealed_record(with_identity(head, encrypted), text), out);
 }
 
 // The plain record of a sealed one and what BL2 gives for it, into its own part of the output.
@@ -203,9 +203,9 @@ pub fn put_opened(strings: [u8; 8], rec: &[u8], u: [u8; 15], out: &mut [u8])
     let head = sealed_head(array21(rec));
     let kind = kind_of(head[0]);
     let algorithm = kind.algorithm;
-    let revealed = reveal(strings, identity_of(head));
+    let decrypted = decrypt_identity(strings, identity_of(head));
     copy(
-        &plain_record(with_identity(head, revealed), body_of(algorithm, u)),
+        &plain_record(with_identity(head, decrypted), body_of(algorithm, u)),
         out,
     );
 }

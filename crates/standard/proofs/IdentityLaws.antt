@@ -8,7 +8,7 @@ use native.Mathlib.Omega.{arith}
 use Rattle.standard.specs.Bytes.{_!_, byte, _⊕_, _⊞_, xors, Bytes}
 use Rattle.standard.specs.Expansions.{exp4}
 use Rattle.standard.specs.Hurdle.{S, S⁻¹}
-use Rattle.standard.specs.Identity.{mix, unmix, unmixed, P, P⁻¹, bc, K1, K2, K3, between, hide, reveal, ta61, ta61⁻¹}
+use Rattle.standard.specs.Identity.{mix, unmix, unmixed, P, P⁻¹, bc, K1, K2, K3, between, encryptIdentity, decryptIdentity, ta61, ta61⁻¹}
 use Rattle.standard.proofs.BytesLaws.{spell, bytes-cons, bytes-one, bytes-table, bytes-xors}
 use Rattle.standard.proofs.HurdleLaws.{Permuted, permuted, encrypt-bytes}
 use Rattle.standard.proofs.InverseLaws.{Inverse}
@@ -129,25 +129,25 @@ bc-bytes a h = encrypt-bytes (exp4 a) _ (bytes-table 8 (λ i. a ! i ⊕ a ! (i +
 three : (b : List ℕ) → Bytes 8 b → (i j k : ℕ) → Bytes 3 (byte 8 b i ∷ byte 8 b j ∷ byte 8 b k ∷ [])
 three b h i j k = bytes-cons (h .bound _) (bytes-cons (h .bound _) (bytes-one (h .bound _)))
 
-hide-bytes : (b x : List ℕ) → Bytes 8 b → Bytes 3 (hide b x)
-unfolding hide
-hide-bytes b x h = bytes-xors 3 (P-bytes _) (three b h 5 2 7)
+encrypt-identity-bytes : (b x : List ℕ) → Bytes 8 b → Bytes 3 (encryptIdentity b x)
+unfolding encryptIdentity
+encrypt-identity-bytes b x h = bytes-xors 3 (P-bytes _) (three b h 5 2 7)
 
-reveal-bytes : (b y : List ℕ) → Bytes 8 b → Bytes 3 (reveal b y)
-unfolding reveal
-reveal-bytes b y h = bytes-xors 3 (P⁻¹-bytes _) (three b h 7 4 1)
+decrypt-identity-bytes : (b y : List ℕ) → Bytes 8 b → Bytes 3 (decryptIdentity b y)
+unfolding decryptIdentity
+decrypt-identity-bytes b y h = bytes-xors 3 (P⁻¹-bytes _) (three b h 7 4 1)
 
-hidden : (b : List ℕ) → Bytes 8 b → Inverse (Bytes 3) (Bytes 3) (hide b) (reveal b)
-unfolding hide reveal
-hidden b h = record {
-  to = λ x p. hide-bytes b x h;
-  from = λ y p. reveal-bytes b y h;
+identity-inverse : (b : List ℕ) → Bytes 8 b → Inverse (Bytes 3) (Bytes 3) (encryptIdentity b) (decryptIdentity b)
+unfolding encryptIdentity decryptIdentity
+identity-inverse b h = record {
+  to = λ x p. encrypt-identity-bytes b x h;
+  from = λ y p. decrypt-identity-bytes b y h;
   back = λ x p. layers P P⁻¹ P-bytes P⁻¹-P (K1 b) (K2 b) (K3 b) x (three b h 7 4 1) (three b h 6 3 0) p;
   forth = λ y p. layers P⁻¹ P P⁻¹-bytes P-P⁻¹ (K3 b) (K2 b) (K1 b) y (three b h 5 2 7) (three b h 6 3 0) p;
 }
 
 pub identity-law : (a : List ℕ) → Bytes 10 a → Inverse (Bytes 3) (Bytes 3) (ta61 a) (ta61⁻¹ a)
-identity-law a h = hidden (bc a) (bc-bytes a h)
+identity-law a h = identity-inverse (bc a) (bc-bytes a h)
 
 -- ---- `mix` by wrapping sums and a wrapping difference, as code has it
 

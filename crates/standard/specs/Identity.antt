@@ -50,17 +50,17 @@ abbrev pub between : (List ℕ → List ℕ) → List ℕ → List ℕ → List 
 between f k l m x = xors 3 (f (xors 3 (f (xors 3 x k)) l)) m
 
 -- of BC's output and three bytes of identity
-unfoldable pub hide : List ℕ → List ℕ → List ℕ
-hide b x = between P (K1 b) (K2 b) (K3 b) x
+unfoldable pub encryptIdentity : List ℕ → List ℕ → List ℕ
+encryptIdentity b x = between P (K1 b) (K2 b) (K3 b) x
 
-unfoldable pub reveal : List ℕ → List ℕ → List ℕ
-reveal b y = between P⁻¹ (K3 b) (K2 b) (K1 b) y
+unfoldable pub decryptIdentity : List ℕ → List ℕ → List ℕ
+decryptIdentity b y = between P⁻¹ (K3 b) (K2 b) (K1 b) y
 
 abbrev pub ta61 : List ℕ → List ℕ → List ℕ
-ta61 a x = hide (bc a) x
+ta61 a x = encryptIdentity (bc a) x
 
 abbrev pub ta61⁻¹ : List ℕ → List ℕ → List ℕ
-ta61⁻¹ a y = reveal (bc a) y
+ta61⁻¹ a y = decryptIdentity (bc a) y
 
 -- ---- the calls
 

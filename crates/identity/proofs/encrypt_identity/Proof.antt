@@ -1,17 +1,17 @@
 use borrow.Author.Needs.{needs}
-use Rattle.standard.specs.Identity.{hide}
-use Rattle.identity.proofs.hide.Statement.{statement}
-use Rattle.identity.proofs.hide.Tie as tie
+use Rattle.standard.specs.Identity.{encryptIdentity}
+use Rattle.identity.proofs.encrypt_identity.Statement.{statement}
+use Rattle.identity.proofs.encrypt_identity.Tie as tie
 
 returns : tie.Need-returns
-unfolding hide
+unfolding encryptIdentity
 returns c =
     let second = c .before .before in
     let first = second .before .before .before in
     rw (c .xor33 .ensures, c .before .k3 .ensures, second .permuted2 .ensures, second .before .xor32 .ensures, second .before .before .k2 .ensures, first .permuted .ensures, first .before .xor3 .ensures, first .before .before .k1 .ensures)
 
-pub hide-spec : {M : Type 1} → statement M
-hide-spec =
+pub encrypt-identity-spec : {M : Type 1} → statement M
+encrypt-identity-spec =
     tie.close
     (tie.spec
     (λ c κs. search needs)
