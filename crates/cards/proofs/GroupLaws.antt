@@ -6,7 +6,7 @@ use Prim.Native.Nat.{ℕ, suc, _+_, _-_, _/_, _%_, _^_}
 use native.Mathlib.Omega.{arith}
 use lib.Dec.{eqb}
 use Rattle.standard.specs.Bytes.{_!_, bit, _⊕_, choose}
-use Rattle.standard.specs.Cards.{unreadable, gaps, others}
+use Rattle.standard.specs.Cards.{unreadable, erasures, groupParity}
 
 -- the mask's bit, by its place from the left
 pub gap-bit : (m i : ℕ) {g : ℕ} → g ≡ m / 2 ^ (15 - i) % 2 → g ≡ bit (15 - i) m
@@ -27,11 +27,11 @@ module _ (a : ℕ) where
   three : a + 3 ≡ suc (suc (suc a))
   three = omega arith
 
-  pub four-gaps : (m g₁ g₂ g₃ g₄ : ℕ) → g₁ ≡ m / 2 ^ (15 - a) % 2 → g₂ ≡ m / 2 ^ (15 - (a + 1)) % 2 → g₃ ≡ m / 2 ^ (15 - (a + 2)) % 2
-      → g₄ ≡ m / 2 ^ (15 - (a + 3)) % 2 → g₁ + g₂ + g₃ + g₄ ≡ gaps m a
-  four-gaps m g₁ g₂ g₃ g₄ e₁ e₂ e₃ e₄ =
+  pub four-erasures : (m g₁ g₂ g₃ g₄ : ℕ) → g₁ ≡ m / 2 ^ (15 - a) % 2 → g₂ ≡ m / 2 ^ (15 - (a + 1)) % 2 → g₃ ≡ m / 2 ^ (15 - (a + 2)) % 2
+      → g₄ ≡ m / 2 ^ (15 - (a + 3)) % 2 → g₁ + g₂ + g₃ + g₄ ≡ erasures m a
+  four-erasures m g₁ g₂ g₃ g₄ e₁ e₂ e₃ e₄ =
       let at : (i j : ℕ) → i ≡ j → bit (15 - i) m ≡ bit (15 - j) m = λ i j q. ap (λ (n : ℕ). bit (15 - n) m) q in
       omega (arith, gap-bit m a e₁, gap-bit m (a + 1) e₂ ∙ at (a + 1) (suc a) one, gap-bit m (a + 2) e₃ ∙ at (a + 2) (suc (suc a)) two, gap-bit m (a + 3) e₄ ∙ at (a + 3) (suc (suc (suc a))) three)
 
-  pub four-others : (r : List ℕ) → r ! a ⊕ r ! (a + 1) ⊕ r ! (a + 2) ⊕ r ! (a + 3) ≡ others r a
-  four-others r = rw (one, two, three)
+  pub four-parity : (r : List ℕ) → r ! a ⊕ r ! (a + 1) ⊕ r ! (a + 2) ⊕ r ! (a + 3) ≡ groupParity r a
+  four-parity r = rw (one, two, three)

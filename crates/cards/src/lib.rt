@@ -8,21 +8,21 @@ ghost use mathlib.Core.Path.{_≡_};
 ghost use Prim.Native.Nat.{_-_, _/_, _%_, _^_, _<_, _≤_};
 ghost use lib.Dec.{eqb};
 ghost use Rattle.standard.specs.Bytes.{choose, zeros};
-ghost use Rattle.standard.specs.Cards.{readable as readableOf, gaps as gapsOf, others as othersOf, few as fewOf, agrees as agreesOf, everyGroup, restored as restoredOf, keyOf, restoreCall};
+ghost use Rattle.standard.specs.Cards.{readable as readableOf, erasures as erasuresOf, groupParity, atMostOne, agrees as agreesOf, everyGroup, restored as restoredOf, keyOf, restoreCall};
 
 // The mask's bit of the byte at index i from the left: 1 where that is unreadable.
-fn gap(unreadable: u16, i: usize) -> u16
+fn erased(unreadable: u16, i: usize) -> u16
     requires { ⌜ i < 16 ⌝ }
     ensures { λ r. ⌜ (r ≡ unreadable / 2 ^ (15 - i) % 2) × (r < 2) ⌝ }
 {
     (unreadable >> (15 - i)) % 2
 }
 
-// The first where there is a gap, the second where there is none.
-fn pick(gap: u16, a: u8, b: u8) -> u8
-    ensures { λ r. ⌜ r ≡ choose (eqb gap 1) a b ⌝ }
+// The first in the place of an erasure, else the second.
+fn pick(erased: u16, a: u8, b: u8) -> u8
+    ensures { λ r. ⌜ r ≡ choose (eqb erased 1) a b ⌝ }
 {
-    if gap == 1 { a } else { b }
+    if erased == 1 { a } else { b }
 }
 
 // The readable bytes, and 0 in the place of the others.
@@ -31,35 +31,35 @@ fn readable(card: [u8; 16], unreadable: u16) -> [u8; 16]
 {
     let mut out = [0u8; 16];
     for i in 0..16 {
-        out[i] = pick(gap(unreadable, i), 0, card[i]);
+        out[i] = pick(erased(unreadable, i), 0, card[i]);
     }
     out
 }
 
 // How many bytes of the group from index a on are unreadable.
-fn gaps(unreadable: u16, a: usize) -> u16
+fn erasures(unreadable: u16, a: usize) -> u16
     requires { ⌜ a ≤ 12 ⌝ }
-    ensures { λ r. ⌜ r ≡ gapsOf unreadable a ⌝ }
+    ensures { λ r. ⌜ r ≡ erasuresOf unreadable a ⌝ }
 {
-    gap(unreadable, a) + gap(unreadable, a + 1) + gap(unreadable, a + 2) + gap(unreadable, a + 3)
+    erased(unreadable, a) + erased(unreadable, a + 1) + erased(unreadable, a + 2) + erased(unreadable, a + 3)
 }
 
 // The ⊕ of the group's readable bytes.
-fn others(read: [u8; 16], a: usize) -> u8
+fn group_parity(read: [u8; 16], a: usize) -> u8
     requires { ⌜ a ≤ 12 ⌝ }
-    ensures { λ r. ⌜ r ≡ othersOf read a ⌝ }
+    ensures { λ r. ⌜ r ≡ groupParity read a ⌝ }
 {
     read[a] ^ read[a + 1] ^ read[a + 2] ^ read[a + 3]
 }
 
 // No group has more than one unreadable byte.
-fn few(unreadable: u16) -> bool
-    ensures { λ r. ⌜ r ≡ everyGroup (fewOf unreadable) ⌝ }
+fn at_most_one(unreadable: u16) -> bool
+    ensures { λ r. ⌜ r ≡ everyGroup (atMostOne unreadable) ⌝ }
 {
-    (gaps(unreadable, 0) <= 1)
-        & (gaps(unreadable, 4) <= 1)
-        & (gaps(unreadable, 8) <= 1)
-        & (gaps(unreadable, 12) <= 1)
+    (erasures(unreadable, 0) <= 1)
+        & (erasures(unreadable, 4) <= 1)
+        & (erasures(unreadable, 8) <= 1)
+        & (erasures(unreadable, 12) <= 1)
 }
 
 // The group is not all readable, or its fourth byte is the ⊕ of the others.
@@ -67,7 +67,7 @@ fn agrees(read: [u8; 16], unreadable: u16, a: usize) -> bool
     requires { ⌜ a ≤ 12 ⌝ }
     ensures { λ r. ⌜ r ≡ agreesOf read unreadable a ⌝ }
 {
-    (gaps(unreadable, a) != 0) | (others(read, a) == 0)
+    (erasures(unreadable, a) != 0) | (group_parity(read, a) == 0)
 }
 
 fn agree(read: [u8; 16], unreadable: u16) -> bool
@@ -85,7 +85,7 @@ fn restored(read: [u8; 16], unreadable: u16) -> [u8; 16]
 {
     let mut out = [0u8; 16];
     for i in 0..16 {
-        out[i] = pick(gap(unreadable, i), others(read, 4 * (i / 4)), read[i]);
+        out[i] = pick(erased(unreadable, i), group_parity(read, 4 * (i / 4)), read[i]);
     }
     out
 }
@@ -126,7 +126,7 @@ pub fn restore_card(card: &[u8], unreadable: u16) -> Card
     if card.len() != 16 {
         return refused_card(WRONG_LENGTH);
     }
-    if !few(unreadable) {
+    if !at_most_one(unreadable) {
         return refused_card(GROUP_UNREADABLE);
     }
     let read = readable(array16(card), unreadable);

@@ -11,12 +11,12 @@ use lib.Bits.{xor-self}
 use lib.Dec.{eqb, leb}
 use borrow.Author.Tests.{eqb-false, eq-eqb, ne-eqb}
 use Rattle.standard.specs.Bytes.{_!_, bit, _⊕_, part, choose, Bytes}
-use Rattle.standard.specs.Cards.{unreadable, readable, gapsOn, gaps, few, agrees, everyGroup, restored, keyOf, restoreCall, SameReadable, FormOf, OnlyOne, None, Several, CardLaw}
+use Rattle.standard.specs.Cards.{unreadable, readable, erasuresOn, erasures, atMostOne, agrees, everyGroup, restored, keyOf, restoreCall, SameReadable, FormOf, OnlyOne, None, Several, CardLaw}
 use Rattle.standard.specs.Mixing.{tb7}
 use Rattle.standard.specs.Refusals.{wrongLength, groupUnreadable, groupDisagrees, hasLength, first}
 use Rattle.standard.proofs.BytesLaws.{table-at, table-same, spell, bytes-append, bytes-cons, bytes-nil, bytes-part, and-split, and-join}
 use Rattle.standard.proofs.FirstLaws.{all-pass, not-first}
-use Rattle.standard.proofs.GapLaws.{Group, end, place, count, rest, filled, Fits, fits-long, Decides, group-decided, fits-right, Joined, join, both-decided, same-decided}
+use Rattle.standard.proofs.ErasureLaws.{Group, end, place, count, rest, filled, Fits, fits-long, Decides, group-decided, fits-right, Joined, join, both-decided, same-decided}
 use Rattle.standard.proofs.XorLaws.{xor-cancel-r, xor-byte}
 
 -- ---- the readable bytes, by the mask's bits and as a string
@@ -93,7 +93,7 @@ module _ (x : List ℕ) (m : ℕ) (h : Bytes 16 x) where
   abbrev group : ℕ → Group
   group a = groupOn a 4
 
-  counted : (n a : ℕ) → count (groupOn a n) ≡ gapsOn m a n
+  counted : (n a : ℕ) → count (groupOn a n) ≡ erasuresOn m a n
   counted zero a = refl
   counted (suc n) a = bit-counts (15 - a) m (count (groupOn (suc a) n)) ∙ ap (_+_ (bit (15 - a) m)) (counted n (suc a))
 
@@ -191,13 +191,13 @@ module _ (x : List ℕ) (m : ℕ) (h : Bytes 16 x) where
   -- ---- the tests decide
 
   abbrev right : ℕ → Bool
-  right a = few m a && agrees (readable x m) m a
+  right a = atMostOne m a && agrees (readable x m) m a
 
   abbrev all : Bool
   all = right 0 && (right 4 && (right 8 && right 12))
 
   group-tested : (a : ℕ) → let g = group a in
-      Decides (few m a && (not (eqb (gaps m a) 0) || eqb (rest 0 g) 0)) (G a) (filled (rest 0 g) g)
+      Decides (atMostOne m a && (not (eqb (erasures m a) 0) || eqb (rest 0 g) 0)) (G a) (filled (rest 0 g) g)
   group-tested a =
       subst (λ (n : ℕ). Decides (leb n 1 && (not (eqb n 0) || eqb (rest 0 (group a)) 0)) (G a) (filled (rest 0 (group a)) (group a)))
       (counted 4 a) (group-decided (group a))
@@ -211,11 +211,11 @@ module _ (x : List ℕ) (m : ℕ) (h : Bytes 16 x) where
       (both-decided (G 8) _ 4 (fits-long (group 8) 0) (right 8) _ _ _ (group-tested 8) (group-tested 12))))
 
   abbrev tests : List (Bool × ℕ)
-  tests = (hasLength 16 x, wrongLength) ∷ (everyGroup (few m), groupUnreadable) ∷ (everyGroup (agrees (readable x m) m), groupDisagrees) ∷ []
+  tests = (hasLength 16 x, wrongLength) ∷ (everyGroup (atMostOne m), groupUnreadable) ∷ (everyGroup (agrees (readable x m) m), groupDisagrees) ∷ []
 
   all-right : first tests ≡ 0 → all ≡ true
   all-right z =
-      let f = every-group (few m) (all-pass tests refl z 1) in
+      let f = every-group (atMostOne m) (all-pass tests refl z 1) in
       let g = every-group (agrees (readable x m) m) (all-pass tests refl z 2) in
       and-join (and-join (f .0) (g .0)) (and-join (and-join (f .1) (g .1)) (and-join (and-join (f .2) (g .2)) (and-join (f .3) (g .3))))
 
@@ -224,16 +224,16 @@ module _ (x : List ℕ) (m : ℕ) (h : Bytes 16 x) where
       let s₀ = and-split (right 0) _ e in
       let s₄ = and-split (right 4) _ (s₀ .1) in
       let s₈ = and-split (right 8) (right 12) (s₄ .1) in
-      let g₀ = and-split (few m 0) _ (s₀ .0) in
-      let g₄ = and-split (few m 4) _ (s₄ .0) in
-      let g₈ = and-split (few m 8) _ (s₈ .0) in
-      let g₁₂ = and-split (few m 12) _ (s₈ .1) in
-      let f : everyGroup (few m) ≡ true = and-join (and-join (and-join (g₀ .0) (g₄ .0)) (g₈ .0)) (g₁₂ .0) in
+      let g₀ = and-split (atMostOne m 0) _ (s₀ .0) in
+      let g₄ = and-split (atMostOne m 4) _ (s₄ .0) in
+      let g₈ = and-split (atMostOne m 8) _ (s₈ .0) in
+      let g₁₂ = and-split (atMostOne m 12) _ (s₈ .1) in
+      let f : everyGroup (atMostOne m) ≡ true = and-join (and-join (and-join (g₀ .0) (g₄ .0)) (g₈ .0)) (g₁₂ .0) in
       let a : everyGroup (agrees (readable x m) m) ≡ true = and-join (and-join (and-join (g₀ .1) (g₄ .1)) (g₈ .1)) (g₁₂ .1) in
       rw (eq-eqb _ _ (h .len), f, a)
 
   -- a form of the card agrees in every group that is readable
-  group-right : (a : ℕ) (ys : List ℕ) → G a ys → not (eqb (gaps m a) 0) || eqb (rest 0 (group a)) 0 ≡ true
+  group-right : (a : ℕ) (ys : List ℕ) → G a ys → not (eqb (erasures m a) 0) || eqb (rest 0 (group a)) 0 ≡ true
   group-right a ys f =
       subst (λ (n : ℕ). not (eqb n 0) || eqb (rest 0 (group a)) 0 ≡ true) (counted 4 a) (fits-right (group a) ys f)
 
@@ -248,7 +248,7 @@ module _ (x : List ℕ) (m : ℕ) (h : Bytes 16 x) where
   -- so where a readable group disagrees there is none
   no-form : first tests ≡ groupDisagrees → None (FormOf x m)
   no-form e z f =
-      not-first groupDisagrees ((hasLength 16 x, wrongLength) ∷ (everyGroup (few m), groupUnreadable) ∷ []) refl
+      not-first groupDisagrees ((hasLength 16 x, wrongLength) ∷ (everyGroup (atMostOne m), groupUnreadable) ∷ []) refl
       (rw (forms-agree z (to-forms z f)) at e)
 
   -- exactly one form where nothing is refused, none or several where something is

@@ -27,7 +27,7 @@ pub mod FactLaws
 pub mod LineageLaws
 pub mod ColumnsLaws
 pub mod FindLaws
-pub mod GapLaws
+pub mod ErasureLaws
 pub mod CardLaws
 pub mod DiffusionLaws
 pub mod Cases

@@ -25,24 +25,24 @@ readable x m = table 16 (λ i. choose (unreadable m i) 0 (x ! i))
 -- ---- a group, the four bytes from index a on
 
 -- how many of the n bytes from index a on are unreadable
-abbrev pub gapsOn : ℕ → ℕ → ℕ → ℕ
-gapsOn m a zero = 0
-gapsOn m a (suc n) = bit (15 - a) m + gapsOn m (suc a) n
+abbrev pub erasuresOn : ℕ → ℕ → ℕ → ℕ
+erasuresOn m a zero = 0
+erasuresOn m a (suc n) = bit (15 - a) m + erasuresOn m (suc a) n
 
-abbrev pub gaps : ℕ → ℕ → ℕ
-gaps m a = gapsOn m a 4
+abbrev pub erasures : ℕ → ℕ → ℕ
+erasures m a = erasuresOn m a 4
 
 -- the ⊕ of the readable bytes. The ⊕ of a whole group is 0, so where one byte is unreadable, this is what it was
-abbrev pub others : List ℕ → ℕ → ℕ
-others r a = xorOf a 4 r
+abbrev pub groupParity : List ℕ → ℕ → ℕ
+groupParity r a = xorOf a 4 r
 
 -- at most one byte is unreadable
-abbrev pub few : ℕ → ℕ → Bool
-few m a = leb (gaps m a) 1
+abbrev pub atMostOne : ℕ → ℕ → Bool
+atMostOne m a = leb (erasures m a) 1
 
 -- where all four are readable, the fourth is the ⊕ of the three before it
 abbrev pub agrees : List ℕ → ℕ → ℕ → Bool
-agrees r m a = not (eqb (gaps m a) 0) || eqb (others r a) 0
+agrees r m a = not (eqb (erasures m a) 0) || eqb (groupParity r a) 0
 
 abbrev pub everyGroup : (ℕ → Bool) → Bool
 everyGroup t = t 0 && t 4 && t 8 && t 12
@@ -51,7 +51,7 @@ everyGroup t = t 0 && t 4 && t 8 && t 12
 
 -- each unreadable byte is the ⊕ of the others in its group
 unfoldable pub restored : List ℕ → ℕ → List ℕ
-restored r m = table 16 (λ i. choose (unreadable m i) (others r (4 * (i / 4))) (r ! i))
+restored r m = table 16 (λ i. choose (unreadable m i) (groupParity r (4 * (i / 4))) (r ! i))
 
 -- the key of a TB7 form: the first three bytes of each group
 abbrev pub keyOf : List ℕ → List ℕ
@@ -61,7 +61,7 @@ keyOf y = ungrouped (3 ∷ 3 ∷ 3 ∷ 3 ∷ []) 0 y
 unfoldable pub restoreCall : List ℕ → ℕ → Card
 restoreCall x m =
     let r = readable x m in
-    card (first ((hasLength 16 x, wrongLength) ∷ (everyGroup (few m), groupUnreadable) ∷ (everyGroup (agrees r m), groupDisagrees) ∷ []))
+    card (first ((hasLength 16 x, wrongLength) ∷ (everyGroup (atMostOne m), groupUnreadable) ∷ (everyGroup (agrees r m), groupDisagrees) ∷ []))
     (keyOf (restored r m)) (restored r m)
 
 -- ---- what is proved of it

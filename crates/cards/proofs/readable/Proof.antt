@@ -22,7 +22,7 @@ loop-again c =
     let x = c .before .before .before .before .args in (
       omega arith,
       length-set (at .out) _ _ ∙ at .inv .1,
-      fill-next (at .out) (λ j. choose (unreadableOf (x .unreadable) j) 0 (x .t1 ! j)) (at .i) _ (omega arith) (picked (x .unreadable) (at .i) (c .before .gap .ensures .0) _ _ (c .pick .ensures)) (at .inv .2),
+      fill-next (at .out) (λ j. choose (unreadableOf (x .unreadable) j) 0 (x .t1 ! j)) (at .i) _ (omega arith) (picked (x .unreadable) (at .i) (c .before .erased .ensures .0) _ _ (c .pick .ensures)) (at .inv .2),
     )
 
 returns : tie.Need-returns Inv-loop μ-loop

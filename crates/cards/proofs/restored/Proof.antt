@@ -5,14 +5,14 @@ use lib.ListN.{length, take, length-set}
 use borrow.Author.Needs.{needs}
 use Rattle.standard.proofs.FillLaws.{fill-next, filled}
 use Rattle.standard.specs.Bytes.{_!_, table, choose}
-use Rattle.standard.specs.Cards.{unreadable as unreadableOf, others as othersOf, restored as restoredOf}
+use Rattle.standard.specs.Cards.{unreadable as unreadableOf, groupParity, restored as restoredOf}
 use Rattle.cards.proofs.GroupLaws.{picked}
 use Rattle.cards.proofs.restored.Statement.{statement}
 use Rattle.cards.proofs.restored.Tie as tie
 
 abbrev Inv-loop : tie.InvT-loop
 Inv-loop m read out₀ i₀ out i =
-    (i ≤ 16) × (length out ≡ 16) × (take i out ≡ table i (λ j. choose (unreadableOf m j) (othersOf read (4 * (j / 4))) (read ! j)))
+    (i ≤ 16) × (length out ≡ 16) × (take i out ≡ table i (λ j. choose (unreadableOf m j) (groupParity read (4 * (j / 4))) (read ! j)))
 
 abbrev μ-loop : tie.MeasureT-loop
 μ-loop m read out₀ i₀ out i = 16 - i
@@ -23,8 +23,8 @@ loop-again c =
     let x = c .before .before .before .before .before .args in (
       omega arith,
       length-set (at .out) _ _ ∙ at .inv .1,
-      fill-next (at .out) (λ j. choose (unreadableOf (x .unreadable) j) (othersOf (x .t1) (4 * (j / 4))) (x .t1 ! j)) (at .i) _ (omega arith)
-          (picked (x .unreadable) (at .i) (c .before .before .gap .ensures .0) _ _ (rw (c .before .others .ensures) at (c .pick .ensures))) (at .inv .2),
+      fill-next (at .out) (λ j. choose (unreadableOf (x .unreadable) j) (groupParity (x .t1) (4 * (j / 4))) (x .t1 ! j)) (at .i) _ (omega arith)
+          (picked (x .unreadable) (at .i) (c .before .before .erased .ensures .0) _ _ (rw (c .before .group-parity .ensures) at (c .pick .ensures))) (at .inv .2),
     )
 
 returns : tie.Need-returns Inv-loop μ-loop
@@ -32,7 +32,7 @@ unfolding restoredOf
 returns c =
     let at = c .before .loop in
     let x = c .before .before .args in
-    filled (at .out) (λ j. choose (unreadableOf (x .unreadable) j) (othersOf (x .t1) (4 * (j / 4))) (x .t1 ! j)) 16 (at .i) (at .inv .1) (omega arith) (at .inv .2)
+    filled (at .out) (λ j. choose (unreadableOf (x .unreadable) j) (groupParity (x .t1) (4 * (j / 4))) (x .t1 ! j)) 16 (at .i) (at .inv .1) (omega arith) (at .inv .2)
 
 pub restored-spec : {M : Type 1} → statement M
 restored-spec =

@@ -135,9 +135,9 @@ some-gap (place false x b g) s k h =
     (x ∷ i .0, record { bound = b; read = refl; more = i .1 })
 
 -- two gaps or more: the first of them may be 0 or 1
-two-gaps : (g : Group) (s : ℕ) → 1 < count g → s < 256 → Several (Fits g s)
-two-gaps end s k h = absurd (omega arith)
-two-gaps (place true x b g) s k h =
+two-erasures : (g : Group) (s : ℕ) → 1 < count g → s < 256 → Several (Fits g s)
+two-erasures end s k h = absurd (omega arith)
+two-erasures (place true x b g) s k h =
     let i = some-gap g (s ⊕ 0) (omega arith) (xor-byte s 0 h (omega arith)) in
     let j = some-gap g (s ⊕ 1) (omega arith) (xor-byte s 1 h (omega arith)) in
     record {
@@ -147,8 +147,8 @@ two-gaps (place true x b g) s k h =
       other-has = record { bound = omega arith; read = refl; more = j .1 };
       differ = λ e. suc-ne-zero 0 (sym (ap (λ (l : List ℕ). l ! 0) e));
     }
-two-gaps (place false x b g) s k h =
-    let i = two-gaps g (s ⊕ x) k (xor-byte s x h b) in
+two-erasures (place false x b g) s k h =
+    let i = two-erasures g (s ⊕ x) k (xor-byte s x h b) in
     record {
       one = x ∷ i .one;
       other = x ∷ i .other;
@@ -183,7 +183,7 @@ group-decided g = go (leb (count g) 1) refl (eqb (count g) 0) refl (eqb (rest 0 
     go true ea false eb c ec =
         let one : count g ≡ 1 = one-of (count g) (leb-true _ 1 ea) (eqb-false _ 0 eb) in
         record { has = one-gap g 0 one (omega arith); only = λ z f. one-gap-only g 0 z one f }
-    go false ea b eb c ec = inr (two-gaps g 0 (leb-false _ 1 ea) (omega arith))
+    go false ea b eb c ec = inr (two-erasures g 0 (leb-false _ 1 ea) (omega arith))
 
 -- where something fits a group without gaps, the ⊕ is right
 pub fits-right : (g : Group) (ys : List ℕ) → Fits g 0 ys → not (eqb (count g) 0) || eqb (rest 0 g) 0 ≡ true
