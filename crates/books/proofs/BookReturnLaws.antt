@@ -15,7 +15,7 @@ use Rattle.standard.specs.Lists.{each, listTests, refused}
 use Rattle.standard.specs.Refusals.{wrongLength, first}
 use Rattle.standard.specs.Runs.{firstPass, secondPass, callRuns}
 use Rattle.standard.specs.Sizes.{ringSize}
-use Rattle.books.specs.BothDirections.{sizeOf, toOf, recordOf, wayOf, faultAt, lookAt}
+use Rattle.books.specs.BothDirections.{sizeOf, toOf, recordOf, wayOf, faultAt, inspectionAt}
 use Rattle.books.specs.declared.walk.Way.{Way}
 
 -- ---- the cipher runs
@@ -49,30 +49,30 @@ module _ (r : List ℕ) (w : Way) (xs out : List ℕ) where
   unfolding bookCall
   ring-refused h =
       rw (ne-eqb _ _ h)
-      (ap₂ counted (call-refused wrongLength n (faultAt r w xs) bytes made out (λ e. omega arith)) (runs-refused wrongLength n (faultAt r w xs) (lookAt w xs) (λ e. omega arith)))
+      (ap₂ counted (call-refused wrongLength n (faultAt r w xs) bytes made out (λ e. omega arith)) (runs-refused wrongLength n (faultAt r w xs) (inspectionAt w xs) (λ e. omega arith)))
 
   module _ (h : length r ≡ ringSize) (number : ℕ) (e : number ≡ first (listTests (sizeOf w) (toOf w) (length xs) (length out))) where
     pub lengths-refused : (number ≡ 0 → ⊥) → counted (refused number 0, out) 0 ≡ bookCall (wayOf r w) r xs out
     unfolding bookCall
     lengths-refused z =
         rw (eq-eqb _ _ h, ← e)
-        (ap₂ counted (call-refused number n (faultAt r w xs) bytes made out z) (runs-refused number n (faultAt r w xs) (lookAt w xs) z))
+        (ap₂ counted (call-refused number n (faultAt r w xs) bytes made out z) (runs-refused number n (faultAt r w xs) (inspectionAt w xs) z))
 
     module _ (z : number ≡ 0) where
-      pub record-refused : (k i runs : ℕ) → Stopped n (faultAt r w xs) k i → runs ≡ firstPass n (faultAt r w xs) (lookAt w xs) → (k ≡ 0 → ⊥)
+      pub record-refused : (k i runs : ℕ) → Stopped n (faultAt r w xs) k i → runs ≡ firstPass n (faultAt r w xs) (inspectionAt w xs) → (k ≡ 0 → ⊥)
           → counted (refused k i, out) runs ≡ bookCall (wayOf r w) r xs out
       unfolding bookCall
       record-refused k i runs s p f =
           rw (eq-eqb _ _ h, ← e)
-          (ap₂ counted (call-stopped number n (faultAt r w xs) bytes made out z k i s f) (p ∙ runs-stopped number n (faultAt r w xs) (lookAt w xs) z k i s f))
+          (ap₂ counted (call-stopped number n (faultAt r w xs) bytes made out z k i s f) (p ∙ runs-stopped number n (faultAt r w xs) (inspectionAt w xs) z k i s f))
 
       pub all-written : Clean (faultAt r w xs) n → (exit : List ℕ) → exit ≡ made ++ drop bytes out
-          → (looks writes : ℕ) → looks ≡ firstPass n (faultAt r w xs) (lookAt w xs) → writes ≡ secondPass n
-          → (record { refusal = 0; index = n; written = bytes; runs = looks + writes }, exit) ≡ bookCall (wayOf r w) r xs out
+          → (inspections writes : ℕ) → inspections ≡ firstPass n (faultAt r w xs) (inspectionAt w xs) → writes ≡ secondPass n
+          → (record { refusal = 0; index = n; written = bytes; runs = inspections + writes }, exit) ≡ bookCall (wayOf r w) r xs out
       unfolding bookCall
-      all-written none exit k looks writes p q =
+      all-written none exit k inspections writes p q =
           rw (eq-eqb _ _ h, ← e)
-          (ap₂ counted (call-done number n (faultAt r w xs) bytes made out z none exit k) (ap₂ _+_ p q ∙ runs-done number n (faultAt r w xs) (lookAt w xs) z none))
+          (ap₂ counted (call-done number n (faultAt r w xs) bytes made out z none exit k) (ap₂ _+_ p q ∙ runs-done number n (faultAt r w xs) (inspectionAt w xs) z none))
 
       pub room : bytes ≤ length out
       room = leb-true _ _ (all-pass (listTests (sizeOf w) (toOf w) (length xs) (length out)) refl (sym e ∙ z) 2)

@@ -10,14 +10,14 @@ use lib.ListN.{length}
 use Rattle.lists.proofs.WalkLaws.{ends}
 use Rattle.records.specs.RecordForms.{coreKey, plainInput, sealedWith, openedWith}
 use Rattle.standard.proofs.AnswerLaws.{pass-most}
-use Rattle.standard.proofs.RunLaws.{look-most}
+use Rattle.standard.proofs.RunLaws.{inspection-most}
 use Rattle.standard.specs.Books.{commonKey, sealRecord, openRecord}
 use Rattle.standard.specs.Bytes.{choose}
 use Rattle.standard.specs.Identity.{bc}
 use Rattle.standard.specs.Lists.{each}
 use Rattle.standard.specs.Runs.{firstPass, secondPass}
 use Rattle.standard.specs.Seals.{seal, sealed, unseal, opened}
-use Rattle.books.specs.BothDirections.{sizeOf, toOf, recordOf, inputOf, coreOf, madeOf, convertOf, faultAt, lookOf, lookAt}
+use Rattle.books.specs.BothDirections.{sizeOf, toOf, recordOf, inputOf, coreOf, madeOf, convertOf, faultAt, inspectionOf, inspectionAt}
 use Rattle.books.specs.declared.walk.Way.{Way}
 use Rattle.books.specs.declared.walk.Way.the-variants.{Sealing, Opening}
 
@@ -29,16 +29,16 @@ sizes Opening = omega arith
 pub fits : (v i n s most : ℕ) → s ≡ v → i < n → v * n ≤ most → s * i + s ≤ most
 fits v i n s most e h r = rw e (omega (arith, ends v i n h, r))
 
--- the cipher runs: two for a look at most, and none for a look at a plain record
-pub looks-most : (w : Way) (x : List ℕ) → lookOf w x ≤ 2
-looks-most Sealing x = omega arith
-looks-most Opening x = look-most x
+-- the cipher runs: two for an inspection at most, and none for an inspection of a plain record
+pub inspections-most : (w : Way) (x : List ℕ) → inspectionOf w x ≤ 2
+inspections-most Sealing x = omega arith
+inspections-most Opening x = inspection-most x
 
-pub looks-few : (r : List ℕ) (w : Way) (xs : List ℕ) (n : ℕ) → firstPass n (faultAt r w xs) (lookAt w xs) ≤ 2 * n
-looks-few r w xs n = pass-most (faultAt r w xs) (lookAt w xs) 2 n (λ j. looks-most w _)
+pub inspections-few : (r : List ℕ) (w : Way) (xs : List ℕ) (n : ℕ) → firstPass n (faultAt r w xs) (inspectionAt w xs) ≤ 2 * n
+inspections-few r w xs n = pass-most (faultAt r w xs) (inspectionAt w xs) 2 n (λ j. inspections-most w _)
 
-pub plain-looks : (r xs : List ℕ) (n : ℕ) → firstPass n (faultAt r Sealing xs) (lookAt Sealing xs) ≡ 0
-plain-looks r xs n = omega (arith, pass-most (faultAt r Sealing xs) (lookAt Sealing xs) 0 n (λ j. omega arith))
+pub plain-inspections : (r xs : List ℕ) (n : ℕ) → firstPass n (faultAt r Sealing xs) (inspectionAt Sealing xs) ≡ 0
+plain-inspections r xs n = omega (arith, pass-most (faultAt r Sealing xs) (inspectionAt Sealing xs) 0 n (λ j. omega arith))
 
 -- they fit where a book of n records does
 pub runs-fit : (w : Way) (n size : ℕ) → sizeOf w * n ≤ size → 4 * n ≤ size
@@ -46,12 +46,12 @@ runs-fit Sealing n size h = omega (arith, h)
 runs-fit Opening n size h = omega (arith, h)
 
 pub both-fit : (r : List ℕ) (w : Way) (xs : List ℕ) (n size : ℕ) → sizeOf w * n ≤ size
-    → firstPass n (faultAt r w xs) (lookAt w xs) + secondPass n ≤ size + 1
+    → firstPass n (faultAt r w xs) (inspectionAt w xs) + secondPass n ≤ size + 1
 both-fit r w xs n size h = go (eqb n 0)
   where
-    go : (t : Bool) → firstPass n (faultAt r w xs) (lookAt w xs) + (choose t 0 1 + 2 * n) ≤ size + 1
-    go true = omega (arith, looks-few r w xs n, runs-fit w n size h)
-    go false = omega (arith, looks-few r w xs n, runs-fit w n size h)
+    go : (t : Bool) → firstPass n (faultAt r w xs) (inspectionAt w xs) + (choose t 0 1 + 2 * n) ≤ size + 1
+    go true = omega (arith, inspections-few r w xs n, runs-fit w n size h)
+    go false = omega (arith, inspections-few r w xs n, runs-fit w n size h)
 
 pub made-length : (w : Way) (b x o : List ℕ) → length (madeOf w b x o) ≡ toOf w
 unfolding sealedWith openedWith

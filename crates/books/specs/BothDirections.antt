@@ -5,7 +5,7 @@ use Prim.Native.Nat.{ℕ}
 use Rattle.cores.specs.declared.CoreOutput15.{CoreOutput15}
 use Rattle.cores.specs.declared.CoreOutput16.{CoreOutput16}
 use Rattle.records.specs.RecordForms.{coreKey, plainInput, sealedWith, openedWith}
-use Rattle.standard.specs.Books.{plainFault, sealRecord, openFault, openLook, openRecord, Way as WayOf}
+use Rattle.standard.specs.Books.{plainFault, sealRecord, openFault, inspectionRuns, openRecord, Way as WayOf}
 use Rattle.standard.specs.Bytes.{part}
 use Rattle.standard.specs.Cores.{bl1, bl2}
 use Rattle.standard.specs.Lists.{recordAt}
@@ -26,24 +26,24 @@ abbrev pub faultOf : List ℕ → Way → List ℕ → ℕ
 faultOf r Sealing = plainFault
 faultOf r Opening = openFault r
 
-abbrev pub lookOf : Way → List ℕ → ℕ
-lookOf Sealing = λ p. 0
-lookOf Opening = openLook
+abbrev pub inspectionOf : Way → List ℕ → ℕ
+inspectionOf Sealing = λ p. 0
+inspectionOf Opening = inspectionRuns
 
 abbrev pub recordOf : List ℕ → Way → List ℕ → List ℕ
 recordOf r Sealing = sealRecord r
 recordOf r Opening = openRecord r
 
 abbrev pub wayOf : List ℕ → Way → WayOf
-wayOf r w = record { size = sizeOf w; to = toOf w; fault = faultOf r w; look = lookOf w; convert = recordOf r w }
+wayOf r w = record { size = sizeOf w; to = toOf w; fault = faultOf r w; inspection = inspectionOf w; convert = recordOf r w }
 
 -- the fault of record i of a book
 abbrev pub faultAt : List ℕ → Way → List ℕ → ℕ → ℕ
 faultAt r w xs i = faultOf r w (recordAt (sizeOf w) xs i)
 
--- the cipher runs of a look at it
-abbrev pub lookAt : Way → List ℕ → ℕ → ℕ
-lookAt w xs i = lookOf w (recordAt (sizeOf w) xs i)
+-- the cipher runs of an inspection of it
+abbrev pub inspectionAt : Way → List ℕ → ℕ → ℕ
+inspectionAt w xs i = inspectionOf w (recordAt (sizeOf w) xs i)
 
 -- what a record becomes, from the output b of the cipher run that gives the ring's identity strings: the core's input, the core, and
 -- what is made of its output

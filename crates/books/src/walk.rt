@@ -2,7 +2,7 @@
 // that writes leaves that to `convert`, for one record or for four.
 use crate::convert::convert_four;
 use crate::convert::convert_one;
-use records::open_fault;
+use records::inspect_sealed;
 use records::plain_fault;
 use records::strings_of;
 use standard::PLAIN_RECORD;
@@ -17,7 +17,7 @@ ghost use Rattle.standard.specs.Books.{plainFault};
 ghost use Rattle.standard.specs.Lists.{recordAt, each};
 ghost use Rattle.standard.specs.Runs.{textRuns, firstPass, secondPass};
 ghost use Rattle.standard.specs.Sizes.{plainSize, sealedSize};
-ghost use Rattle.books.specs.BothDirections.{sizeOf, toOf, convertOf, recordOf, faultAt, lookAt};
+ghost use Rattle.books.specs.BothDirections.{sizeOf, toOf, convertOf, recordOf, faultAt, inspectionAt};
 ghost use Rattle.books.specs.declared.walk.Way.the-variants.{Opening};
 
 pub enum Way {
@@ -81,17 +81,17 @@ pub(crate) fn scan_plain(plain: &[u8], n: usize) -> Stop
 fn scan_sealed(ring: &RingBytes, sealed: &[u8], n: usize) -> Stop
     requires { ⌜ sealedSize * n ≤ length (now sealed) ⌝ }
     ensures { λ s. ⌜ Stopped n (faultAt (now (ring .entry)) Opening (now (sealed .entry))) (s .number) (s .index)
-        × (s .runs ≡ firstPass n (faultAt (now (ring .entry)) Opening (now (sealed .entry))) (lookAt Opening (now (sealed .entry)))) ⌝ }
+        × (s .runs ≡ firstPass n (faultAt (now (ring .entry)) Opening (now (sealed .entry))) (inspectionAt Opening (now (sealed .entry)))) ⌝ }
 {
     let mut runs = 0;
     let mut index = 0;
     while index < n {
         let a = SEALED_RECORD * index;
-        let look = open_fault(ring, &sealed[a..a + SEALED_RECORD]);
-        runs += look.runs;
-        if look.number != 0 {
+        let inspection = inspect_sealed(ring, &sealed[a..a + SEALED_RECORD]);
+        runs += inspection.runs;
+        if inspection.number != 0 {
             return Stop {
-                number: look.number,
+                number: inspection.number,
                 index,
                 runs,
             };
@@ -108,7 +108,7 @@ fn scan_sealed(ring: &RingBytes, sealed: &[u8], n: usize) -> Stop
 pub(crate) fn scan(way: Way, ring: &RingBytes, book: &[u8], n: usize) -> Stop
     requires { ⌜ sizeOf way * n ≤ length (now book) ⌝ }
     ensures { λ s. ⌜ Stopped n (faultAt (now (ring .entry)) way (now (book .entry))) (s .number) (s .index)
-        × (s .runs ≡ firstPass n (faultAt (now (ring .entry)) way (now (book .entry))) (lookAt way (now (book .entry)))) ⌝ }
+        × (s .runs ≡ firstPass n (faultAt (now (ring .entry)) way (now (book .entry))) (inspectionAt way (now (book .entry)))) ⌝ }
 {
     match way {
         Way::Sealing => scan_plain(book, n),

@@ -6,7 +6,7 @@ use mathlib.Core.Path.{_≡_, sym, ap, _∙_}
 use Prim.Native.Nat.{ℕ}
 use lib.ListN.{length, take, drop}
 use borrow.Author.Tests.{not-true, not-false}
-use Rattle.standard.specs.Books.{sealingKey, named, plainFault, openFault, openLook}
+use Rattle.standard.specs.Books.{sealingKey, named, plainFault, openFault, inspectionRuns}
 use Rattle.standard.specs.Bytes.{_!_, part, bytesOf}
 use Rattle.standard.specs.Identity.{encryptIdentity, decryptIdentity}
 use Rattle.standard.specs.Seals.{clear, kindOf, form, opened, fails, clears}
@@ -36,13 +36,13 @@ pub open-unknown : (r t : List ℕ) → kindOf (t ! 0) ≡ Unknown → 3 ≡ ope
 unfolding openFault
 open-unknown r t e = rw e
 
-pub look-unknown : (t : List ℕ) → kindOf (t ! 0) ≡ Unknown → 0 ≡ openLook t
-unfolding openLook
-look-unknown t e = rw e
+pub inspection-unknown : (t : List ℕ) → kindOf (t ! 0) ≡ Unknown → 0 ≡ inspectionRuns t
+unfolding inspectionRuns
+inspection-unknown t e = rw e
 
-pub look-known : (t : List ℕ) (k : Kind) → kindOf (t ! 0) ≡ Known k → 2 ≡ openLook t
-unfolding openLook
-look-known t k e = rw e
+pub inspection-known : (t : List ℕ) (k : Kind) → kindOf (t ! 0) ≡ Known k → 2 ≡ inspectionRuns t
+unfolding inspectionRuns
+inspection-known t k e = rw e
 
 module _ (r t : List ℕ) (k : Kind) (e : kindOf (t ! 0) ≡ Known k) (key : List ℕ) (q : key ≡ form k .key (sealingKey k r) (part 4 2 t)) where
   cleared : (b : Bool) → clear (form k) (opened key (part 6 15 t)) ≡ b → clears (form k) (sealingKey k r) (part 4 2 t) (part 6 15 t) ≡ b

@@ -38,7 +38,7 @@ ghost use mathlib.Core.List.{[], _∷_, _++_};
 ghost use mathlib.Core.Path.{_≡_};
 ghost use lib.Dec.{eqb, leb};
 ghost use lib.ListN.{length, take, drop};
-ghost use Rattle.standard.specs.Books.{commonKey, named, plainFault, openFault, openLook};
+ghost use Rattle.standard.specs.Books.{commonKey, named, plainFault, openFault, inspectionRuns};
 ghost use Rattle.standard.specs.Bytes.{_!_, part};
 ghost use Rattle.standard.specs.Identity.{bc as bcOf};
 ghost use Rattle.standard.specs.Refusals.{notZero, wrongNumber, first};
@@ -109,19 +109,19 @@ pub fn plain_fault(rec: &[u8]) -> u32
     body_fault(kind, body_part(p))
 }
 
-// What a look at a sealed record finds: its refusal, or 0, and the block cipher runs that the look took.
-pub struct Look {
+// What the inspection of a sealed record finds: its refusal, or 0, and the block cipher runs that it took.
+pub struct Inspection {
     pub number: u32,
     pub runs: usize,
 }
 
-// A look at a sealed record under a ring.
-pub fn open_fault(ring: &RingBytes, rec: &[u8]) -> Look
-    ensures { λ l. ⌜ (l .number ≡ openFault (now (ring .entry)) (now (rec .entry))) × (l .runs ≡ openLook (now (rec .entry))) ⌝ }
+// The inspection of a sealed record under a ring.
+pub fn inspect_sealed(ring: &RingBytes, rec: &[u8]) -> Inspection
+    ensures { λ l. ⌜ (l .number ≡ openFault (now (ring .entry)) (now (rec .entry))) × (l .runs ≡ inspectionRuns (now (rec .entry))) ⌝ }
 {
     let t = array21(rec);
     let Named::Known(kind) = Kind::from_byte(t[0]) else {
-        return Look {
+        return Inspection {
             number: WRONG_KIND,
             runs: 0,
         };
@@ -130,12 +130,12 @@ pub fn open_fault(ring: &RingBytes, rec: &[u8]) -> Look
     let key = core_key(kind, ring, version_of(sealed_head(t)));
     let flag = flag_of(algorithm, key, text_part(t));
     if flag.set {
-        return Look {
+        return Inspection {
             number: FLAG_SET,
             runs: flag.runs,
         };
     }
-    Look {
+    Inspection {
         number: 0,
         runs: flag.runs,
     }

@@ -97,7 +97,7 @@ module _ (g l : ℕ → ℕ) where
       go true h = rw mul-suc (omega (arith, h, e n))
       go false h = rw mul-suc (omega (arith, h))
 
--- both passes of an accepted book in which a look takes k runs
+-- both passes of an accepted book in which an inspection takes k runs
 pub passes : (k n : ℕ) → k * n + secondPass n ≡ acceptedRuns (k + 2) n
 passes k zero = rw mul-zero
 passes k (suc n) = rw (ne-eqb (suc n) 0 (λ e. omega arith), add-mul) (omega arith)
@@ -189,7 +189,7 @@ module _ (W : Way) (r xs out : List ℕ) where
   g i = W .fault (recordAt (W .size) xs i)
 
   abbrev pub l : ℕ → ℕ
-  l i = W .look (recordAt (W .size) xs i)
+  l i = W .inspection (recordAt (W .size) xs i)
 
   abbrev pub tests : List (Bool × ℕ)
   tests = (hasLength ringSize r, wrongLength) ∷ listTests (W .size) (W .to) (length xs) (length out)
@@ -222,13 +222,13 @@ module _ (W : Way) (r xs out : List ℕ) where
         let t = call-tests e in
         book-of (W .size) (W .fault) xs b (leb-true _ _ (t .0 1)) (eqb-true _ _ (t .0 2)) (t .1)
 
-    -- where a look at a record without a fault takes c runs
-    pub call-accepts : (c : ℕ) → ((x : List ℕ) → W .fault x ≡ 0 → W .look x ≡ c) → length r ≡ ringSize → W .to * n ≤ length out → Good xs
+    -- where an inspection of a record without a fault takes c runs
+    pub call-accepts : (c : ℕ) → ((x : List ℕ) → W .fault x ≡ 0 → W .inspection x ≡ c) → length r ≡ ringSize → W .to * n ≤ length out → Good xs
         → bookCall W r xs out
         ≡ (record { refusal = 0; index = n; written = W .to * n; runs = acceptedRuns (c + 2) n }, each n (W .size) (W .convert) xs ++ drop (W .to * n) out)
     unfolding bookCall written
-    call-accepts c look hr room k =
+    call-accepts c inspection hr room k =
         let head : first tests ≡ 0 =
         rw (eq-eqb _ _ hr, le-leb _ _ (few-of (W .size) (W .fault) xs k), eq-eqb _ _ (whole-of (W .size) (W .fault) xs k), le-leb _ _ room) in
         let good = good-of (W .size) (W .fault) xs k in
-        rw (accepted (first tests) n g (W .to * n) head good, head, eq-eqb _ _ (no-fault n g good), pass-clean g l c n good (λ i h. look _ (good i h)), passes c n)
+        rw (accepted (first tests) n g (W .to * n) head good, head, eq-eqb _ _ (no-fault n g good), pass-clean g l c n good (λ i h. inspection _ (good i h)), passes c n)

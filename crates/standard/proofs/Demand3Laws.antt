@@ -22,7 +22,7 @@ use Rattle.standard.proofs.AnswerLaws.{is-accepted, accepted, lengths-f
 use Rattle.standard.proofs.BookLaws.{Book, books, mapped-length}
 use Rattle.standard.proofs.InverseLaws.{Inverse, is-image, of-one, reversed}
 use Rattle.standard.proofs.RecordLaws.{record-law}
-use Rattle.standard.proofs.RunLaws.{look-clear}
+use Rattle.standard.proofs.RunLaws.{inspection-clear}
 
 abbrev PlainBook : List ℕ → Type 0
 PlainBook = Book plainSize (λ p. eqb (plainFault p) 0)
@@ -77,7 +77,7 @@ module _ (r : List ℕ) (hr : Bytes ringSize r) where
           → openBook r s out
           ≡ (record { refusal = 0; index = length s / sealedSize; written = plainSize * (length s / sealedSize); runs = acceptedRuns 4 (length s / sealedSize) }, each (length s / sealedSize) sealedSize (openRecord r) s ++ drop (plainSize * (length s / sealedSize)) out)
       unfolding openBook
-      accepts b = call-accepts (opening r) r s out bs 2 (look-clear r) (hr .len) room b
+      accepts b = call-accepts (opening r) r s out bs 2 (inspection-clear r) (hr .len) room b
 
       opens : (openBook r s out .0 .refusal ≡ 0) ↔ ((p : List ℕ) × IsSealedForm r p s)
       unfolding openBook

@@ -11,7 +11,7 @@ use lib.Dec.{eqb}
 use lib.ListN.{length, drop, List·getD-append}
 use lib.Pow.{pow-pos}
 use borrow.Author.Tests.{eqb-true, eqb-false, eq-eqb, ne-eqb, le-leb}
-use Rattle.standard.specs.Books.{recordKind, sealingKey, plainFault, openRecord, openFault, openLook, bookCall, sealBook, openBook, checkPlain}
+use Rattle.standard.specs.Books.{recordKind, sealingKey, plainFault, openRecord, openFault, inspectionRuns, bookCall, sealBook, openBook, checkPlain}
 use Rattle.standard.specs.Bytes.{_!_, bit, part, zeros, bytesOf, choose}
 use Rattle.standard.specs.Classes.{classRecord, ta12ClassCall}
 use Rattle.standard.specs.Cores.{bl1With, bl1}
@@ -282,7 +282,7 @@ same-fault r t = rw (flag-same (recordKind t .algorithm) (opened (form (recordKi
 pub same-books : SameBooks
 unfolding openBook
 same-books r s out =
-    ap (λ (g : List ℕ → ℕ). bookCall (record { size = sealedSize; to = plainSize; fault = g; look = openLook; convert = openRecord r }) r s out)
+    ap (λ (g : List ℕ → ℕ). bookCall (record { size = sealedSize; to = plainSize; fault = g; inspection = inspectionRuns; convert = openRecord r }) r s out)
     (fun-ext (same-fault r))
 
 -- ---- plainlist's checks (01)

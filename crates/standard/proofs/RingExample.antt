@@ -1,7 +1,7 @@
 -- Records under two rings do not open as one book (02, 14): an example, by computation.
 -- Assumes nothing.
 use mathlib.Core.Path.{refl}
-use Rattle.standard.specs.Books.{openFault, openLook, sealRecord, sealedForm, bookCall, openBook}
+use Rattle.standard.specs.Books.{openFault, inspectionRuns, sealRecord, sealedForm, bookCall, openBook}
 use Rattle.standard.specs.Bytes.{bit}
 use Rattle.standard.specs.Cores.{bl1, bl1With, bl2}
 use Rattle.standard.specs.Expansions.{exp4}
@@ -11,5 +11,5 @@ use Rattle.standard.specs.Seals.{kindOf, key10, sealed, opened, seal, fa
 use Rattle.standard.specs.Shuffles.{TwoRings}
 
 pub two-rings : TwoRings
-unfolding openBook bookCall written answer sealedForm sealRecord openFault openLook kindOf seal sealed fails opened key10 exp4 bl1 bl1With bl2 encrypt decrypt crypt rounds round f T S bit laid Q D a
+unfolding openBook bookCall written answer sealedForm sealRecord openFault inspectionRuns kindOf seal sealed fails opened key10 exp4 bl1 bl1With bl2 encrypt decrypt crypt rounds round f T S bit laid Q D a
 two-rings = refl

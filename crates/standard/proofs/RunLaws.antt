@@ -9,7 +9,7 @@ use native.Mathlib.Nat.{add-mul}
 use native.Mathlib.Omega.{arith}
 use lib.Dec.{eqb}
 use borrow.Author.Tests.{eqb-true, eqb-false}
-use Rattle.standard.specs.Books.{Way, sealing, opening, sealingKey, isKnown, recordKind, openFault, openLook, bookCall, sealBook, openBook}
+use Rattle.standard.specs.Books.{Way, sealing, opening, sealingKey, isKnown, recordKind, openFault, inspectionRuns, bookCall, sealBook, openBook}
 use Rattle.standard.specs.Bytes.{_!_, part, choose}
 use Rattle.standard.specs.Lists.{recordAt, firstFault, refused, answer, written}
 use Rattle.standard.specs.Refusals.{wrongKind, flagSet, first}
@@ -65,33 +65,33 @@ module _ (head n : ℕ) (g l : ℕ → ℕ) (bytes : ℕ) where
       outer true e = inner (first-fault n g) (eqb (firstFault n g) n) refl
       outer false e = inl (record { some = eqb-false head 0 e; is = refl; took = refl })
 
--- ---- a look at a sealed record
+-- ---- an inspection of a sealed record
 
 -- by whether its kind is known and its check clear
-abbrev Looked : (fault look : ℕ) → Type 0
-Looked fault look =
-    ((fault ≡ 0) × (look ≡ 2)) ⊎ (((fault ≡ flagSet) × (look ≡ 2)) ⊎ ((fault ≡ wrongKind) × (look ≡ 0)))
+abbrev Inspected : (fault inspection : ℕ) → Type 0
+Inspected fault inspection =
+    ((fault ≡ 0) × (inspection ≡ 2)) ⊎ (((fault ≡ flagSet) × (inspection ≡ 2)) ⊎ ((fault ≡ wrongKind) × (inspection ≡ 0)))
 
-looked : (r t : List ℕ) → Looked (openFault r t) (openLook t)
-unfolding openFault openLook
-looked r t = go (isKnown (kindOf (t ! 0))) (clears (form (recordKind t)) (sealingKey (recordKind t) r) (part 4 2 t) (part 6 15 t))
+inspected : (r t : List ℕ) → Inspected (openFault r t) (inspectionRuns t)
+unfolding openFault inspectionRuns
+inspected r t = go (isKnown (kindOf (t ! 0))) (clears (form (recordKind t)) (sealingKey (recordKind t) r) (part 4 2 t) (part 6 15 t))
   where
-    go : (known clear : Bool) → Looked (first ((known, wrongKind) ∷ (clear, flagSet) ∷ [])) (choose known textRuns 0)
+    go : (known clear : Bool) → Inspected (first ((known, wrongKind) ∷ (clear, flagSet) ∷ [])) (choose known textRuns 0)
     go true true = inl (refl, refl)
     go true false = inr (inl (refl, refl))
     go false clear = inr (inr (refl, refl))
 
-pub look-clear : (r t : List ℕ) → openFault r t ≡ 0 → openLook t ≡ 2
-look-clear r t e = go (looked r t)
+pub inspection-clear : (r t : List ℕ) → openFault r t ≡ 0 → inspectionRuns t ≡ 2
+inspection-clear r t e = go (inspected r t)
   where
-    go : Looked (openFault r t) (openLook t) → openLook t ≡ 2
+    go : Inspected (openFault r t) (inspectionRuns t) → inspectionRuns t ≡ 2
     go (inl a) = a .1
     go (inr (inl a)) = a .1
     go (inr (inr a)) = absurd (omega (arith, e, a .0))
 
-pub look-most : (t : List ℕ) → openLook t ≤ 2
-unfolding openLook
-look-most t = go (isKnown (kindOf (t ! 0)))
+pub inspection-most : (t : List ℕ) → inspectionRuns t ≤ 2
+unfolding inspectionRuns
+inspection-most t = go (isKnown (kindOf (t ! 0)))
   where
     go : (known : Bool) → choose known textRuns 0 ≤ 2
     go true = omega arith
@@ -118,8 +118,8 @@ module _ (W : Way) (r xs out : List ℕ) where
   unfolding bookCall written
   call-ends = ends (first (tests W r xs out)) (n W r xs out) (g W r xs out) (l W r xs out) (W .to * n W r xs out)
 
-  -- where a look at a record without a fault takes c runs
-  module _ (c : ℕ) (look : (x : List ℕ) → W .fault x ≡ 0 → W .look x ≡ c) where
+  -- where an inspection of a record without a fault takes c runs
+  module _ (c : ℕ) (inspection : (x : List ℕ) → W .fault x ≡ 0 → W .inspection x ≡ c) where
     accepted-runs : refusalOf ≡ 0 → runsOf ≡ acceptedRuns (c + 2) (n W r xs out)
     accepted-runs e = go call-ends
       where
@@ -127,19 +127,19 @@ module _ (W : Way) (r xs out : List ℕ) where
         go (inl h) = absurd (h .some (sym (h .is) ∙ e))
         go (inr (inl h)) = absurd (h .some e)
         go (inr (inr h)) =
-            h .took ∙ ap (λ (k : ℕ). k + secondPass (n W r xs out)) (pass-clean _ _ c _ (h .none) (λ j k. look _ (h .none j k))) ∙ passes c (n W r xs out)
+            h .took ∙ ap (λ (k : ℕ). k + secondPass (n W r xs out)) (pass-clean _ _ c _ (h .none) (λ j k. inspection _ (h .none j k))) ∙ passes c (n W r xs out)
 
     stopped-runs : Stopped (n W r xs out) (g W r xs out) (l W r xs out) refusalOf indexOf runsOf → runsOf ≡ c * indexOf + l W r xs out indexOf
     stopped-runs h =
-        h .took ∙ ap (λ (k : ℕ). k + l W r xs out indexOf) (pass-clean _ _ c indexOf (h .below) (λ j k. look _ (h .below j k)))
+        h .took ∙ ap (λ (k : ℕ). k + l W r xs out indexOf) (pass-clean _ _ c indexOf (h .below) (λ j k. inspection _ (h .below j k)))
 
-  -- where no look takes more than c
-  most-runs : (c : ℕ) → ((x : List ℕ) → W .look x ≤ c) → runsOf ≤ 1 + (c + 2) * n W r xs out
+  -- where no inspection takes more than c
+  most-runs : (c : ℕ) → ((x : List ℕ) → W .inspection x ≤ c) → runsOf ≤ 1 + (c + 2) * n W r xs out
   unfolding bookCall written
-  most-runs c look = go (eqb (first (tests W r xs out)) 0) (eqb (firstFault (n W r xs out) (g W r xs out)) (n W r xs out)) (eqb (n W r xs out) 0)
+  most-runs c inspection = go (eqb (first (tests W r xs out)) 0) (eqb (firstFault (n W r xs out) (g W r xs out)) (n W r xs out)) (eqb (n W r xs out) 0)
     where
       first-most : firstPass (n W r xs out) (g W r xs out) (l W r xs out) ≤ c * n W r xs out
-      first-most = pass-most (g W r xs out) (l W r xs out) c (n W r xs out) (λ j. look _)
+      first-most = pass-most (g W r xs out) (l W r xs out) c (n W r xs out) (λ j. inspection _)
 
       go : (s t u : Bool)
           → choose s (firstPass (n W r xs out) (g W r xs out) (l W r xs out) + choose t (choose u 0 1 + 2 * n W r xs out) 0) 0 ≤ 1 + (c + 2) * n W r xs out
@@ -166,8 +166,8 @@ seal-runs = record {
 pub open-runs : OpenRuns
 unfolding openBook
 open-runs = record {
-  accepted = λ r s out. accepted-runs (opening r) r s out 2 (look-clear r);
-  most = λ r s out. most-runs (opening r) r s out 2 look-most;
+  accepted = λ r s out. accepted-runs (opening r) r s out 2 (inspection-clear r);
+  most = λ r s out. most-runs (opening r) r s out 2 inspection-most;
 }
 
 module _ (r s out : List ℕ) where
@@ -177,30 +177,30 @@ module _ (r s out : List ℕ) where
   abbrev fault : ℕ
   fault = openFault r (recordAt sealedSize s (a .index))
 
-  abbrev look : ℕ
-  look = openLook (recordAt sealedSize s (a .index))
+  abbrev inspection : ℕ
+  inspection = inspectionRuns (recordAt sealedSize s (a .index))
 
   -- a refusal that no test of the lengths gives is that of the record at the index
-  refused-at : (k : ℕ) → lacks k (tests (opening r) r s out) ≡ true → (k ≡ 0 → ⊥) → a .refusal ≡ k → (fault ≡ k) × (a .runs ≡ 2 * a .index + look)
+  refused-at : (k : ℕ) → lacks k (tests (opening r) r s out) ≡ true → (k ≡ 0 → ⊥) → a .refusal ≡ k → (fault ≡ k) × (a .runs ≡ 2 * a .index + inspection)
   refused-at k h some e = go (call-ends (opening r) r s out)
     where
-      go : CallEnds (opening r) r s out → (fault ≡ k) × (a .runs ≡ 2 * a .index + look)
+      go : CallEnds (opening r) r s out → (fault ≡ k) × (a .runs ≡ 2 * a .index + inspection)
       go (inl q) = absurd (not-first k (tests (opening r) r s out) h (sym (q .is) ∙ e))
-      go (inr (inl q)) = (sym (q .is) ∙ e, stopped-runs (opening r) r s out 2 (look-clear r) q)
+      go (inr (inl q)) = (sym (q .is) ∙ e, stopped-runs (opening r) r s out 2 (inspection-clear r) q)
       go (inr (inr q)) = absurd (some (sym e ∙ q .is))
 
   flag : a .refusal ≡ flagSet → a .runs ≡ 2 * (a .index + 1)
-  flag e = let f = refused-at flagSet refl (λ z. omega arith) e in go f (looked r _)
+  flag e = let f = refused-at flagSet refl (λ z. omega arith) e in go f (inspected r _)
     where
-      go : (fault ≡ flagSet) × (a .runs ≡ 2 * a .index + look) → Looked fault look → a .runs ≡ 2 * (a .index + 1)
+      go : (fault ≡ flagSet) × (a .runs ≡ 2 * a .index + inspection) → Inspected fault inspection → a .runs ≡ 2 * (a .index + 1)
       go f (inl q) = omega (arith, f .0, q .0)
       go f (inr (inl q)) = omega (arith, f .1, q .1)
       go f (inr (inr q)) = omega (arith, f .0, q .0)
 
   kind : a .refusal ≡ wrongKind → a .runs ≡ 2 * a .index
-  kind e = let f = refused-at wrongKind refl (λ z. omega arith) e in go f (looked r _)
+  kind e = let f = refused-at wrongKind refl (λ z. omega arith) e in go f (inspected r _)
     where
-      go : (fault ≡ wrongKind) × (a .runs ≡ 2 * a .index + look) → Looked fault look → a .runs ≡ 2 * a .index
+      go : (fault ≡ wrongKind) × (a .runs ≡ 2 * a .index + inspection) → Inspected fault inspection → a .runs ≡ 2 * a .index
       go f (inl q) = omega (arith, f .0, q .0)
       go f (inr (inl q)) = omega (arith, f .0, q .0)
       go f (inr (inr q)) = omega (arith, f .1, q .1)
@@ -208,14 +208,14 @@ module _ (r s out : List ℕ) where
   other : (a .refusal ≡ 0 → ⊥) → (a .refusal ≡ flagSet → ⊥) → (a .refusal ≡ wrongKind → ⊥) → a .runs ≡ 0
   other z f k = go (call-ends (opening r) r s out)
     where
-      record-refused : a .refusal ≡ fault → Looked fault look → ⊥
+      record-refused : a .refusal ≡ fault → Inspected fault inspection → ⊥
       record-refused e (inl q) = z (e ∙ q .0)
       record-refused e (inr (inl q)) = f (e ∙ q .0)
       record-refused e (inr (inr q)) = k (e ∙ q .0)
 
       go : CallEnds (opening r) r s out → a .runs ≡ 0
       go (inl q) = q .took
-      go (inr (inl q)) = absurd (record-refused (q .is) (looked r _))
+      go (inr (inl q)) = absurd (record-refused (q .is) (inspected r _))
       go (inr (inr q)) = absurd (z (q .is))
 
 pub refused-runs : RefusedRuns

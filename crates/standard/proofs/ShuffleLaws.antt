@@ -22,7 +22,7 @@ use Rattle.standard.proofs.BookLaws.{Book, joined-same, joined-add, joi
 use Rattle.standard.proofs.BytesLaws.{bytes-append, bytes-part, part-left, table-same}
 use Rattle.standard.proofs.Demand3Laws.{book, well-formed, book-law}
 use Rattle.standard.proofs.RecordLaws.{record-law}
-use Rattle.standard.proofs.RunLaws.{look-clear}
+use Rattle.standard.proofs.RunLaws.{inspection-clear}
 
 -- ---- n records of w bytes, each of which passes; a book, with its count by name
 
@@ -106,17 +106,17 @@ module _ {w m n : ℕ} {ok : List ℕ → Bool} {xs ys : List ℕ} (a : Records 
       (joined-same m (λ i. f (recordAt w (xs ++ ys) i)) (λ i. f (recordAt w xs i)) (λ i h. ap f (joined-left i h)))
       (joined-same n (λ j. f (recordAt w (xs ++ ys) (m + j))) (λ j. f (recordAt w ys j)) (λ j h. ap f (joined-right j)))
 
--- ---- a call on such records, where a look at one takes c cipher runs
+-- ---- a call on such records, where an inspection of one takes c cipher runs
 
 abbrev Good : Way → ℕ → List ℕ → Type 0
 Good W n xs = Records (W .size) n (λ x. eqb (W .fault x) 0) xs
 
-called : (W : Way) (r : List ℕ) (n c : ℕ) → 0 < W .size → ((x : List ℕ) → W .fault x ≡ 0 → W .look x ≡ c) → length r ≡ ringSize
+called : (W : Way) (r : List ℕ) (n c : ℕ) → 0 < W .size → ((x : List ℕ) → W .fault x ≡ 0 → W .inspection x ≡ c) → length r ≡ ringSize
     → (xs : List ℕ) → Good W n xs → (out : List ℕ) → W .to * n ≤ length out → (made : List ℕ) → each n (W .size) (W .convert) xs ≡ made
     → bookCall W r xs out ≡ (record { refusal = 0; index = n; written = W .to * n; runs = acceptedRuns (c + 2) n }, made ++ drop (W .to * n) out)
-called W r n c hw look hr xs b out room made e =
+called W r n c hw inspection hr xs b out room made e =
     let k = count hw b in
-    rw (k, e) at (call-accepts W r xs out (b .bytes .bound) c look hr (rw k room) (to-book hw b))
+    rw (k, e) at (call-accepts W r xs out (b .bytes .bound) c inspection hr (rw k room) (to-book hw b))
 
 -- ---- a well-formed book and its sealed form
 
@@ -163,7 +163,7 @@ shuffled r hr p w π ρ =
       formed = well-formed (to-book (omega arith) q);
       form = rw (count (omega arith) q) form;
       seals = λ out room. called (sealing r) r k 0 (omega arith) (λ x e. refl) (hr .len) _ q out room _ form;
-      opens = λ out room. called (opening r) r k 2 (omega arith) (look-clear r) (hr .len) _ (reorder s π (ρ .within)) out room _
+      opens = λ out room. called (opening r) r k 2 (omega arith) (inspection-clear r) (hr .len) _ (reorder s π (ρ .within)) out room _
           (each-reordered s π (ρ .within) plainSize (openRecord r) (opened-bytes r hr p w) ∙ ap (reordered k plainSize π) (opened-back r hr p w));
       undone = undone-by b π;
     }
@@ -184,7 +184,7 @@ joined r hr p q w v few =
       opens = λ out room.
           let s = sealed-records r hr p w in
           let t = sealed-records r hr q v in
-          called (opening r) r (m + k) 2 (omega arith) (look-clear r) (hr .len) _ (join s t few) out room _
+          called (opening r) r (m + k) 2 (omega arith) (inspection-clear r) (hr .len) _ (join s t few) out room _
           (each-joined s t (openRecord r) ∙ ap₂ _++_ (opened-back r hr p w) (opened-back r hr q v));
     }
 

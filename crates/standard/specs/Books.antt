@@ -67,9 +67,9 @@ openFault r t =
     ∷ (clears (form (recordKind t)) (sealingKey (recordKind t) r) (part 4 2 t) (part 6 15 t), flagSet) ∷ []
     )
 
--- the cipher runs of a look at a sealed record (02, 8): its text is unsealed if its kind is known
-unfoldable pub openLook : List ℕ → ℕ
-openLook t = choose (isKnown (kindOf (t ! 0))) textRuns 0
+-- the cipher runs of an inspection of a sealed record (02, 8): its text is unsealed if its kind is known
+unfoldable pub inspectionRuns : List ℕ → ℕ
+inspectionRuns t = choose (isKnown (kindOf (t ! 0))) textRuns 0
 
 -- kind, the identity recovered, version, and the body that the text unseals to
 unfoldable pub openRecord : List ℕ → List ℕ → List ℕ
@@ -96,14 +96,14 @@ pub record Way : Type 0 where
   pub to : ℕ
   pub fault : List ℕ → ℕ
   -- the cipher runs of looking for the fault (02, 8)
-  pub look : List ℕ → ℕ
+  pub inspection : List ℕ → ℕ
   pub convert : List ℕ → List ℕ
 
 abbrev pub sealing : List ℕ → Way
-sealing r = record { size = plainSize; to = sealedSize; fault = plainFault; look = λ p. 0; convert = sealRecord r }
+sealing r = record { size = plainSize; to = sealedSize; fault = plainFault; inspection = λ p. 0; convert = sealRecord r }
 
 abbrev pub opening : List ℕ → Way
-opening r = record { size = sealedSize; to = plainSize; fault = openFault r; look = openLook; convert = openRecord r }
+opening r = record { size = sealedSize; to = plainSize; fault = openFault r; inspection = inspectionRuns; convert = openRecord r }
 
 -- an answer with the cipher runs that it took (02, 8), and the output at exit
 abbrev pub counted : BookAnswer × List ℕ → ℕ → CountedAnswer × List ℕ
@@ -115,8 +115,8 @@ bookCall W r xs out =
     let n = length xs / W .size in
     let head = first ((hasLength ringSize r, wrongLength) ∷ listTests (W .size) (W .to) (length xs) (length out)) in
     let fault : ℕ → ℕ = λ i. W .fault (recordAt (W .size) xs i) in
-    let look : ℕ → ℕ = λ i. W .look (recordAt (W .size) xs i) in
-    counted (written (answer head n fault (W .to * n)) (each n (W .size) (W .convert) xs) out) (callRuns head n fault look)
+    let inspection : ℕ → ℕ = λ i. W .inspection (recordAt (W .size) xs i) in
+    counted (written (answer head n fault (W .to * n)) (each n (W .size) (W .convert) xs) out) (callRuns head n fault inspection)
 
 -- ---- the calls
 

@@ -7,7 +7,7 @@ use mathlib.Core.Path.{_≡_}
 use Prim.Native.Nat.{ℕ, _*_, _/_, _^_, _<_, _≤_}
 use lib.Dec.{eqb}
 use lib.ListN.{length}
-use Rattle.standard.specs.Books.{isKnown, recordKind, sealingKey, openRecord, openLook, bookCall, sealBook, openBook, checkPlain}
+use Rattle.standard.specs.Books.{isKnown, recordKind, sealingKey, openRecord, inspectionRuns, bookCall, sealBook, openBook, checkPlain}
 use Rattle.standard.specs.Bytes.{_!_, bit, part, zeros, bytesOf, same}
 use Rattle.standard.specs.Classes.{ta12ClassCall}
 use Rattle.standard.specs.Derivation.{ta11, ta21, ta41, ta12Call, ta22Call, haveLengths, ringCall}
@@ -154,7 +154,7 @@ flagFault r t =
 -- by 01's flag every book gets the same answer: it opens, or is refused, with the same number and index
 abbrev pub SameBooks : Type 0
 SameBooks = (r s out : List ℕ)
-    → openBook r s out ≡ bookCall (record { size = sealedSize; to = plainSize; fault = flagFault r; look = openLook; convert = openRecord r }) r s out
+    → openBook r s out ≡ bookCall (record { size = sealedSize; to = plainSize; fault = flagFault r; inspection = inspectionRuns; convert = openRecord r }) r s out
 
 -- ---- plainlist's checks (01)
 

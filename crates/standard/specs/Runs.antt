@@ -13,10 +13,10 @@ textRuns = 2
 abbrev pub identityRuns : ℕ
 identityRuns = 1
 
--- The first pass, which looks for a fault: record n is looked at if none of those before it has one. A look at record i takes `look i`.
-abbrev pub firstPass : ℕ → (fault look : ℕ → ℕ) → ℕ
-firstPass zero fault look = 0
-firstPass (suc n) fault look = firstPass n fault look + choose (eqb (firstFault n fault) n) (look n) 0
+-- The first pass, which looks for a fault: record n is looked at if none of those before it has one. An inspection of record i takes `inspection i`.
+abbrev pub firstPass : ℕ → (fault inspection : ℕ → ℕ) → ℕ
+firstPass zero fault inspection = 0
+firstPass (suc n) fault inspection = firstPass n fault inspection + choose (eqb (firstFault n fault) n) (inspection n) 0
 
 -- The second pass, which writes: the identity strings are made once, but not for an empty book, and each record has its text sealed or
 -- unsealed.
@@ -24,9 +24,9 @@ abbrev pub secondPass : ℕ → ℕ
 secondPass n = choose (eqb n 0) 0 identityRuns + textRuns * n
 
 -- A call on n records: no pass if the tests refuse with `head`, and no second one if a record has a fault.
-abbrev pub callRuns : (head n : ℕ) (fault look : ℕ → ℕ) → ℕ
-callRuns head n fault look =
-    choose (eqb head 0) (firstPass n fault look + choose (eqb (firstFault n fault) n) (secondPass n) 0) 0
+abbrev pub callRuns : (head n : ℕ) (fault inspection : ℕ → ℕ) → ℕ
+callRuns head n fault inspection =
+    choose (eqb head 0) (firstPass n fault inspection + choose (eqb (firstFault n fault) n) (secondPass n) 0) 0
 
 -- An accepted book of n records that takes k runs for each of them, and one for the identity strings; the empty book takes none.
 abbrev pub acceptedRuns : (k n : ℕ) → ℕ

@@ -1,7 +1,7 @@
 use mathlib.Core.Path.{sym, _∙_}
 use denote.Ref.{now}
 use borrow.Author.Needs.{needs}
-use Rattle.books.proofs.WayLaws.{plain-looks}
+use Rattle.books.proofs.WayLaws.{plain-inspections}
 use Rattle.books.proofs.walk.scan.Statement.{statement}
 use Rattle.books.proofs.walk.scan.Tie as tie
 
@@ -15,7 +15,7 @@ returns : tie.Need-returns
 returns c =
     let x = c .before .before .before .before .args in
     let e = c .scan-plain .ensures in
-    rw (c .before .enum-told .given .1) (e .0, e .1 ∙ sym (plain-looks (now (x .ring)) (now (x .book)) (x .n)))
+    rw (c .before .enum-told .given .1) (e .0, e .1 ∙ sym (plain-inspections (now (x .ring)) (now (x .book)) (x .n)))
 
 returns-2 : tie.Need-returns-2
 returns-2 c = rw (c .before .enum-told2 .given .1) (c .scan-sealed .ensures)

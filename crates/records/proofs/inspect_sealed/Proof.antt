@@ -4,12 +4,12 @@ use mathlib.Core.Path.{_≡_, sym, ap, _∙_}
 use Prim.Native.Nat.{ℕ}
 use denote.Ref.{now}
 use borrow.Author.Needs.{needs}
-use Rattle.records.proofs.RecordFormLaws.{named-by, open-unknown, open-set, open-clear, look-unknown, look-known}
+use Rattle.records.proofs.RecordFormLaws.{named-by, open-unknown, open-set, open-clear, inspection-unknown, inspection-known}
 use Rattle.standard.specs.Books.{sealingKey}
 use Rattle.standard.specs.Bytes.{_!_, part}
 use Rattle.standard.specs.Seals.{clear, form, opened}
-use Rattle.records.proofs.open_fault.Statement.{statement}
-use Rattle.records.proofs.open_fault.Tie as tie
+use Rattle.records.proofs.inspect_sealed.Statement.{statement}
+use Rattle.records.proofs.inspect_sealed.Tie as tie
 
 returns : tie.Need-returns
 returns c =
@@ -18,7 +18,7 @@ returns c =
     let x = copy .before .before .args in
     let t = now (x .rec) in
     let e = named-by t (copy .array21 .result) (ap (λ (y : List ℕ). y ! 0) (copy .array21 .ensures)) (found .from-byte .ensures) ∙ c .enum-told .given .1 in
-    (open-unknown (now (x .ring)) t e, look-unknown t e)
+    (open-unknown (now (x .ring)) t e, inspection-unknown t e)
 
 returns-2 : tie.Need-returns-2
 returns-2 c =
@@ -35,7 +35,7 @@ returns-2 c =
     core .core-key .ensures ∙ rw (core .before .version-of .ensures, core .before .before .sealed-head .ensures, copy .array21 .ensures) in
     let f : not (clear (form k) (opened (core .core-key .result) (part 6 15 t))) ≡ true =
     sym (rw (flag .before .text-part .ensures, copy .array21 .ensures) at (flag .flag-of .ensures .0)) ∙ c .if1 .taken in
-    (open-set (now (x .ring)) t k e (core .core-key .result) q f, flag .flag-of .ensures .1 ∙ look-known t k e)
+    (open-set (now (x .ring)) t k e (core .core-key .result) q f, flag .flag-of .ensures .1 ∙ inspection-known t k e)
 
 returns-3 : tie.Need-returns-3
 returns-3 c =
@@ -52,10 +52,10 @@ returns-3 c =
     core .core-key .ensures ∙ rw (core .before .version-of .ensures, core .before .before .sealed-head .ensures, copy .array21 .ensures) in
     let f : not (clear (form k) (opened (core .core-key .result) (part 6 15 t))) ≡ false =
     sym (rw (flag .before .text-part .ensures, copy .array21 .ensures) at (flag .flag-of .ensures .0)) ∙ c .if1 .left in
-    (open-clear (now (x .ring)) t k e (core .core-key .result) q f, flag .flag-of .ensures .1 ∙ look-known t k e)
+    (open-clear (now (x .ring)) t k e (core .core-key .result) q f, flag .flag-of .ensures .1 ∙ inspection-known t k e)
 
-pub open-fault-spec : {M : Type 1} → statement M
-open-fault-spec =
+pub inspect-sealed-spec : {M : Type 1} → statement M
+inspect-sealed-spec =
     tie.close
     (tie.spec
     (λ c κs. search needs)
