@@ -24,8 +24,8 @@ module _ (head n : ℕ) (g l : ℕ → ℕ) where
   runs-refused : (head ≡ 0 → ⊥) → 0 ≡ callRuns head n g l
   runs-refused z = rw (ne-eqb head 0 z)
 
-  runs-stopped : head ≡ 0 → (number index : ℕ) → Stopped n g number index → (number ≡ 0 → ⊥) → firstPass n g l ≡ callRuns head n g l
-  runs-stopped z number index s f =
+  runs-stopped : head ≡ 0 → (refusal index : ℕ) → Stopped n g refusal index → (refusal ≡ 0 → ⊥) → firstPass n g l ≡ callRuns head n g l
+  runs-stopped z refusal index s f =
       let h : index < n = s .some f .0 in
       let other : index ≡ n → ⊥ = λ e. omega arith in
       rw (z, ← s .at, ne-eqb index n other) (omega arith)
@@ -51,20 +51,20 @@ module _ (r : List ℕ) (w : Way) (xs out : List ℕ) where
       rw (ne-eqb _ _ h)
       (ap₂ counted (call-refused wrongLength n (faultAt r w xs) bytes made out (λ e. omega arith)) (runs-refused wrongLength n (faultAt r w xs) (inspectionAt w xs) (λ e. omega arith)))
 
-  module _ (h : length r ≡ ringSize) (number : ℕ) (e : number ≡ first (listTests (sizeOf w) (toOf w) (length xs) (length out))) where
-    pub lengths-refused : (number ≡ 0 → ⊥) → counted (refused number 0, out) 0 ≡ bookCall (wayOf r w) r xs out
+  module _ (h : length r ≡ ringSize) (refusal : ℕ) (e : refusal ≡ first (listTests (sizeOf w) (toOf w) (length xs) (length out))) where
+    pub lengths-refused : (refusal ≡ 0 → ⊥) → counted (refused refusal 0, out) 0 ≡ bookCall (wayOf r w) r xs out
     unfolding bookCall
     lengths-refused z =
         rw (eq-eqb _ _ h, ← e)
-        (ap₂ counted (call-refused number n (faultAt r w xs) bytes made out z) (runs-refused number n (faultAt r w xs) (inspectionAt w xs) z))
+        (ap₂ counted (call-refused refusal n (faultAt r w xs) bytes made out z) (runs-refused refusal n (faultAt r w xs) (inspectionAt w xs) z))
 
-    module _ (z : number ≡ 0) where
+    module _ (z : refusal ≡ 0) where
       pub record-refused : (k i runs : ℕ) → Stopped n (faultAt r w xs) k i → runs ≡ firstPass n (faultAt r w xs) (inspectionAt w xs) → (k ≡ 0 → ⊥)
           → counted (refused k i, out) runs ≡ bookCall (wayOf r w) r xs out
       unfolding bookCall
       record-refused k i runs s p f =
           rw (eq-eqb _ _ h, ← e)
-          (ap₂ counted (call-stopped number n (faultAt r w xs) bytes made out z k i s f) (p ∙ runs-stopped number n (faultAt r w xs) (inspectionAt w xs) z k i s f))
+          (ap₂ counted (call-stopped refusal n (faultAt r w xs) bytes made out z k i s f) (p ∙ runs-stopped refusal n (faultAt r w xs) (inspectionAt w xs) z k i s f))
 
       pub all-written : Clean (faultAt r w xs) n → (exit : List ℕ) → exit ≡ made ++ drop bytes out
           → (inspections writes : ℕ) → inspections ≡ firstPass n (faultAt r w xs) (inspectionAt w xs) → writes ≡ secondPass n
@@ -72,7 +72,7 @@ module _ (r : List ℕ) (w : Way) (xs out : List ℕ) where
       unfolding bookCall
       all-written none exit k inspections writes p q =
           rw (eq-eqb _ _ h, ← e)
-          (ap₂ counted (call-done number n (faultAt r w xs) bytes made out z none exit k) (ap₂ _+_ p q ∙ runs-done number n (faultAt r w xs) (inspectionAt w xs) z none))
+          (ap₂ counted (call-done refusal n (faultAt r w xs) bytes made out z none exit k) (ap₂ _+_ p q ∙ runs-done refusal n (faultAt r w xs) (inspectionAt w xs) z none))
 
       pub room : bytes ≤ length out
       room = leb-true _ _ (all-pass (listTests (sizeOf w) (toOf w) (length xs) (length out)) refl (sym e ∙ z) 2)

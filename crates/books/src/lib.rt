@@ -20,11 +20,11 @@ ghost use Rattle.standard.specs.Books.{bookCall, sealBook, openBook, checkPlain
 ghost use Rattle.books.specs.BothDirections.{wayOf};
 
 // What a refused book answers, with the block cipher runs by then.
-fn refused_after(number: u32, index: usize, runs: usize) -> CountedAnswer
-    ensures { λ r. ⌜ r ≡ record { refusal = number; index = index; written = 0; runs = runs } ⌝ }
+fn refused_after(refusal: u32, index: usize, runs: usize) -> CountedAnswer
+    ensures { λ r. ⌜ r ≡ record { refusal = refusal; index = index; written = 0; runs = runs } ⌝ }
 {
     CountedAnswer {
-        refusal: number,
+        refusal,
         index,
         written: 0,
         runs,
@@ -40,15 +40,15 @@ fn book_call(way: Way, ring: &[u8], book: &[u8], out: &mut [u8]) -> CountedAnswe
     }
     let size = way.size();
     let to = way.to();
-    let number = lengths_and_output(size, to, book.len(), out.len());
-    if number != 0 {
-        return refused_after(number, 0, 0);
+    let refusal = lengths_and_output(size, to, book.len(), out.len());
+    if refusal != 0 {
+        return refused_after(refusal, 0, 0);
     }
     let keys = ring_bytes(ring);
     let n = book.len() / size as usize;
     let stop = scan(way, &keys, book, n);
-    if stop.number != 0 {
-        return refused_after(stop.number, stop.index, stop.runs);
+    if stop.refusal != 0 {
+        return refused_after(stop.refusal, stop.index, stop.runs);
     }
     let runs = write(way, &keys, book, n, out);
     CountedAnswer {
@@ -75,14 +75,14 @@ pub fn open_book(ring: &[u8], sealed: &[u8], out: &mut [u8]) -> CountedAnswer
 pub fn check_plain(plain: &[u8]) -> BookAnswer
     ensures { λ r. ⌜ r ≡ checkPlain (now (plain .entry)) ⌝ }
 {
-    let number = lengths(PLAIN_RECORD as u32, plain.len());
-    if number != 0 {
-        return refused(number, 0);
+    let refusal = lengths(PLAIN_RECORD as u32, plain.len());
+    if refusal != 0 {
+        return refused(refusal, 0);
     }
     let n = plain.len() / PLAIN_RECORD;
     let found = scan_plain(plain, n);
-    if found.number != 0 {
-        return refused(found.number, found.index);
+    if found.refusal != 0 {
+        return refused(found.refusal, found.index);
     }
     BookAnswer {
         refusal: 0,

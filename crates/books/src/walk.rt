@@ -49,22 +49,22 @@ impl Way {
 
 // Where a scan stopped, at the first record that is refused or behind the last with 0, and the block cipher runs that it took.
 pub struct Stop {
-    pub number: u32,
+    pub refusal: u32,
     pub index: usize,
     pub runs: usize,
 }
 
 pub(crate) fn scan_plain(plain: &[u8], n: usize) -> Stop
     requires { ⌜ plainSize * n ≤ length (now plain) ⌝ }
-    ensures { λ s. ⌜ Stopped n (λ i. plainFault (recordAt plainSize (now (plain .entry)) i)) (s .number) (s .index) × (s .runs ≡ 0) ⌝ }
+    ensures { λ s. ⌜ Stopped n (λ i. plainFault (recordAt plainSize (now (plain .entry)) i)) (s .refusal) (s .index) × (s .runs ≡ 0) ⌝ }
 {
     let mut index = 0;
     while index < n {
         let a = PLAIN_RECORD * index;
-        let number = plain_fault(&plain[a..a + PLAIN_RECORD]);
-        if number != 0 {
+        let refusal = plain_fault(&plain[a..a + PLAIN_RECORD]);
+        if refusal != 0 {
             return Stop {
-                number,
+                refusal,
                 index,
                 runs: 0,
             };
@@ -72,7 +72,7 @@ pub(crate) fn scan_plain(plain: &[u8], n: usize) -> Stop
         index += 1;
     }
     Stop {
-        number: 0,
+        refusal: 0,
         index: n,
         runs: 0,
     }
@@ -80,7 +80,7 @@ pub(crate) fn scan_plain(plain: &[u8], n: usize) -> Stop
 
 fn scan_sealed(ring: &RingBytes, sealed: &[u8], n: usize) -> Stop
     requires { ⌜ sealedSize * n ≤ length (now sealed) ⌝ }
-    ensures { λ s. ⌜ Stopped n (faultAt (now (ring .entry)) Opening (now (sealed .entry))) (s .number) (s .index)
+    ensures { λ s. ⌜ Stopped n (faultAt (now (ring .entry)) Opening (now (sealed .entry))) (s .refusal) (s .index)
         × (s .runs ≡ firstPass n (faultAt (now (ring .entry)) Opening (now (sealed .entry))) (inspectionAt Opening (now (sealed .entry)))) ⌝ }
 {
     let mut runs = 0;
@@ -89,9 +89,9 @@ fn scan_sealed(ring: &RingBytes, sealed: &[u8], n: usize) -> Stop
         let a = SEALED_RECORD * index;
         let inspection = inspect_sealed(ring, &sealed[a..a + SEALED_RECORD]);
         runs += inspection.runs;
-        if inspection.number != 0 {
+        if inspection.refusal != 0 {
             return Stop {
-                number: inspection.number,
+                refusal: inspection.refusal,
                 index,
                 runs,
             };
@@ -99,7 +99,7 @@ fn scan_sealed(ring: &RingBytes, sealed: &[u8], n: usize) -> Stop
         index += 1;
     }
     Stop {
-        number: 0,
+        refusal: 0,
         index: n,
         runs,
     }
@@ -107,7 +107,7 @@ fn scan_sealed(ring: &RingBytes, sealed: &[u8], n: usize) -> Stop
 
 pub(crate) fn scan(way: Way, ring: &RingBytes, book: &[u8], n: usize) -> Stop
     requires { ⌜ sizeOf way * n ≤ length (now book) ⌝ }
-    ensures { λ s. ⌜ Stopped n (faultAt (now (ring .entry)) way (now (book .entry))) (s .number) (s .index)
+    ensures { λ s. ⌜ Stopped n (faultAt (now (ring .entry)) way (now (book .entry))) (s .refusal) (s .index)
         × (s .runs ≡ firstPass n (faultAt (now (ring .entry)) way (now (book .entry))) (inspectionAt way (now (book .entry)))) ⌝ }
 {
     match way {

@@ -110,11 +110,11 @@ fn key_of(card: [u8; 16]) -> [u8; 12]
     ]
 }
 
-fn refused_card(number: u32) -> Card
-    ensures { λ r. ⌜ r ≡ record { refusal = number; key = zeros 12; card = zeros 16 } ⌝ }
+fn refused_card(refusal: u32) -> Card
+    ensures { λ r. ⌜ r ≡ record { refusal = refusal; key = zeros 12; card = zeros 16 } ⌝ }
 {
     Card {
-        refusal: number,
+        refusal,
         key: [0; 12],
         card: [0; 16],
     }

@@ -71,13 +71,13 @@ module _ (ks xs : List ℕ) (rm km : ℕ) (out : List ℕ) where
   abbrev lengthsTests : List (Bool × ℕ)
   lengthsTests = listTests challengeSize authenticationSize (length xs) (length out)
 
-  module _ (h : length ks ≡ 16) (number : ℕ) (e : number ≡ first lengthsTests) where
-    pub lengths-refused : (number ≡ 0 → ⊥) → (refused number 0, out) ≡ ta12ClassCall ks xs rm km out
+  module _ (h : length ks ≡ 16) (refusal : ℕ) (e : refusal ≡ first lengthsTests) where
+    pub lengths-refused : (refusal ≡ 0 → ⊥) → (refused refusal 0, out) ≡ ta12ClassCall ks xs rm km out
     unfolding ta12ClassCall
     lengths-refused z =
-        rw (eq-eqb _ _ h, first-append lengthsTests (maskTests rm km) refl, ← e, ne-eqb number 0 z) (call-refused number n (λ i. 0) bytes made out z)
+        rw (eq-eqb _ _ h, first-append lengthsTests (maskTests rm km) refl, ← e, ne-eqb refusal 0 z) (call-refused refusal n (λ i. 0) bytes made out z)
 
-    module _ (z : number ≡ 0) where
+    module _ (z : refusal ≡ 0) where
       -- the masks go behind the lengths
       behind : first (lengthsTests ++ maskTests rm km) ≡ first (maskTests rm km)
       behind = first-append lengthsTests (maskTests rm km) refl ∙ rw (← e, z)

@@ -175,14 +175,14 @@ pub fn ta12_class(
     if session_key.len() != 16 {
         return refused(WRONG_LENGTH, 0);
     }
-    let number = lengths_and_output(
+    let refusal = lengths_and_output(
         CHALLENGE as u32,
         AUTHENTICATION as u32,
         challenges.len(),
         out.len(),
     );
-    if number != 0 {
-        return refused(number, 0);
+    if refusal != 0 {
+        return refused(refusal, 0);
     }
     let masks = mask_refusal(response_mask, key_mask);
     if masks != 0 {

@@ -47,19 +47,19 @@ module _ (n width : ℕ) (rows out₀ : List ℕ) where
 
 -- ---- the call
 
-module _ (w : ℕ) (f : ℕ → ℕ → List ℕ → List ℕ) (xs out : List ℕ) (number : ℕ) (e : number ≡ first (listTests w w (length xs) (length out))) where
+module _ (w : ℕ) (f : ℕ → ℕ → List ℕ → List ℕ) (xs out : List ℕ) (refusal : ℕ) (e : refusal ≡ first (listTests w w (length xs) (length out))) where
   abbrev n : ℕ
   n = length xs / w
 
-  pub lengths-refused : (number ≡ 0 → ⊥) → (refused number 0, out) ≡ columnsCall w f xs out
+  pub lengths-refused : (refusal ≡ 0 → ⊥) → (refused refusal 0, out) ≡ columnsCall w f xs out
   unfolding columnsCall
-  lengths-refused z = rw (← e) (call-refused number n (λ i. 0) (w * n) (f w n xs) out z)
+  lengths-refused z = rw (← e) (call-refused refusal n (λ i. 0) (w * n) (f w n xs) out z)
 
-  module _ (z : number ≡ 0) where
+  module _ (z : refusal ≡ 0) where
     pub room : w * n ≤ length out
     room = leb-true _ _ (all-pass (listTests w w (length xs) (length out)) refl (sym e ∙ z) 2)
 
     pub all-written : (exit : List ℕ) → exit ≡ f w n xs ++ drop (w * n) out
         → (record { refusal = 0; index = n; written = w * n }, exit) ≡ columnsCall w f xs out
     unfolding columnsCall
-    all-written exit made = rw (← e) (call-done number n (λ i. 0) (w * n) (f w n xs) out z (λ j l. refl) exit made)
+    all-written exit made = rw (← e) (call-done refusal n (λ i. 0) (w * n) (f w n xs) out z (λ j l. refl) exit made)

@@ -53,9 +53,9 @@ fn rearrange(book: &[u8], size: u32, back: bool, out: &mut [u8]) -> BookAnswer
     requires { ⌜ 0 < size ⌝ }
     ensures { λ r. ⌜ (r, now (out .exit)) ≡ columnsCall size (choose back fromColumns toColumns) (now (book .entry)) (now (out .entry)) ⌝ }
 {
-    let number = lengths_and_output(size, size, book.len(), out.len());
-    if number != 0 {
-        return refused(number, 0);
+    let refusal = lengths_and_output(size, size, book.len(), out.len());
+    if refusal != 0 {
+        return refused(refusal, 0);
     }
     let w = size as usize;
     let n = book.len() / w;

@@ -87,15 +87,15 @@ module _ {t l g : ℕ} where
 
 -- ---- the ways in which the call returns
 
-module _ (xs : List ℕ) (number : ℕ) (e : number ≡ first (lengthTests diffusionSize (length xs))) where
+module _ (xs : List ℕ) (refusal : ℕ) (e : refusal ≡ first (lengthTests diffusionSize (length xs))) where
   abbrev n : ℕ
   n = length xs / diffusionSize
 
-  pub list-refused : (number ≡ 0 → ⊥) → record { refusal = number; flips = 0; total = 0; least = 0; greatest = 0 } ≡ diffusionCall xs
+  pub list-refused : (refusal ≡ 0 → ⊥) → record { refusal = refusal; flips = 0; total = 0; least = 0; greatest = 0 } ≡ diffusionCall xs
   unfolding diffusionCall total least greatest
-  list-refused z = rw (← e, ne-eqb number 0 z)
+  list-refused z = rw (← e, ne-eqb refusal 0 z)
 
-  module _ (z : number ≡ 0) where
+  module _ (z : refusal ≡ 0) where
     pub no-records : n ≡ 0 → record { refusal = 0; flips = 0; total = 0; least = 0; greatest = 0 } ≡ diffusionCall xs
     unfolding diffusionCall total least greatest
     no-records h = rw (← e, z, h)

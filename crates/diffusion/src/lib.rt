@@ -207,11 +207,11 @@ fn count(records: &[u8], n: usize) -> Figures
     figures
 }
 
-fn no_changes(number: u32) -> Tally
-    ensures { λ r. ⌜ r ≡ record { refusal = number; flips = 0; total = 0; least = 0; greatest = 0 } ⌝ }
+fn no_changes(refusal: u32) -> Tally
+    ensures { λ r. ⌜ r ≡ record { refusal = refusal; flips = 0; total = 0; least = 0; greatest = 0 } ⌝ }
 {
     Tally {
-        refusal: number,
+        refusal,
         flips: 0,
         total: 0,
         least: 0,
@@ -222,9 +222,9 @@ fn no_changes(number: u32) -> Tally
 pub fn diffusion(records: &[u8]) -> Tally
     ensures { λ r. ⌜ r ≡ diffusionCall (now (records .entry)) ⌝ }
 {
-    let number = lengths(DIFFUSION_RECORD as u32, records.len());
-    if number != 0 {
-        return no_changes(number);
+    let refusal = lengths(DIFFUSION_RECORD as u32, records.len());
+    if refusal != 0 {
+        return no_changes(refusal);
     }
     let n = records.len() / DIFFUSION_RECORD;
     if n == 0 {

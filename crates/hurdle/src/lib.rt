@@ -112,11 +112,11 @@ pub fn substitute_back(x: [u8; 3]) -> [u8; 3]
     [a, b, c]
 }
 
-pub fn refused8(number: u32) -> Bytes8
-    ensures { λ r. ⌜ r ≡ record { refusal = number; bytes = zeros 8 } ⌝ }
+pub fn refused8(refusal: u32) -> Bytes8
+    ensures { λ r. ⌜ r ≡ record { refusal = refusal; bytes = zeros 8 } ⌝ }
 {
     Bytes8 {
-        refusal: number,
+        refusal,
         bytes: [0; 8],
     }
 }

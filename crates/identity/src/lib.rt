@@ -163,11 +163,11 @@ fn number3(b: [u8; 3]) -> u32
     number(b[0], b[1], b[2])
 }
 
-fn refused_identity(number: u32) -> Identity
-    ensures { λ r. ⌜ r ≡ record { refusal = number; identity = 0 } ⌝ }
+fn refused_identity(refusal: u32) -> Identity
+    ensures { λ r. ⌜ r ≡ record { refusal = refusal; identity = 0 } ⌝ }
 {
     Identity {
-        refusal: number,
+        refusal,
         identity: 0,
     }
 }

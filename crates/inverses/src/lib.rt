@@ -25,31 +25,31 @@ ghost use Rattle.standard.specs.Bytes.{same as sameOf};
 ghost use Rattle.standard.specs.Inverses.{tb1⁻¹Call, tb3⁻¹Call, tb5⁻¹Call, tb6⁻¹Call};
 ghost use Rattle.standard.specs.Refusals.{noInput, first, value as valueOf};
 
-fn refused_value(number: u32) -> Value
-    ensures { λ r. ⌜ r ≡ record { refusal = number; value = 0 } ⌝ }
+fn refused_value(refusal: u32) -> Value
+    ensures { λ r. ⌜ r ≡ record { refusal = refusal; value = 0 } ⌝ }
 {
     Value {
-        refusal: number,
+        refusal,
         value: 0,
     }
 }
 
-fn refused_cell(number: u32) -> Cell
-    ensures { λ r. ⌜ r ≡ record { refusal = number; «location_area» = 0; carrier = 0; «colour_code» = 0 } ⌝ }
+fn refused_cell(refusal: u32) -> Cell
+    ensures { λ r. ⌜ r ≡ record { refusal = refusal; «location_area» = 0; carrier = 0; «colour_code» = 0 } ⌝ }
 {
     Cell {
-        refusal: number,
+        refusal,
         location_area: 0,
         carrier: 0,
         colour_code: 0,
     }
 }
 
-fn refused_pair(number: u32) -> CarrierIdentity
-    ensures { λ r. ⌜ r ≡ record { refusal = number; carrier = 0; identity = 0 } ⌝ }
+fn refused_pair(refusal: u32) -> CarrierIdentity
+    ensures { λ r. ⌜ r ≡ record { refusal = refusal; carrier = 0; identity = 0 } ⌝ }
 {
     CarrierIdentity {
-        refusal: number,
+        refusal,
         carrier: 0,
         identity: 0,
     }

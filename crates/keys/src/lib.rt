@@ -78,9 +78,9 @@ pub fn ta12(
     if !have_lengths(session_key, 16, challenge, 10) {
         return refused_split(WRONG_LENGTH);
     }
-    let number = mask_refusal(response_mask, key_mask);
-    if number != 0 {
-        return refused_split(number);
+    let refusal = mask_refusal(response_mask, key_mask);
+    if refusal != 0 {
+        return refused_split(refusal);
     }
     split(
         core(array16(session_key), array10(challenge)),
@@ -136,9 +136,9 @@ pub fn ring_of(x: RingInputs) -> RingMade
     if !known {
         return refused_ring(WRONG_SIDES);
     }
-    let number = mask_refusal(x.response_mask, x.key_mask);
-    if number != 0 {
-        return refused_ring(number);
+    let refusal = mask_refusal(x.response_mask, x.key_mask);
+    if refusal != 0 {
+        return refused_ring(refusal);
     }
     make(x)
 }

@@ -7,11 +7,11 @@ ghost use Rattle.standard.specs.Bytes.{part, zeros};
 ghost use Rattle.standard.specs.Derivation.{chosen};
 ghost use Rattle.standard.specs.Refusals.{maskTests, first};
 
-pub(crate) fn refused_split(number: u32) -> Authentication
-    ensures { λ r. ⌜ r ≡ record { refusal = number; response = zeros 4; key = zeros 10 } ⌝ }
+pub(crate) fn refused_split(refusal: u32) -> Authentication
+    ensures { λ r. ⌜ r ≡ record { refusal = refusal; response = zeros 4; key = zeros 10 } ⌝ }
 {
     Authentication {
-        refusal: number,
+        refusal,
         response: [0; 4],
         key: [0; 10],
     }

@@ -116,26 +116,26 @@ module _ (s values : List ℕ) (i : ℕ) where
 
 -- ---- the ways in which the call returns
 
-module _ (s out : List ℕ) (number : ℕ) (e : number ≡ first (listTests sheetSize valueSize (length s) (length out))) where
+module _ (s out : List ℕ) (refusal : ℕ) (e : refusal ≡ first (listTests sheetSize valueSize (length s) (length out))) where
   abbrev n : ℕ
   n = length s / sheetSize
 
   abbrev made : List ℕ
   made = joined n (valueOf s)
 
-  pub lengths-refused : (number ≡ 0 → ⊥) → (refused number 0, out) ≡ lineageCall s out
+  pub lengths-refused : (refusal ≡ 0 → ⊥) → (refused refusal 0, out) ≡ lineageCall s out
   unfolding lineageCall
-  lengths-refused z = rw (← e) (call-refused number n (lineageFault s) (valueSize * n) made out z)
+  lengths-refused z = rw (← e) (call-refused refusal n (lineageFault s) (valueSize * n) made out z)
 
-  module _ (z : number ≡ 0) where
+  module _ (z : refusal ≡ 0) where
     pub record-refused : (k i : ℕ) → Stopped n (lineageFault s) k i → (k ≡ 0 → ⊥) → (refused k i, out) ≡ lineageCall s out
     unfolding lineageCall
-    record-refused k i t f = rw (← e) (call-stopped number n (lineageFault s) (valueSize * n) made out z k i t f)
+    record-refused k i t f = rw (← e) (call-stopped refusal n (lineageFault s) (valueSize * n) made out z k i t f)
 
     pub all-written : Clean (lineageFault s) n → (exit : List ℕ) → exit ≡ made ++ drop (valueSize * n) out
         → (record { refusal = 0; index = n; written = valueSize * n }, exit) ≡ lineageCall s out
     unfolding lineageCall
-    all-written none exit w = rw (← e) (call-done number n (lineageFault s) (valueSize * n) made out z none exit w)
+    all-written none exit w = rw (← e) (call-done refusal n (lineageFault s) (valueSize * n) made out z none exit w)
 
     pub room : valueSize * n ≤ length out
     room = leb-true _ _ (all-pass (listTests sheetSize valueSize (length s) (length out)) refl (sym e ∙ z) 2)

@@ -17,19 +17,19 @@ ghost use Rattle.standard.specs.Lineage.{lineageCall};
 pub fn lineage(sheet: &[u8], out: &mut [u8]) -> BookAnswer
     ensures { λ r. ⌜ (r, now (out .exit)) ≡ lineageCall (now (sheet .entry)) (now (out .entry)) ⌝ }
 {
-    let number = lengths_and_output(
+    let refusal = lengths_and_output(
         SHEET_RECORD as u32,
         SHEET_VALUE as u32,
         sheet.len(),
         out.len(),
     );
-    if number != 0 {
-        return refused(number, 0);
+    if refusal != 0 {
+        return refused(refusal, 0);
     }
     let n = sheet.len() / SHEET_RECORD;
     let stop = scan(sheet, n);
-    if stop.number != 0 {
-        return refused(stop.number, stop.index);
+    if stop.refusal != 0 {
+        return refused(stop.refusal, stop.index);
     }
     write(sheet, n, out);
     BookAnswer {

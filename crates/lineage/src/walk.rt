@@ -14,24 +14,24 @@ ghost use Rattle.standard.specs.Sizes.{sheetSize, valueSize};
 
 // Where the scan stopped: at the first record that is refused, or behind the last with 0.
 pub struct Stop {
-    pub number: u32,
+    pub refusal: u32,
     pub index: usize,
 }
 
 pub(crate) fn scan(sheet: &[u8], n: usize) -> Stop
     requires { ⌜ sheetSize * n ≤ length (now sheet) ⌝ }
-    ensures { λ s. ⌜ Stopped n (lineageFault (now (sheet .entry))) (s .number) (s .index) ⌝ }
+    ensures { λ s. ⌜ Stopped n (lineageFault (now (sheet .entry))) (s .refusal) (s .index) ⌝ }
 {
     let mut index = 0;
     while index < n {
-        let number = record_fault(sheet, index);
-        if number != 0 {
-            return Stop { number, index };
+        let refusal = record_fault(sheet, index);
+        if refusal != 0 {
+            return Stop { refusal, index };
         }
         index += 1;
     }
     Stop {
-        number: 0,
+        refusal: 0,
         index: n,
     }
 }

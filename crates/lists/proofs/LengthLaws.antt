@@ -29,9 +29,9 @@ module _ (w size : ℕ) where
   few-records e = div-le-of-le-mul w (leb-true _ _ (all-pass (lengthTests w size) refl e 0))
 
   -- 12 goes behind 1 and 2
-  module _ (v room number : ℕ) (e : number ≡ first (lengthTests w size)) where
-    pub output-last : (number ≡ 0 → ⊥) → number ≡ first (listTests w v size room)
+  module _ (v room refusal : ℕ) (e : refusal ≡ first (lengthTests w size)) where
+    pub output-last : (refusal ≡ 0 → ⊥) → refusal ≡ first (listTests w v size room)
     output-last h = e ∙ sym (first-append (lengthTests w size) ((leb (v * (size / w)) room, outputShort) ∷ []) refl ∙ rw (← e, ne-eqb _ _ h))
 
-    pub output-tested : number ≡ 0 → first ((leb (v * (size / w)) room, outputShort) ∷ []) ≡ first (listTests w v size room)
+    pub output-tested : refusal ≡ 0 → first ((leb (v * (size / w)) room, outputShort) ∷ []) ≡ first (listTests w v size room)
     output-tested h = sym (first-append (lengthTests w size) ((leb (v * (size / w)) room, outputShort) ∷ []) refl ∙ rw (← e, h))

@@ -17,9 +17,9 @@ module _ (head n : ℕ) (g : ℕ → ℕ) (bytes : ℕ) where
   unfolding answer
   answer-refused z = rw (ne-eqb head 0 z)
 
-  pub answer-stopped : head ≡ 0 → (number index : ℕ) → Stopped n g number index → (number ≡ 0 → ⊥) → refused number index ≡ answer head n g bytes
+  pub answer-stopped : head ≡ 0 → (refusal index : ℕ) → Stopped n g refusal index → (refusal ≡ 0 → ⊥) → refused refusal index ≡ answer head n g bytes
   unfolding answer
-  answer-stopped z number index s f =
+  answer-stopped z refusal index s f =
       let q = s .some f in
       let l : index < n = q .0 in
       let other : index ≡ n → ⊥ = λ e. omega arith in
@@ -33,10 +33,10 @@ module _ (head n : ℕ) (g : ℕ → ℕ) (bytes : ℕ) where
     unfolding written
     call-refused z = rw (← answer-refused z, ne-eqb head 0 z)
 
-    pub call-stopped : head ≡ 0 → (number index : ℕ) → Stopped n g number index → (number ≡ 0 → ⊥)
-        → (refused number index, out) ≡ written (answer head n g bytes) made out
+    pub call-stopped : head ≡ 0 → (refusal index : ℕ) → Stopped n g refusal index → (refusal ≡ 0 → ⊥)
+        → (refused refusal index, out) ≡ written (answer head n g bytes) made out
     unfolding written
-    call-stopped z number index s f = rw (← answer-stopped z number index s f, ne-eqb number 0 f)
+    call-stopped z refusal index s f = rw (← answer-stopped z refusal index s f, ne-eqb refusal 0 f)
 
     pub call-done : head ≡ 0 → Clean g n → (exit : List ℕ) → exit ≡ made ++ drop bytes out
         → (record { refusal = 0; index = n; written = bytes }, exit) ≡ written (answer head n g bytes) made out

@@ -44,8 +44,8 @@ clean-more g i h e j k = go (eq-or-lt-of-le (le-of-suc-le-suc (subst (λ (n : �
     go (inr q) = h j q
 
 -- stopped at a record with a fault
-pub stopped-at : (n : ℕ) (g : ℕ → ℕ) (i number : ℕ) → i < n → Clean g i → number ≡ g i → (number ≡ 0 → ⊥) → Stopped n g number i
-stopped-at n g i number h none e some = record {
+pub stopped-at : (n : ℕ) (g : ℕ → ℕ) (i refusal : ℕ) → i < n → Clean g i → refusal ≡ g i → (refusal ≡ 0 → ⊥) → Stopped n g refusal i
+stopped-at n g i refusal h none e some = record {
   at = first-one (record { within = omega arith; below = none; stop = λ l z. some (e ∙ z) }) (first-fault n g);
   within = omega arith;
   none = λ z. absurd (some z);

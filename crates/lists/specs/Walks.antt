@@ -11,11 +11,11 @@ abbrev pub Clean : (ℕ → ℕ) → ℕ → Type 0
 Clean g n = (j : ℕ) → j < n → g j ≡ 0
 
 -- a scan of n records stopped at the first fault, or behind the last with 0
-pub record Stopped (n : ℕ) (g : ℕ → ℕ) (number index : ℕ) : Type 0 where
+pub record Stopped (n : ℕ) (g : ℕ → ℕ) (refusal index : ℕ) : Type 0 where
   pub at : index ≡ firstFault n g
   pub within : index ≤ n
-  pub none : number ≡ 0 → Clean g n
-  pub some : (number ≡ 0 → ⊥) → (index < n) × (number ≡ g index)
+  pub none : refusal ≡ 0 → Clean g n
+  pub some : (refusal ≡ 0 → ⊥) → (index < n) × (refusal ≡ g index)
 
 -- the string x at place i of an output of strings of v bytes
 abbrev pub putAt : (v i : ℕ) → List ℕ → List ℕ → List ℕ

@@ -36,9 +36,9 @@ pub fn lengths(size: u32, list: usize) -> u32
 pub fn lengths_and_output(size: u32, to: u32, list: usize, out: usize) -> u32
     ensures { λ r. ⌜ r ≡ first (listTests size to list out) ⌝ }
 {
-    let number = lengths(size, list);
-    if number != 0 {
-        return number;
+    let refusal = lengths(size, list);
+    if refusal != 0 {
+        return refusal;
     }
     if out < to as usize * count(size, list) {
         return OUTPUT_SHORT;
@@ -47,11 +47,11 @@ pub fn lengths_and_output(size: u32, to: u32, list: usize, out: usize) -> u32
 }
 
 // What a refused list answers: the number, the offending record's index, nothing written.
-pub fn refused(number: u32, index: usize) -> BookAnswer
-    ensures { λ r. ⌜ r ≡ refusedOf number index ⌝ }
+pub fn refused(refusal: u32, index: usize) -> BookAnswer
+    ensures { λ r. ⌜ r ≡ refusedOf refusal index ⌝ }
 {
     BookAnswer {
-        refusal: number,
+        refusal,
         index,
         written: 0,
     }

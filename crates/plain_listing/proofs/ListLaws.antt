@@ -57,9 +57,9 @@ entries-short n = simp length-append (omega (arith, digits-few 20 n))
 pub last-short : (n : ℕ) {line : List ℕ} → line ≡ entriesLine n → length line ≤ room
 last-short n e = omega (arith, ap length e, entries-short n)
 
-pub refused-short : (number index : ℕ) → length (refusedLine number index) ≤ room
+pub refused-short : (refusal index : ℕ) → length (refusedLine refusal index) ≤ room
 unfolding refusedLine
-refused-short number index = simp length-append (omega (arith, digits-few 20 number, digits-few 20 index))
+refused-short refusal index = simp length-append (omega (arith, digits-few 20 refusal, digits-few 20 index))
 
 -- ---- the lines one behind the other
 

@@ -93,10 +93,10 @@ fn entries_line(n: usize) -> Line
         .word(b"\n")
 }
 
-fn refused_line(number: u32, index: usize) -> Line
-    ensures { λ r. ⌜ shown r ≡ refusedLine number index ⌝ }
+fn refused_line(refusal: u32, index: usize) -> Line
+    ensures { λ r. ⌜ shown r ≡ refusedLine refusal index ⌝ }
 {
-    refused_at(number, index).word(b"\n")
+    refused_at(refusal, index).word(b"\n")
 }
 
 // The lines of the records, each from a part of the book, over the front of the output as far as it reaches; their length.

@@ -111,18 +111,18 @@ pub fn plain_fault(rec: &[u8]) -> u32
 
 // What the inspection of a sealed record finds: its refusal, or 0, and the block cipher runs that it took.
 pub struct Inspection {
-    pub number: u32,
+    pub refusal: u32,
     pub runs: usize,
 }
 
 // The inspection of a sealed record under a ring.
 pub fn inspect_sealed(ring: &RingBytes, rec: &[u8]) -> Inspection
-    ensures { λ l. ⌜ (l .number ≡ openFault (now (ring .entry)) (now (rec .entry))) × (l .runs ≡ inspectionRuns (now (rec .entry))) ⌝ }
+    ensures { λ l. ⌜ (l .refusal ≡ openFault (now (ring .entry)) (now (rec .entry))) × (l .runs ≡ inspectionRuns (now (rec .entry))) ⌝ }
 {
     let t = array21(rec);
     let Named::Known(kind) = Kind::from_byte(t[0]) else {
         return Inspection {
-            number: WRONG_KIND,
+            refusal: WRONG_KIND,
             runs: 0,
         };
     };
@@ -131,12 +131,12 @@ pub fn inspect_sealed(ring: &RingBytes, rec: &[u8]) -> Inspection
     let flag = flag_of(algorithm, key, text_part(t));
     if flag.set {
         return Inspection {
-            number: FLAG_SET,
+            refusal: FLAG_SET,
             runs: flag.runs,
         };
     }
     Inspection {
-        number: 0,
+        refusal: 0,
         runs: flag.runs,
     }
 }

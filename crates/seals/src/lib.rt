@@ -30,11 +30,11 @@ ghost use Rattle.standard.specs.Seals.{formOf, sealed as sealedOf, opened as op
 // A sealed text's bytes.
 const TEXT: usize = 15;
 
-fn refused15(number: u32) -> Bytes15
-    ensures { λ r. ⌜ r ≡ record { refusal = number; bytes = zeros 15 } ⌝ }
+fn refused15(refusal: u32) -> Bytes15
+    ensures { λ r. ⌜ r ≡ record { refusal = refusal; bytes = zeros 15 } ⌝ }
 {
     Bytes15 {
-        refusal: number,
+        refusal,
         bytes: [0; 15],
     }
 }

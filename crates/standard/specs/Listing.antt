@@ -37,10 +37,10 @@ unfoldable pub entriesLine : ℕ → List ℕ
 entriesLine n = ascii "entries " ++ decimal n ++ ascii "\n"
 
 abbrev pub refusedAt : ℕ → ℕ → List ℕ
-refusedAt number index = ascii "refused " ++ decimal number ++ ascii " at " ++ decimal index
+refusedAt refusal index = ascii "refused " ++ decimal refusal ++ ascii " at " ++ decimal index
 
 unfoldable pub refusedLine : ℕ → ℕ → List ℕ
-refusedLine number index = refusedAt number index ++ ascii "\n"
+refusedLine refusal index = refusedAt refusal index ++ ascii "\n"
 
 -- ---- the listing
 

@@ -62,7 +62,7 @@ meaning n = beside n meanings
 
 -- "refused N at I (its meaning)"
 unfoldable pub meaningText : ℕ → ℕ → List ℕ
-meaningText number index = refusedAt number index ++ ascii " (" ++ meaning number ++ ascii ")"
+meaningText refusal index = refusedAt refusal index ++ ascii " (" ++ meaning refusal ++ ascii ")"
 
 -- "wrote N bytes"
 unfoldable pub wroteText : ℕ → List ℕ

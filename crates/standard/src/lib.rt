@@ -328,29 +328,29 @@ fn known(algorithm: Algorithm, under: RingKey) -> Named
 }
 
 // What a refused call answers.
-pub fn refused10(number: u32) -> Bytes10
-    ensures { λ r. ⌜ r ≡ record { refusal = number; bytes = zeros 10 } ⌝ }
+pub fn refused10(refusal: u32) -> Bytes10
+    ensures { λ r. ⌜ r ≡ record { refusal = refusal; bytes = zeros 10 } ⌝ }
 {
     Bytes10 {
-        refusal: number,
+        refusal,
         bytes: [0; 10],
     }
 }
 
-pub fn refused16(number: u32) -> Bytes16
-    ensures { λ r. ⌜ r ≡ record { refusal = number; bytes = zeros 16 } ⌝ }
+pub fn refused16(refusal: u32) -> Bytes16
+    ensures { λ r. ⌜ r ≡ record { refusal = refusal; bytes = zeros 16 } ⌝ }
 {
     Bytes16 {
-        refusal: number,
+        refusal,
         bytes: [0; 16],
     }
 }
 
-pub fn refused_ring(number: u32) -> RingMade
-    ensures { λ r. ⌜ r ≡ record { refusal = number; ring = zeros ringSize; response1 = zeros 4; response2 = zeros 4 } ⌝ }
+pub fn refused_ring(refusal: u32) -> RingMade
+    ensures { λ r. ⌜ r ≡ record { refusal = refusal; ring = zeros ringSize; response1 = zeros 4; response2 = zeros 4 } ⌝ }
 {
     RingMade {
-        refusal: number,
+        refusal,
         ring: [0; RING],
         response1: [0; 4],
         response2: [0; 4],

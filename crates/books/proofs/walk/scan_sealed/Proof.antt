@@ -37,7 +37,7 @@ part-is c = lent sealedSize (c .before .before .before .loop .index) (now (c .be
 
 -- so its fault and the runs of the inspection of it are what the inspection answered
 at : (c : tie.After-open-fault Inv-loop μ-loop)
-    → c .inspect-sealed .result .number ≡ faultAt (now (c .before .before .before .before .before .args .ring)) Opening (now (c .before .before .before .before .before .args .sealed)) (c .before .before .before .loop .index)
+    → c .inspect-sealed .result .refusal ≡ faultAt (now (c .before .before .before .before .before .args .ring)) Opening (now (c .before .before .before .before .before .args .sealed)) (c .before .before .before .loop .index)
 at c = c .inspect-sealed .ensures .0 ∙ ap (openFault (now (c .before .before .before .before .before .args .ring))) (part-is c)
 
 took : (c : tie.After-open-fault Inv-loop μ-loop)
