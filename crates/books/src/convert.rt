@@ -58,19 +58,19 @@ fn core(way: Way, key: [u8; 16], input: [u8; 16]) -> CoreOutput15
 }
 
 // What is made of the core's output, into the record's own part of the output.
-fn put(way: Way, strings: [u8; 8], rec: &[u8], o: [u8; 15], out: &mut [u8])
-    ensures { λ _. ⌜ now (out .exit) ≡ take (length (now (out .entry))) (madeOf way strings (now (rec .entry)) o) ++ drop (toOf way) (now (out .entry)) ⌝ }
+fn put(way: Way, identity_strings: [u8; 8], rec: &[u8], o: [u8; 15], out: &mut [u8])
+    ensures { λ _. ⌜ now (out .exit) ≡ take (length (now (out .entry))) (madeOf way «identity_strings» (now (rec .entry)) o) ++ drop (toOf way) (now (out .entry)) ⌝ }
 {
     match way {
-        Way::Sealing => put_sealed(strings, rec, o, out),
-        Way::Opening => put_opened(strings, rec, o, out),
+        Way::Sealing => put_sealed(identity_strings, rec, o, out),
+        Way::Opening => put_opened(identity_strings, rec, o, out),
     }
 }
 
 // The same for record i of n, at its place.
 fn put_at(
     way: Way,
-    strings: [u8; 8],
+    identity_strings: [u8; 8],
     book: &[u8],
     n: usize,
     i: usize,
@@ -78,7 +78,7 @@ fn put_at(
     out: &mut [u8],
 )
     requires { ⌜ (i < n) × (sizeOf way * n ≤ length (now book)) × (toOf way * n ≤ length (now out)) ⌝ }
-    ensures { λ _. ⌜ now (out .exit) ≡ putAt (toOf way) i (madeOf way strings (recordAt (sizeOf way) (now (book .entry)) i) (o .output)) (now (out .entry)) ⌝ }
+    ensures { λ _. ⌜ now (out .exit) ≡ putAt (toOf way) i (madeOf way «identity_strings» (recordAt (sizeOf way) (now (book .entry)) i) (o .output)) (now (out .entry)) ⌝ }
 {
     let size = way.size() as usize;
     let to = way.to() as usize;
@@ -87,7 +87,7 @@ fn put_at(
     let output = o.output;
     put(
         way,
-        strings,
+        identity_strings,
         &book[a..a + size],
         output,
         &mut out[b..b + to],
@@ -98,21 +98,21 @@ fn put_at(
 pub(crate) fn convert_one(
     way: Way,
     ring: &RingBytes,
-    strings: [u8; 8],
+    identity_strings: [u8; 8],
     book: &[u8],
     n: usize,
     i: usize,
     out: &mut [u8],
 ) -> usize
     requires { ⌜ (i < n) × (sizeOf way * n ≤ length (now book)) × (toOf way * n ≤ length (now out)) ⌝ }
-    ensures { λ r. ⌜ (now (out .exit) ≡ putAt (toOf way) i (convertOf (now (ring .entry)) strings way (recordAt (sizeOf way) (now (book .entry)) i)) (now (out .entry)))
+    ensures { λ r. ⌜ (now (out .exit) ≡ putAt (toOf way) i (convertOf (now (ring .entry)) «identity_strings» way (recordAt (sizeOf way) (now (book .entry)) i)) (now (out .entry)))
         × (r ≡ textRuns) ⌝ }
 {
     let t = task_at(way, ring, book, n, i);
     let key = t.key;
     let input = t.input;
     let o = core(way, key, input);
-    put_at(way, strings, book, n, i, o, out);
+    put_at(way, identity_strings, book, n, i, o, out);
     o.runs
 }
 
@@ -188,7 +188,7 @@ fn runs_of(o: [CoreOutput15; 4]) -> usize
 
 fn put_four(
     way: Way,
-    strings: [u8; 8],
+    identity_strings: [u8; 8],
     book: &[u8],
     n: usize,
     i: usize,
@@ -196,35 +196,35 @@ fn put_four(
     out: &mut [u8],
 )
     requires { ⌜ (i + 4 ≤ n) × (sizeOf way * n ≤ length (now book)) × (toOf way * n ≤ length (now out)) ⌝ }
-    ensures { λ _. ⌜ now (out .exit) ≡ putAt (toOf way) (i + 3) (madeOf way strings (recordAt (sizeOf way) (now (book .entry)) (i + 3)) (lane15 o 3 .output))
-        (putAt (toOf way) (i + 2) (madeOf way strings (recordAt (sizeOf way) (now (book .entry)) (i + 2)) (lane15 o 2 .output))
-        (putAt (toOf way) (i + 1) (madeOf way strings (recordAt (sizeOf way) (now (book .entry)) (i + 1)) (lane15 o 1 .output))
-        (putAt (toOf way) i (madeOf way strings (recordAt (sizeOf way) (now (book .entry)) i) (lane15 o 0 .output)) (now (out .entry))))) ⌝ }
+    ensures { λ _. ⌜ now (out .exit) ≡ putAt (toOf way) (i + 3) (madeOf way «identity_strings» (recordAt (sizeOf way) (now (book .entry)) (i + 3)) (lane15 o 3 .output))
+        (putAt (toOf way) (i + 2) (madeOf way «identity_strings» (recordAt (sizeOf way) (now (book .entry)) (i + 2)) (lane15 o 2 .output))
+        (putAt (toOf way) (i + 1) (madeOf way «identity_strings» (recordAt (sizeOf way) (now (book .entry)) (i + 1)) (lane15 o 1 .output))
+        (putAt (toOf way) i (madeOf way «identity_strings» (recordAt (sizeOf way) (now (book .entry)) i) (lane15 o 0 .output)) (now (out .entry))))) ⌝ }
 {
-    put_at(way, strings, book, n, i, o[0], out);
-    put_at(way, strings, book, n, i + 1, o[1], out);
-    put_at(way, strings, book, n, i + 2, o[2], out);
-    put_at(way, strings, book, n, i + 3, o[3], out);
+    put_at(way, identity_strings, book, n, i, o[0], out);
+    put_at(way, identity_strings, book, n, i + 1, o[1], out);
+    put_at(way, identity_strings, book, n, i + 2, o[2], out);
+    put_at(way, identity_strings, book, n, i + 3, o[3], out);
 }
 
 // Records i to i + 3 of n, converted; the block cipher runs that they took.
 pub(crate) fn convert_four(
     way: Way,
     ring: &RingBytes,
-    strings: [u8; 8],
+    identity_strings: [u8; 8],
     book: &[u8],
     n: usize,
     i: usize,
     out: &mut [u8],
 ) -> usize
     requires { ⌜ (i + 4 ≤ n) × (sizeOf way * n ≤ length (now book)) × (toOf way * n ≤ length (now out)) ⌝ }
-    ensures { λ r. ⌜ (now (out .exit) ≡ putFour (toOf way) i (λ j. convertOf (now (ring .entry)) strings way (recordAt (sizeOf way) (now (book .entry)) j)) (now (out .entry)))
+    ensures { λ r. ⌜ (now (out .exit) ≡ putFour (toOf way) i (λ j. convertOf (now (ring .entry)) «identity_strings» way (recordAt (sizeOf way) (now (book .entry)) j)) (now (out .entry)))
         × (r ≡ 4 * textRuns) ⌝ }
 {
     let t = tasks_at(way, ring, book, n, i);
     let keys = t.keys;
     let inputs = t.inputs;
     let o = cores(way, keys, inputs);
-    put_four(way, strings, book, n, i, o, out);
+    put_four(way, identity_strings, book, n, i, o, out);
     runs_of(o)
 }

@@ -4,7 +4,7 @@ use crate::convert::convert_four;
 use crate::convert::convert_one;
 use records::inspect_sealed;
 use records::plain_fault;
-use records::strings_of;
+use records::identity_strings_of;
 use standard::PLAIN_RECORD;
 use standard::RingBytes;
 use standard::SEALED_RECORD;
@@ -120,24 +120,24 @@ pub(crate) fn scan(way: Way, ring: &RingBytes, book: &[u8], n: usize) -> Stop
 fn write_with(
     way: Way,
     ring: &RingBytes,
-    strings: [u8; 8],
+    identity_strings: [u8; 8],
     book: &[u8],
     n: usize,
     out: &mut [u8],
 ) -> usize
     requires { ⌜ (sizeOf way * n ≤ length (now book)) × (toOf way * n ≤ length (now out)) ⌝ }
-    ensures { λ r. ⌜ (now (out .exit) ≡ each n (sizeOf way) (convertOf (now (ring .entry)) strings way) (now (book .entry)) ++ drop (toOf way * n) (now (out .entry)))
+    ensures { λ r. ⌜ (now (out .exit) ≡ each n (sizeOf way) (convertOf (now (ring .entry)) «identity_strings» way) (now (book .entry)) ++ drop (toOf way * n) (now (out .entry)))
         × (r ≡ textRuns * n) ⌝ }
 {
     let mut runs = 0;
     let mut i = 0;
     while n - i >= 4 {
-        let four = convert_four(way, ring, strings, book, n, i, out);
+        let four = convert_four(way, ring, identity_strings, book, n, i, out);
         runs += four;
         i += 4;
     }
     while i < n {
-        let one = convert_one(way, ring, strings, book, n, i, out);
+        let one = convert_one(way, ring, identity_strings, book, n, i, out);
         runs += one;
         i += 1;
     }
@@ -153,9 +153,9 @@ pub(crate) fn write(way: Way, ring: &RingBytes, book: &[u8], n: usize, out: &mut
     if n == 0 {
         return 0;
     }
-    let strings = strings_of(ring);
-    let b = strings.bytes;
-    let made = strings.runs;
+    let identity_strings = identity_strings_of(ring);
+    let b = identity_strings.bytes;
+    let made = identity_strings.runs;
     let wrote = write_with(way, ring, b, book, n, out);
     made + wrote
 }

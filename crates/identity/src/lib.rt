@@ -181,8 +181,8 @@ pub fn ta61(common_key: &[u8], identity: u64) -> Identity
     if identity >= 16777216 {
         return refused_identity(VALUE_WIDE);
     }
-    let strings = bc(array10(common_key));
-    let b = strings.bytes;
+    let identity_strings = bc(array10(common_key));
+    let b = identity_strings.bytes;
     Identity {
         refusal: 0,
         identity: number3(encrypt_identity(b, bytes3(identity))),
@@ -198,8 +198,8 @@ pub fn ta61_inverse(common_key: &[u8], encrypted_identity: u64) -> Identity
     if encrypted_identity >= 16777216 {
         return refused_identity(VALUE_WIDE);
     }
-    let strings = bc(array10(common_key));
-    let b = strings.bytes;
+    let identity_strings = bc(array10(common_key));
+    let b = identity_strings.bytes;
     Identity {
         refusal: 0,
         identity: number3(decrypt_identity(b, bytes3(encrypted_identity))),

@@ -48,7 +48,7 @@ ghost use Rattle.standard.specs.Sizes.{plainSize, sealedSize};
 ghost use Rattle.records.specs.RecordForms.{coreKey, plainInput, sealedWith, openedWith};
 
 // A ring's identity strings, and the cipher run that they took.
-pub fn strings_of(ring: &RingBytes) -> IdentityStrings
+pub fn identity_strings_of(ring: &RingBytes) -> IdentityStrings
     ensures { λ b. ⌜ b ≡ record { bytes = bcOf (commonKey (now (ring .entry))); runs = identityRuns } ⌝ }
 {
     bc(ring_c(ring))
@@ -187,23 +187,23 @@ pub fn open_task(ring: &RingBytes, rec: &[u8]) -> Task
     }
 }
 
-// The sealed record of a plain one and its sealed text, into its own part of the output. `strings` are the ring's.
-pub fn put_sealed(strings: [u8; 8], rec: &[u8], text: [u8; 15], out: &mut [u8])
-    ensures { λ _. ⌜ now (out .exit) ≡ take (length (now (out .entry))) (sealedWith strings (now (rec .entry)) text) ++ drop sealedSize (now (out .entry)) ⌝ }
+// The sealed record of a plain one and its sealed text, into its own part of the output. `identity_strings` are the ring's.
+pub fn put_sealed(identity_strings: [u8; 8], rec: &[u8], text: [u8; 15], out: &mut [u8])
+    ensures { λ _. ⌜ now (out .exit) ≡ take (length (now (out .entry))) (sealedWith «identity_strings» (now (rec .entry)) text) ++ drop sealedSize (now (out .entry)) ⌝ }
 {
     let head = plain_head(array18(rec));
-    let encrypted = encrypt_identity(strings, identity_of(head));
+    let encrypted = encrypt_identity(identity_strings, identity_of(head));
     copy(&sealed_record(with_identity(head, encrypted), text), out);
 }
 
 // The plain record of a sealed one and what BL2 gives for it, into its own part of the output.
-pub fn put_opened(strings: [u8; 8], rec: &[u8], u: [u8; 15], out: &mut [u8])
-    ensures { λ _. ⌜ now (out .exit) ≡ take (length (now (out .entry))) (openedWith strings (now (rec .entry)) u) ++ drop plainSize (now (out .entry)) ⌝ }
+pub fn put_opened(identity_strings: [u8; 8], rec: &[u8], u: [u8; 15], out: &mut [u8])
+    ensures { λ _. ⌜ now (out .exit) ≡ take (length (now (out .entry))) (openedWith «identity_strings» (now (rec .entry)) u) ++ drop plainSize (now (out .entry)) ⌝ }
 {
     let head = sealed_head(array21(rec));
     let kind = kind_of(head[0]);
     let algorithm = kind.algorithm;
-    let decrypted = decrypt_identity(strings, identity_of(head));
+    let decrypted = decrypt_identity(identity_strings, identity_of(head));
     copy(
         &plain_record(with_identity(head, decrypted), body_of(algorithm, u)),
         out,

@@ -14,7 +14,7 @@ returns c =
     let head = kind .before in
     let copied = head .before in
     let x = copied .before .before .before .args in
-    opened-put (x .strings) (now (x .rec)) (copied .array21 .result) (head .sealed-head .result) (identity .decrypt-identity .result) (body .before .with-identity .result) (now (x .out)) _ (made .plain-record .result)
+    opened-put (x .identity-strings) (now (x .rec)) (copied .array21 .result) (head .sealed-head .result) (identity .decrypt-identity .result) (body .before .with-identity .result) (now (x .out)) _ (made .plain-record .result)
     (head .sealed-head .ensures) (body .before .with-identity .ensures) (c .before .before .copy .ensures) (kind .kind-of .result) (x .u) (body .body-of .result) (copied .array21 .ensures) (kind .kind-of .ensures)
     (identity .decrypt-identity .ensures ∙ rw (identity .before .identity-of .ensures)) (body .body-of .ensures) (made .plain-record .ensures)
 

@@ -12,7 +12,7 @@ returns c =
     let head = identity .before .before in
     let copied = head .before in
     let x = copied .before .before .before .args in
-    sealed-put (x .strings) (now (x .rec)) (copied .array18 .result) (head .plain-head .result) (identity .encrypt-identity .result) (made .before .with-identity .result) (now (x .out)) _ (made .sealed-record .result)
+    sealed-put (x .identity-strings) (now (x .rec)) (copied .array18 .result) (head .plain-head .result) (identity .encrypt-identity .result) (made .before .with-identity .result) (now (x .out)) _ (made .sealed-record .result)
     (head .plain-head .ensures) (made .before .with-identity .ensures) (c .before .before .copy .ensures) (x .text) (copied .array18 .ensures)
     (identity .encrypt-identity .ensures ∙ rw (identity .before .identity-of .ensures)) (made .sealed-record .ensures)
 

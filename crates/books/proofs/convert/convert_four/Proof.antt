@@ -20,7 +20,7 @@ returns c =
     let x = c .before .before .before .before .before .before .before .before .before .before .before .args in
     let w = x .way in
     let r = now (x .ring) in
-    let b = x .strings in
+    let b = x .identity-strings in
     let t = c .before .before .before .before .before .before .before .before .tasks-at .ensures in
     let o = c .before .before .before .before .before .cores .ensures in (
       c .before .before .before .put-four .ensures

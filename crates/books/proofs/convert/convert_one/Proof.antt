@@ -16,7 +16,7 @@ returns c =
     let task = c .before .before .before .before .before .before .before .task-at .ensures in
     let core = c .before .before .before .before .core .ensures in (
       c .before .before .put-at .ensures
-          ∙ ap (λ (y : List ℕ). putAt (toOf (x .way)) (x .i) y (now (x .out))) (converted-by (x .way) (now (x .ring)) (x .strings) _ (task .0) (task .1) (ap (λ (o : CoreOutput15). o .output) core)),
+          ∙ ap (λ (y : List ℕ). putAt (toOf (x .way)) (x .i) y (now (x .out))) (converted-by (x .way) (now (x .ring)) (x .identity-strings) _ (task .0) (task .1) (ap (λ (o : CoreOutput15). o .output) core)),
       ap (λ (o : CoreOutput15). o .runs) core,
     )
 

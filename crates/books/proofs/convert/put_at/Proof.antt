@@ -41,9 +41,9 @@ returns c =
     let i = x .i in
     let room = fits (sizeOf w) i (x .n) (size .result) _ (size .ensures) (start .pre .0) (start .pre .1) in
     let part : _ ≡ recordAt (sizeOf w) book i = lent (size .result) i book room ∙ ap (λ (k : ℕ). recordAt k book i) (size .ensures) in
-    put-lent (to .result) i (now (x .out)) (madeOf w (x .strings) _ (x .o .output)) _ (fits (toOf w) i (x .n) (to .result) _ (to .ensures) (start .pre .0) (start .pre .2))
-    (made-length w (x .strings) _ (x .o .output) ∙ sym (to .ensures)) (rw (← to .ensures) at (c .before .before .put .ensures))
-    ∙ ap₂ (λ (v : ℕ) (y : List ℕ). putAt v i (madeOf w (x .strings) y (x .o .output)) (now (x .out))) (to .ensures) part
+    put-lent (to .result) i (now (x .out)) (madeOf w (x .identity-strings) _ (x .o .output)) _ (fits (toOf w) i (x .n) (to .result) _ (to .ensures) (start .pre .0) (start .pre .2))
+    (made-length w (x .identity-strings) _ (x .o .output) ∙ sym (to .ensures)) (rw (← to .ensures) at (c .before .before .put .ensures))
+    ∙ ap₂ (λ (v : ℕ) (y : List ℕ). putAt v i (madeOf w (x .identity-strings) y (x .o .output)) (now (x .out))) (to .ensures) part
 
 pub put-at-spec : {M : Type 1} → statement M
 put-at-spec =

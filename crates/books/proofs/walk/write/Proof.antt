@@ -29,7 +29,7 @@ add-result : tie.Need-add-result
 add-result c =
     let wrote = c .before .before in
     let start = wrote .before .before .before .before .before .before .before in
-    omega (arith, one-run (wrote .before .before .before .strings-of .ensures), wrote .write-with .ensures .1, runs-fit (start .args .way) (start .args .n) _ (start .pre .0), start .good)
+    omega (arith, one-run (wrote .before .before .before .identity-strings-of .ensures), wrote .write-with .ensures .1, runs-fit (start .args .way) (start .args .n) _ (start .pre .0), start .good)
 
 returns-2 : tie.Need-returns-2
 returns-2 c =
@@ -38,9 +38,9 @@ returns-2 c =
     let x = made .before .before .before .before .args in (
       wrote .write-with .ensures .0
           ∙ ap (λ (l : List ℕ). l ++ drop (toOf (x .way) * x .n) (now (x .out)))
-          (ap (λ (s : IdentityStrings). each (x .n) (sizeOf (x .way)) (convertOf (now (x .ring)) (s .bytes) (x .way)) (now (x .book))) (made .strings-of .ensures)
+          (ap (λ (s : IdentityStrings). each (x .n) (sizeOf (x .way)) (convertOf (now (x .ring)) (s .bytes) (x .way)) (now (x .book))) (made .identity-strings-of .ensures)
           ∙ converted-is (now (x .ring)) (x .way) (x .n) (now (x .book))),
-      rw (ne-eqb _ _ (made .before .if1 .left)) (omega (arith, one-run (made .strings-of .ensures), wrote .write-with .ensures .1)),
+      rw (ne-eqb _ _ (made .before .if1 .left)) (omega (arith, one-run (made .identity-strings-of .ensures), wrote .write-with .ensures .1)),
     )
 
 pub write-spec : {M : Type 1} → statement M

@@ -13,27 +13,27 @@ use Rattle.books.proofs.walk.write_with.Statement.{statement}
 use Rattle.books.proofs.walk.write_with.Tie as tie
 
 abbrev Inv-loop : tie.InvT-loop
-Inv-loop way ring strings book n out₀ runs₀ i₀ out runs i = (i ≤ n) × Wrote (sizeOf way) (toOf way) (convertOf ring strings way) book out₀ i out × (runs ≡ textRuns * i)
+Inv-loop way ring identity-strings book n out₀ runs₀ i₀ out runs i = (i ≤ n) × Wrote (sizeOf way) (toOf way) (convertOf ring identity-strings way) book out₀ i out × (runs ≡ textRuns * i)
 
 abbrev μ-loop : tie.MeasureT-loop
-μ-loop way ring strings book n out₀ runs₀ i₀ out runs i = n - i
+μ-loop way ring identity-strings book n out₀ runs₀ i₀ out runs i = n - i
 
 -- out₀ is the output where the second loop begins: what the first wrote over an output o stays, and the rest comes behind it
 abbrev Inv-loop2 : tie.InvT-loop2
-Inv-loop2 way ring strings book n out₀ runs₀ i₀ out runs i =
+Inv-loop2 way ring identity-strings book n out₀ runs₀ i₀ out runs i =
     (i ≤ n)
-    × ((o : List ℕ) → Wrote (sizeOf way) (toOf way) (convertOf ring strings way) book o i₀ out₀ → Wrote (sizeOf way) (toOf way) (convertOf ring strings way) book o i out)
+    × ((o : List ℕ) → Wrote (sizeOf way) (toOf way) (convertOf ring identity-strings way) book o i₀ out₀ → Wrote (sizeOf way) (toOf way) (convertOf ring identity-strings way) book o i out)
     × (runs ≡ textRuns * i)
 
 abbrev μ-loop2 : tie.MeasureT-loop2
-μ-loop2 way ring strings book n out₀ runs₀ i₀ out runs i = n - i
+μ-loop2 way ring identity-strings book n out₀ runs₀ i₀ out runs i = n - i
 
 loop-holds : tie.Need-loop-holds Inv-loop μ-loop Inv-loop2 μ-loop2
 loop-holds c =
     let x = c .before .before .args in
     let w = x .way in
-    let made = convertOf (now (x .ring)) (x .strings) w in
-    (zero-le, wrote-none (sizeOf w) (toOf w) made (converted-length (now (x .ring)) (x .strings) w) (now (x .book)) (now (x .out)), refl)
+    let made = convertOf (now (x .ring)) (x .identity-strings) w in
+    (zero-le, wrote-none (sizeOf w) (toOf w) made (converted-length (now (x .ring)) (x .identity-strings) w) (now (x .book)) (now (x .out)), refl)
 
 sub-loop : tie.Need-sub-loop Inv-loop μ-loop Inv-loop2 μ-loop2
 sub-loop c = omega (arith, c .loop .inv .0)
@@ -63,7 +63,7 @@ loop-again c =
     let w = x .way in
     let few : at .i + 4 ≤ x .n = omega (arith, at .inv .0, c .before .before .before .before .loop-test .taken) in (
       few,
-      wrote-four (sizeOf w) (toOf w) (convertOf (now (x .ring)) (x .strings) w) (converted-length (now (x .ring)) (x .strings) w) (now (x .book)) (now (x .out)) (at .i) (x .n) few (start .pre .1)
+      wrote-four (sizeOf w) (toOf w) (convertOf (now (x .ring)) (x .identity-strings) w) (converted-length (now (x .ring)) (x .identity-strings) w) (now (x .book)) (now (x .out)) (at .i) (x .n) few (start .pre .1)
           (at .out) (at .inv .1) (c .before .before .convert-four .ensures .0),
       omega (arith, at .inv .2, c .before .before .convert-four .ensures .1),
     )
@@ -98,7 +98,7 @@ loop2-again c =
     let kept = c .before .before .before .before .before .before .before .loop .inv .1 .kept in (
       omega (arith, one),
       λ o h.
-          wrote-one (sizeOf w) (toOf w) (convertOf (now (x .ring)) (x .strings) w) (converted-length (now (x .ring)) (x .strings) w) (now (x .book)) o (at .i) (x .n) one
+          wrote-one (sizeOf w) (toOf w) (convertOf (now (x .ring)) (x .identity-strings) w) (converted-length (now (x .ring)) (x .identity-strings) w) (now (x .book)) o (at .i) (x .n) one
           (omega (arith, start .pre .1, kept, h .kept)) (at .out) (at .inv .1 o h) (c .before .before .convert-one .ensures .0),
       omega (arith, at .inv .2, c .before .before .convert-one .ensures .1),
     )
