@@ -130,7 +130,7 @@ fn xor8(a: [u8; 8], b: [u8; 8]) -> [u8; 8]
 }
 
 // The right block of x ⊕ the left output.
-pub fn chained(x: [u8; 16], l: [u8; 8]) -> [u8; 8]
+pub fn bl1_right_input(x: [u8; 16], l: [u8; 8]) -> [u8; 8]
     ensures { λ r. ⌜ r ≡ xors 8 (part 8 8 x) l ⌝ }
 {
     xor8(right(x), l)
@@ -179,7 +179,7 @@ pub fn bl1_with(keys: &[u8; 192], x: [u8; 16]) -> CoreOutput16
     ensures { λ o. ⌜ o ≡ counted16 (bl1With (now (keys .entry)) x) ⌝ }
 {
     let l = encrypt_with(keys, left(x));
-    let r = encrypt_with(keys, chained(x, l));
+    let r = encrypt_with(keys, bl1_right_input(x, l));
     joined(l, r)
 }
 
@@ -191,14 +191,14 @@ pub fn bl1(key: [u8; 16], x: [u8; 16]) -> CoreOutput16
 }
 
 // The left block of y, its last byte ⊕ that of r.
-pub fn mended(y: [u8; 16], r: [u8; 8]) -> [u8; 8]
+pub fn bl2_left_input(y: [u8; 16], r: [u8; 8]) -> [u8; 8]
     ensures { λ w. ⌜ w ≡ part 0 7 y ++ ((y ! 7 ⊕ r ! 7) ∷ []) ⌝ }
 {
     [y[0], y[1], y[2], y[3], y[4], y[5], y[6], y[7] ^ r[7]]
 }
 
 // BL2's output: what its two cipher runs gave, the left one whole, and the first seven bytes of the right one ⊕ those of y.
-pub fn joined7(l: [u8; 8], r: [u8; 8], y: [u8; 16]) -> CoreOutput15
+pub fn bl2_output(l: [u8; 8], r: [u8; 8], y: [u8; 16]) -> CoreOutput15
     ensures { λ o. ⌜ o ≡ counted15 (part 0 8 l ++ xors 7 r (part 0 7 y)) ⌝ }
 {
     CoreOutput15 {
@@ -227,8 +227,8 @@ fn bl2_with(keys: &[u8; 192], y: [u8; 16]) -> CoreOutput15
     ensures { λ o. ⌜ o ≡ counted15 (bl2With (now (keys .entry)) y) ⌝ }
 {
     let r = decrypt_with(keys, right(y));
-    let l = decrypt_with(keys, mended(y, r));
-    joined7(l, r, y)
+    let l = decrypt_with(keys, bl2_left_input(y, r));
+    bl2_output(l, r, y)
 }
 
 pub fn bl2(key: [u8; 16], y: [u8; 16]) -> CoreOutput15

@@ -1,11 +1,11 @@
 // BL1 and BL2 of four strings side by side, one to a lane, each lane under a key of its own.
 use cores::CoreOutput15;
 use cores::CoreOutput16;
-use cores::chained;
+use cores::bl1_right_input;
 use cores::joined;
-use cores::joined7;
+use cores::bl2_output;
 use cores::left;
-use cores::mended;
+use cores::bl2_left_input;
 use cores::right;
 use hurdle::Blocks;
 use hurdle::decrypt4_with;
@@ -52,10 +52,10 @@ fn chains(x: Strings16, l: Blocks) -> Blocks
     let lc = l.c;
     let ld = l.d;
     Blocks {
-        a: chained(xa, la),
-        b: chained(xb, lb),
-        c: chained(xc, lc),
-        d: chained(xd, ld),
+        a: bl1_right_input(xa, la),
+        b: bl1_right_input(xb, lb),
+        c: bl1_right_input(xc, lc),
+        d: bl1_right_input(xd, ld),
     }
 }
 
@@ -136,10 +136,10 @@ fn mends(y: Strings16, r: Blocks) -> Blocks
     let rc = r.c;
     let rd = r.d;
     Blocks {
-        a: mended(ya, ra),
-        b: mended(yb, rb),
-        c: mended(yc, rc),
-        d: mended(yd, rd),
+        a: bl2_left_input(ya, ra),
+        b: bl2_left_input(yb, rb),
+        c: bl2_left_input(yc, rc),
+        d: bl2_left_input(yd, rd),
     }
 }
 
@@ -160,10 +160,10 @@ fn joins7(l: Blocks, r: Blocks, y: Strings16) -> [CoreOutput15; 4]
     let yc = y.c;
     let yd = y.d;
     [
-        joined7(la, ra, ya),
-        joined7(lb, rb, yb),
-        joined7(lc, rc, yc),
-        joined7(ld, rd, yd),
+        bl2_output(la, ra, ya),
+        bl2_output(lb, rb, yb),
+        bl2_output(lc, rc, yc),
+        bl2_output(ld, rd, yd),
     ]
 }
 
