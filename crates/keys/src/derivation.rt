@@ -78,7 +78,7 @@ fn shr3(o: [u8; 16]) -> [u8; 10]
 }
 
 // TA71 on typed arrays.
-pub fn combined(a: [u8; 10], b: [u8; 10]) -> [u8; 10]
+pub fn ta71_of(a: [u8; 10], b: [u8; 10]) -> [u8; 10]
     ensures { λ r. ⌜ r ≡ ta71Of a b ⌝ }
 {
     shr3(core(key_input(a, b), xor10(a, b)))

@@ -10,7 +10,7 @@ use arrays::array10;
 use arrays::array12;
 use arrays::array16;
 use arrays::have_lengths;
-pub use derivation::combined;
+pub use derivation::ta71_of;
 pub use derivation::core;
 pub use derivation::reversed;
 pub use masks::mask_refusal;
@@ -109,7 +109,7 @@ pub fn ta71(key1: &[u8], key2: &[u8]) -> Bytes10
     }
     Bytes10 {
         refusal: 0,
-        bytes: combined(array10(key1), array10(key2)),
+        bytes: ta71_of(array10(key1), array10(key2)),
     }
 }
 

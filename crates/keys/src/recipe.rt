@@ -3,8 +3,8 @@ use crate::derivation::core;
 use crate::derivation::reversed;
 use crate::masks::split;
 use arrays::copy;
-use mixing::mix4;
-use mixing::mix7;
+use mixing::tb4_of;
+use mixing::tb7_of;
 use standard::Authentication;
 use standard::RING;
 use standard::RingBytes;
@@ -79,12 +79,12 @@ pub(crate) fn make(x: RingInputs) -> RingMade
     let second = half(x.sides != 1, root, seed, rand2, x.response_mask, x.key_mask);
     let key1 = first.key;
     let key2 = second.key;
-    let d = mix4(key1, key2);
+    let d = tb4_of(key1, key2);
     let response1 = first.response;
     let response2 = second.response;
     RingMade {
         refusal: 0,
-        ring: halves(joined(d, core(root, rso)), joined(c, mix7(group_key))),
+        ring: halves(joined(d, core(root, rso)), joined(c, tb7_of(group_key))),
         response1,
         response2,
     }

@@ -7,10 +7,10 @@ use crate::sheet::second_parent;
 use crate::sheet::value_at;
 use arrays::array10;
 use arrays::array16;
-use keys::combined;
+use keys::ta71_of;
 use keys::core;
 use keys::reversed;
-use mixing::mix4;
+use mixing::tb4_of;
 use standard::SHEET_RECORD;
 ghost use mathlib.Core.Path.{_≡_};
 ghost use Prim.Native.Nat.{_+_, _*_, _≤_};
@@ -36,8 +36,8 @@ fn derive(operation: u8, a: Value, b: Value) -> Value
         1 => core(a, second),
         2 => core(a, reversed(second)),
         3 => core(a, second),
-        4 => array16(&mix4(first, second)),
-        _ => array16(&combined(first, second)),
+        4 => array16(&tb4_of(first, second)),
+        _ => array16(&ta71_of(first, second)),
     }
 }
 

@@ -19,16 +19,16 @@ halves : (key : List ℕ) (left right n : ℕ) → right < 2 ^ 40 → left * 2 ^
     → xors 10 key (bytesOf 5 left ++ bytesOf 5 right) ≡ xors 10 key (bytesOf 10 n)
 halves key left right n h e = ap (xors 10 key) (sym (bytes-cat 5 5 left right h) ∙ ap (bytesOf 10) e)
 
-pub cell-halves : (key : List ℕ) (la cn cc : ℕ) → la < 2 ^ 14 → cn < 2 ^ 12 → cc < 2 ^ 6
+pub tb5-halves : (key : List ℕ) (la cn cc : ℕ) → la < 2 ^ 14 → cn < 2 ^ 12 → cc < 2 ^ 6
     → xors 10 key
     (bytesOf 5 (((la * 4096 + cn) * 64 + cc) * 256 + cn / 16)
     ++ bytesOf 5 ((((cn % 16 * 64 + cc) * 4096 + cn) * 64 + cc) * 4096 + cn))
     ≡ tb5 key la cn cc
 unfolding tb5
-cell-halves key la cn cc a b d = halves key _ _ _ (omega arith) (omega arith)
+tb5-halves key la cn cc a b d = halves key _ _ _ (omega arith) (omega arith)
 
-pub member-halves : (key : List ℕ) (cn ssi : ℕ) → cn < 2 ^ 12 → ssi < 2 ^ 24
+pub tb6-halves : (key : List ℕ) (cn ssi : ℕ) → cn < 2 ^ 12 → ssi < 2 ^ 24
     → xors 10 key (bytesOf 5 ((cn * 16777216 + ssi) * 16 + cn / 256) ++ bytesOf 5 ((cn % 256 * 16777216 + ssi) * 256 + ssi % 256))
     ≡ tb6 key cn ssi
 unfolding tb6
-member-halves key cn ssi a b = halves key _ _ _ (omega arith) (omega arith)
+tb6-halves key cn ssi a b = halves key _ _ _ (omega arith) (omega arith)

@@ -23,7 +23,7 @@ pub fn wide(width: u64) -> bool
 }
 
 // TB1: the value again and again. Any eight bits of the row stand in two copies, with `right` bits after them.
-pub(crate) fn repeated(value: u64, width: u64) -> [u8; 16]
+pub(crate) fn tb1_of(value: u64, width: u64) -> [u8; 16]
     requires { ⌜ (16 ≤ width) × (width ≤ 32) × (value < 2 ^ width) ⌝ }
     ensures { λ r. ⌜ r ≡ tb1 value width ⌝ }
 {
@@ -55,7 +55,7 @@ fn halves10(left: u64, right: u64) -> [u8; 10]
 }
 
 // TB5 in two halves of 40 bits, the second carrier cut after 8 of its 12. A product makes room for the next field.
-pub(crate) fn cell(
+pub(crate) fn tb5_of(
     cipher_key: [u8; 10],
     location_area: u64,
     carrier: u64,
@@ -71,7 +71,7 @@ pub(crate) fn cell(
 }
 
 // TB6 in two halves of 40 bits, the second carrier cut after 4 of its 12.
-pub(crate) fn member(cipher_key: [u8; 10], carrier: u64, identity: u64) -> [u8; 10]
+pub(crate) fn tb6_of(cipher_key: [u8; 10], carrier: u64, identity: u64) -> [u8; 10]
     requires { ⌜ (carrier < 2 ^ 12) × (identity < 2 ^ 24) ⌝ }
     ensures { λ r. ⌜ r ≡ tb6 «cipher_key» carrier identity ⌝ }
 {

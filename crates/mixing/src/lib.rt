@@ -1,10 +1,10 @@
 // TB1 to TB7, the mixing algorithms of TAA1 (000, clause 5).
 mod fields;
 
-use crate::fields::cell;
+use crate::fields::tb5_of;
 use crate::fields::fits_in;
-use crate::fields::member;
-use crate::fields::repeated;
+use crate::fields::tb6_of;
+use crate::fields::tb1_of;
 use arrays::array10;
 use arrays::array12;
 use arrays::array16;
@@ -23,14 +23,14 @@ ghost use mathlib.Core.Path.{_≡_};
 ghost use Rattle.standard.specs.Mixing.{tb4 as tb4Of, tb7 as tb7Of, tb1Call, tb2Call, tb3Call, tb4Call, tb5Call, tb6Call, tb7Call};
 
 // TB4 on typed arrays.
-pub fn mix4(a: [u8; 10], b: [u8; 10]) -> [u8; 10]
+pub fn tb4_of(a: [u8; 10], b: [u8; 10]) -> [u8; 10]
     ensures { λ r. ⌜ r ≡ tb4Of a b ⌝ }
 {
     xor10(a, b)
 }
 
 // TB7 on a typed array: after each three bytes, their ⊕.
-pub fn mix7(b: [u8; 12]) -> [u8; 16]
+pub fn tb7_of(b: [u8; 12]) -> [u8; 16]
     ensures { λ r. ⌜ r ≡ tb7Of b ⌝ }
 {
     [
@@ -65,7 +65,7 @@ pub fn tb1(value: u64, width: u64) -> Bytes16
     }
     Bytes16 {
         refusal: 0,
-        bytes: repeated(value, width),
+        bytes: tb1_of(value, width),
     }
 }
 
@@ -95,7 +95,7 @@ pub fn tb3(input: &[u8], value: u64, width: u64) -> Bytes16
     }
     Bytes16 {
         refusal: 0,
-        bytes: xor16(array16(input), repeated(value, width)),
+        bytes: xor16(array16(input), tb1_of(value, width)),
     }
 }
 
@@ -107,7 +107,7 @@ pub fn tb4(input1: &[u8], input2: &[u8]) -> Bytes10
     }
     Bytes10 {
         refusal: 0,
-        bytes: mix4(array10(input1), array10(input2)),
+        bytes: tb4_of(array10(input1), array10(input2)),
     }
 }
 
@@ -123,7 +123,7 @@ pub fn tb5(cipher_key: &[u8], location_area: u64, carrier: u64, colour_code: u64
     }
     Bytes10 {
         refusal: 0,
-        bytes: cell(array10(cipher_key), location_area, carrier, colour_code),
+        bytes: tb5_of(array10(cipher_key), location_area, carrier, colour_code),
     }
 }
 
@@ -139,7 +139,7 @@ pub fn tb6(cipher_key: &[u8], carrier: u64, identity: u64) -> Bytes10
     }
     Bytes10 {
         refusal: 0,
-        bytes: member(array10(cipher_key), carrier, identity),
+        bytes: tb6_of(array10(cipher_key), carrier, identity),
     }
 }
 
@@ -151,6 +151,6 @@ pub fn tb7(group_key: &[u8]) -> Bytes16
     }
     Bytes16 {
         refusal: 0,
-        bytes: mix7(array12(group_key)),
+        bytes: tb7_of(array12(group_key)),
     }
 }

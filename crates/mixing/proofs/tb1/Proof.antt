@@ -22,8 +22,8 @@ returns-2 c =
     let x = c .before .before .before in
     rw (c .refused162 .ensures, passed (x .before .wide .ensures) (x .if1 .left), failed (c .before .before .fits-in .ensures) (c .before .if2 .taken))
 
-repeated-requires : tie.Need-repeated-requires
-repeated-requires c κs =
+tb1-of-requires : tie.Need-tb1-of-requires
+tb1-of-requires c κs =
     let x = c .before .before in
     let s = wide-split _ (passed (x .before .wide .ensures) (x .if1 .left)) in
     (s .0, s .1, ltb-true _ _ (passed (c .before .fits-in .ensures) (c .if2 .left)))
@@ -32,7 +32,7 @@ returns-3 : tie.Need-returns-3
 unfolding tb1Call
 returns-3 c =
     let x = c .before .before .before in
-    rw (c .repeated .ensures, passed (x .before .wide .ensures) (x .if1 .left), passed (c .before .before .fits-in .ensures) (c .before .if2 .left))
+    rw (c .tb1-of .ensures, passed (x .before .wide .ensures) (x .if1 .left), passed (c .before .before .fits-in .ensures) (c .before .if2 .left))
 
 pub tb1-spec : {M : Type 1} → statement M
 tb1-spec =
@@ -44,5 +44,5 @@ tb1-spec =
     fits-in-requires
     (λ c κs. search needs)
     returns-2
-    repeated-requires
+    tb1-of-requires
     returns-3)

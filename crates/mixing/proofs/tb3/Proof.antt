@@ -27,8 +27,8 @@ returns-3 c =
     let x = c .before .before .before in
     rw (c .refused163 .ensures, eq-eqb _ _ (x .before .before .if1 .left), passed (x .before .wide .ensures) (x .if2 .left), failed (c .before .before .fits-in .ensures) (c .before .if3 .taken))
 
-repeated-requires : tie.Need-repeated-requires
-repeated-requires c κs =
+tb1-of-requires : tie.Need-tb1-of-requires
+tb1-of-requires c κs =
     let x = c .before .before .before in
     let s = wide-split _ (passed (x .before .wide .ensures) (x .if2 .left)) in
     (s .0, s .1, ltb-true _ _ (passed (c .before .before .fits-in .ensures) (c .before .if3 .left)))
@@ -38,7 +38,7 @@ unfolding tb3Call tb3
 returns-4 c =
     let x = c .before .before .before in
     let y = x .before .before in
-    rw (c .xor16 .ensures, c .before .repeated .ensures, c .before .before .array16 .ensures, eq-eqb _ _ (y .before .before .if1 .left), passed (y .before .wide .ensures) (y .if2 .left), passed (x .before .fits-in .ensures) (x .if3 .left))
+    rw (c .xor16 .ensures, c .before .tb1-of .ensures, c .before .before .array16 .ensures, eq-eqb _ _ (y .before .before .if1 .left), passed (y .before .wide .ensures) (y .if2 .left), passed (x .before .fits-in .ensures) (x .if3 .left))
 
 pub tb3-spec : {M : Type 1} → statement M
 tb3-spec =
@@ -53,6 +53,6 @@ tb3-spec =
     (λ c κs. search needs)
     returns-3
     (λ c κs. search needs)
-    repeated-requires
+    tb1-of-requires
     (λ c κs. search needs)
     returns-4)

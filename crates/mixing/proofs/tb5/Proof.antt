@@ -18,8 +18,8 @@ returns-2 c =
     let e = ap₂ _&&_ (ap₂ _&&_ (x .before .before .fits-in .ensures) (x .before .fits-in2 .ensures)) (x .fits-in3 .ensures) in
     rw (c .refused102 .ensures, eq-eqb _ _ (x .before .before .before .if1 .left), failed e (c .before .if2 .taken))
 
-cell-requires : tie.Need-cell-requires
-cell-requires c κs =
+tb5-of-requires : tie.Need-tb5-of-requires
+tb5-of-requires c κs =
     let x = c .before .before in
     let e = ap₂ _&&_ (ap₂ _&&_ (x .before .before .fits-in .ensures) (x .before .fits-in2 .ensures)) (x .fits-in3 .ensures) in
     let s = and-split _ _ (passed e (c .before .if2 .left)) in
@@ -31,7 +31,7 @@ unfolding tb5Call tb5
 returns-3 c =
     let x = c .before .before .before in
     let e = ap₂ _&&_ (ap₂ _&&_ (x .before .before .fits-in .ensures) (x .before .fits-in2 .ensures)) (x .fits-in3 .ensures) in
-    rw (c .cell .ensures, c .before .array10 .ensures, eq-eqb _ _ (x .before .before .before .if1 .left), passed e (c .before .before .if2 .left))
+    rw (c .tb5-of .ensures, c .before .array10 .ensures, eq-eqb _ _ (x .before .before .before .if1 .left), passed e (c .before .before .if2 .left))
 
 pub tb5-spec : {M : Type 1} → statement M
 tb5-spec =
@@ -45,5 +45,5 @@ tb5-spec =
     (λ c κs. search needs)
     returns-2
     (λ c κs. search needs)
-    cell-requires
+    tb5-of-requires
     returns-3)

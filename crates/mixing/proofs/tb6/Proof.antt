@@ -18,8 +18,8 @@ returns-2 c =
     let e = ap₂ _&&_ (x .before .fits-in .ensures) (x .fits-in2 .ensures) in
     rw (c .refused102 .ensures, eq-eqb _ _ (x .before .before .if1 .left), failed e (c .before .if2 .taken))
 
-member-requires : tie.Need-member-requires
-member-requires c κs =
+tb6-of-requires : tie.Need-tb6-of-requires
+tb6-of-requires c κs =
     let x = c .before .before in
     let e = ap₂ _&&_ (x .before .fits-in .ensures) (x .fits-in2 .ensures) in
     let s = and-split _ _ (passed e (c .before .if2 .left)) in
@@ -30,7 +30,7 @@ unfolding tb6Call tb6
 returns-3 c =
     let x = c .before .before .before in
     let e = ap₂ _&&_ (x .before .fits-in .ensures) (x .fits-in2 .ensures) in
-    rw (c .member .ensures, c .before .array10 .ensures, eq-eqb _ _ (x .before .before .if1 .left), passed e (c .before .before .if2 .left))
+    rw (c .tb6-of .ensures, c .before .array10 .ensures, eq-eqb _ _ (x .before .before .if1 .left), passed e (c .before .before .if2 .left))
 
 pub tb6-spec : {M : Type 1} → statement M
 tb6-spec =
@@ -43,5 +43,5 @@ tb6-spec =
     (λ c κs. search needs)
     returns-2
     (λ c κs. search needs)
-    member-requires
+    tb6-of-requires
     returns-3)

@@ -14,9 +14,9 @@ returns c =
     let x = second .before .before .before .before .before .before .before .before .before .before .before .before .args .x in
     let o₁ : second .before .before .before .half .result ≡ half1 x = second .before .before .before .half .ensures in
     let o₂ : second .half2 .result ≡ half2 x = rw (second .half2 .ensures, second .before .before .reversed .ensures) in
-    let d : mixed .mix4 .result ≡ tb4 (half1 x .key) (half2 x .key) = rw (o₁, o₂) at (mixed .mix4 .ensures) in
+    let d : mixed .tb4-of .result ≡ tb4 (half1 x .key) (half2 x .key) = rw (o₁, o₂) at (mixed .tb4-of .ensures) in
     let made =
-    ring-made x (mixed .mix4 .result) (front .before .core .result) (c .before .before .mix7 .result) d (front .before .core .ensures) (c .before .before .mix7 .ensures)
+    ring-made x (mixed .tb4-of .result) (front .before .core .result) (c .before .before .tb7-of .result) d (front .before .core .ensures) (c .before .before .tb7-of .ensures)
     _ _ _ (front .joined .ensures) (c .before .joined2 .ensures) (c .halves .ensures) in
     rw (made, o₁, o₂)
 

@@ -31,8 +31,8 @@ returns-4 c =
     let made = c .before .before in
     let keys = made .before .before in
     let x = keys .before .before .before .before .args in
-    let e : made .mix4 .result ≡ derived (x .operation) (x .t2) (x .t3) =
-    made .mix4 .ensures ∙ rw (keys .array102 .ensures, keys .before .before .array10 .ensures) (by-tb4 (x .operation) (x .t2) (x .t3) (made .before .match .keys4)) in
+    let e : made .tb4-of .result ≡ derived (x .operation) (x .t2) (x .t3) =
+    made .tb4-of .ensures ∙ rw (keys .array102 .ensures, keys .before .before .array10 .ensures) (by-tb4 (x .operation) (x .t2) (x .t3) (made .before .match .keys4)) in
     c .array16 .ensures ∙ ap (part 0 16) e
 
 returns-5 : tie.Need-returns-5
@@ -41,8 +41,8 @@ returns-5 c =
     let keys = made .before .before in
     let x = keys .before .before .before .before .args in
     let r = made .before .match .rest in
-    let e : made .combined .result ≡ derived (x .operation) (x .t2) (x .t3) =
-    made .combined .ensures ∙ rw (keys .array102 .ensures, keys .before .before .array10 .ensures)
+    let e : made .ta71-of .result ≡ derived (x .operation) (x .t2) (x .t3) =
+    made .ta71-of .ensures ∙ rw (keys .array102 .ensures, keys .before .before .array10 .ensures)
     (by-ta71 (x .operation) (x .t2) (x .t3) (r .0 .0 .0 .1) (r .0 .0 .1) (r .0 .1) (r .1)) in
     c .array162 .ensures ∙ ap (part 0 16) e
 

@@ -7,8 +7,8 @@ use Rattle.standard.proofs.FillLaws.{fill-next, filled}
 use Rattle.standard.proofs.MixingLaws.{twice-exact, twice-fits, tb1-at}
 use Rattle.standard.specs.Bytes.{_!_, table}
 use Rattle.standard.specs.Mixing.{tb1}
-use Rattle.mixing.proofs.fields.repeated.Statement.{statement}
-use Rattle.mixing.proofs.fields.repeated.Tie as tie
+use Rattle.mixing.proofs.fields.tb1_of.Statement.{statement}
+use Rattle.mixing.proofs.fields.tb1_of.Tie as tie
 
 abbrev Inv-loop : tie.InvT-loop
 Inv-loop value width twice out₀ i₀ out i = (i ≤ 16) × (length out ≡ 16) × (take i out ≡ table i (λ j. tb1 value width ! j))
@@ -47,8 +47,8 @@ returns c =
     let x = c .before .before .args in
     filled (at .out) (λ j. tb1 (x .value) (x .width) ! j) 16 (at .i) (at .inv .1) (omega arith) (at .inv .2)
 
-pub repeated-spec : {M : Type 1} → statement M
-repeated-spec =
+pub tb1-of-spec : {M : Type 1} → statement M
+tb1-of-spec =
     tie.close
     (tie.spec
     Inv-loop

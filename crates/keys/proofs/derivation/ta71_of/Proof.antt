@@ -1,16 +1,16 @@
 use borrow.Author.Needs.{needs}
 use Rattle.standard.specs.Derivation.{ta71, ta71Key}
 use Rattle.standard.specs.Expansions.{shr3}
-use Rattle.keys.proofs.derivation.combined.Statement.{statement}
-use Rattle.keys.proofs.derivation.combined.Tie as tie
+use Rattle.keys.proofs.derivation.ta71_of.Statement.{statement}
+use Rattle.keys.proofs.derivation.ta71_of.Tie as tie
 
 returns : tie.Need-returns
 unfolding ta71 ta71Key shr3
 returns c =
     rw (c .shr3 .ensures, c .before .core .ensures, c .before .before .xor10 .ensures, c .before .before .before .key-input .ensures)
 
-pub combined-spec : {M : Type 1} → statement M
-combined-spec =
+pub ta71-of-spec : {M : Type 1} → statement M
+ta71-of-spec =
     tie.close
     (tie.spec
     (λ c κs. search needs)

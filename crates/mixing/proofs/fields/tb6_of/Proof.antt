@@ -1,16 +1,16 @@
 use borrow.Author.Needs.{needs}
-use Rattle.mixing.proofs.FieldLaws.{member-halves}
-use Rattle.mixing.proofs.fields.member.Statement.{statement}
-use Rattle.mixing.proofs.fields.member.Tie as tie
+use Rattle.mixing.proofs.FieldLaws.{tb6-halves}
+use Rattle.mixing.proofs.fields.tb6_of.Statement.{statement}
+use Rattle.mixing.proofs.fields.tb6_of.Tie as tie
 
 returns : tie.Need-returns
 returns c =
     let x = c .before .before in
     rw (c .xor10 .ensures, c .before .halves10 .ensures)
-    (member-halves (x .args .cipher-key) (x .args .carrier) (x .args .identity) (x .pre .0) (x .pre .1))
+    (tb6-halves (x .args .cipher-key) (x .args .carrier) (x .args .identity) (x .pre .0) (x .pre .1))
 
-pub member-spec : {M : Type 1} → statement M
-member-spec =
+pub tb6-of-spec : {M : Type 1} → statement M
+tb6-of-spec =
     tie.close
     (tie.spec
     (λ c. search needs)

@@ -1,16 +1,16 @@
 use borrow.Author.Needs.{needs}
-use Rattle.mixing.proofs.FieldLaws.{cell-halves}
-use Rattle.mixing.proofs.fields.cell.Statement.{statement}
-use Rattle.mixing.proofs.fields.cell.Tie as tie
+use Rattle.mixing.proofs.FieldLaws.{tb5-halves}
+use Rattle.mixing.proofs.fields.tb5_of.Statement.{statement}
+use Rattle.mixing.proofs.fields.tb5_of.Tie as tie
 
 returns : tie.Need-returns
 returns c =
     let x = c .before .before in
     rw (c .xor10 .ensures, c .before .halves10 .ensures)
-    (cell-halves (x .args .cipher-key) (x .args .location-area) (x .args .carrier) (x .args .colour-code) (x .pre .0) (x .pre .1) (x .pre .2))
+    (tb5-halves (x .args .cipher-key) (x .args .location-area) (x .args .carrier) (x .args .colour-code) (x .pre .0) (x .pre .1) (x .pre .2))
 
-pub cell-spec : {M : Type 1} → statement M
-cell-spec =
+pub tb5-of-spec : {M : Type 1} → statement M
+tb5-of-spec =
     tie.close
     (tie.spec
     (λ c. search needs)
