@@ -19,7 +19,7 @@ fn doubled(key: [u8; 16]) -> [u8; 32]
 }
 
 // All sixteen round keys, each bytes 11..0 of its Q.
-pub(crate) fn lay(key: [u8; 16]) -> [u8; 192]
+pub(crate) fn lay_out_round_keys(key: [u8; 16]) -> [u8; 192]
     ensures { λ r. ⌜ r ≡ scheduleOf key ⌝ }
 {
     let rotations = ROTATIONS;

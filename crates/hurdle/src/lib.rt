@@ -4,7 +4,7 @@ mod lanes;
 mod round;
 mod tables;
 
-use crate::key_schedule::lay;
+use crate::key_schedule::lay_out_round_keys;
 use crate::lanes::crypt4;
 use crate::round::crypt;
 use crate::tables::S_INVERSE;
@@ -29,7 +29,7 @@ ghost use Rattle.standard.specs.Hurdle.{S as sOf, S⁻¹ as sInverseOf, schedul
 pub fn schedule(key: [u8; 16]) -> [u8; 192]
     ensures { λ r. ⌜ r ≡ scheduleOf key ⌝ }
 {
-    lay(key)
+    lay_out_round_keys(key)
 }
 
 // A block under round keys that were laid out before.
@@ -80,14 +80,14 @@ pub fn decrypt4_with(
 pub fn encrypt_block(key: [u8; 16], block: [u8; 8]) -> [u8; 8]
     ensures { λ r. ⌜ r ≡ encryptOf key block ⌝ }
 {
-    let keys = lay(key);
+    let keys = lay_out_round_keys(key);
     crypt(&keys, block, false)
 }
 
 pub fn decrypt_block(key: [u8; 16], block: [u8; 8]) -> [u8; 8]
     ensures { λ r. ⌜ r ≡ decryptOf key block ⌝ }
 {
-    let keys = lay(key);
+    let keys = lay_out_round_keys(key);
     crypt(&keys, block, true)
 }
 
@@ -128,7 +128,7 @@ fn crypted(key: &[u8], block: &[u8], back: bool) -> Bytes8
     if !have_lengths(key, 16, block, 8) {
         return refused8(WRONG_LENGTH);
     }
-    let keys = lay(array16(key));
+    let keys = lay_out_round_keys(array16(key));
     Bytes8 {
         refusal: 0,
         bytes: crypt(&keys, array8(block), back),

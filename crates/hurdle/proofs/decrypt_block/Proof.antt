@@ -5,7 +5,7 @@ use Rattle.hurdle.proofs.decrypt_block.Tie as tie
 
 returns : tie.Need-returns
 unfolding decrypt
-returns c = rw (c .crypt .ensures, c .before .before .lay .ensures)
+returns c = rw (c .crypt .ensures, c .before .before .lay-out-round-keys .ensures)
 
 pub decrypt-block-spec : {M : Type 1} → statement M
 decrypt-block-spec = tie.close (tie.spec (λ c κs. search needs) (λ c κs. search needs) returns)

@@ -7,8 +7,8 @@ use borrow.Author.Needs.{needs}
 use Rattle.hurdle.proofs.ScheduleLaws.{rotations, masks, rotation, made, made-at, all-made}
 use Rattle.standard.proofs.FillLaws.{fill-next, filled}
 use Rattle.standard.specs.Bytes.{_!_, table}
-use Rattle.hurdle.proofs.key_schedule.lay.Statement.{statement}
-use Rattle.hurdle.proofs.key_schedule.lay.Tie as tie
+use Rattle.hurdle.proofs.key_schedule.lay_out_round_keys.Statement.{statement}
+use Rattle.hurdle.proofs.key_schedule.lay_out_round_keys.Tie as tie
 
 abbrev Inv-loop2 : tie.InvT-loop2
 Inv-loop2 rots ms twice keys₀ i from j₀ keys j =
@@ -67,8 +67,8 @@ returns c =
     filled (at .keys) (made rotations masks (made-of .result)) 192 (at .i * 12) (at .inv .1) (omega arith) (at .inv .2)
     ∙ all-made (c .before .before .before .args .key) (made-of .result) (made-of .ensures)
 
-pub lay-spec : {M : Type 1} → statement M
-lay-spec =
+pub lay-out-round-keys-spec : {M : Type 1} → statement M
+lay-out-round-keys-spec =
     tie.close
     (tie.spec
     Inv-loop2
