@@ -8,7 +8,7 @@ use native.Mathlib.Omega.{arith}
 use lib.ListN.{length, take, drop}
 use borrow.Author.Tests.{leb-true}
 use Rattle.lists.proofs.ListReturnLaws.{call-refused, call-done}
-use Rattle.lists.proofs.WalkLaws.{ends, Laid, laid-none, own-length, laid-next}
+use Rattle.lists.proofs.WalkLaws.{ends, PrefixWritten, prefix-none, own-length, prefix-next}
 use Rattle.standard.proofs.ColumnsLaws.{column-long}
 use Rattle.standard.proofs.FirstLaws.{all-pass}
 use Rattle.standard.specs.Columns.{column, columnsCall}
@@ -22,11 +22,11 @@ in-rows width n i j h k = omega (arith, ends width i n h)
 -- ---- the first j columns of n rows are written, and behind them the output is as it was
 
 abbrev pub Filed : (n width : ℕ) (rows out₀ : List ℕ) (j : ℕ) (out : List ℕ) → Type 0
-Filed n width rows out₀ j out = Laid n (column n width rows) out₀ j out
+Filed n width rows out₀ j out = PrefixWritten n (column n width rows) out₀ j out
 
 module _ (n width : ℕ) (rows out₀ : List ℕ) where
   pub filed-none : Filed n width rows out₀ 0 out₀
-  filed-none = laid-none n (column n width rows) (column-long n width rows) out₀
+  filed-none = prefix-none n (column n width rows) (column-long n width rows) out₀
 
   module _ (j : ℕ) (out : List ℕ) (h : Filed n width rows out₀ j out) (room : n * j + n ≤ length out₀) where
     abbrev own : List ℕ
@@ -42,7 +42,7 @@ module _ (n width : ℕ) (rows out₀ : List ℕ) where
     pub filed-more : (exit : List ℕ) → exit ≡ column (length own) width rows j
         → Filed n width rows out₀ (j + 1) (take (n * j) out ++ (exit ++ drop (n * j + n - n * j) (drop (n * j) out)))
     filed-more exit e =
-        laid-next n (column n width rows) (column-long n width rows) out₀ j out h room exit
+        prefix-next n (column n width rows) (column-long n width rows) out₀ j out h room exit
         (e ∙ ap (λ (k : ℕ). column k width rows j) own-long)
 
 -- ---- the call

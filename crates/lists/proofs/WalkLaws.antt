@@ -64,7 +64,7 @@ stopped-not n g none = record {
 -- ---- the pass that writes: g 0, g 1, .. , v bytes each
 
 -- the first i are written, and behind them the output is as it was
-pub record Laid (v : ℕ) (g : ℕ → List ℕ) (out₀ : List ℕ) (i : ℕ) (out : List ℕ) : Type 0 where
+pub record PrefixWritten (v : ℕ) (g : ℕ → List ℕ) (out₀ : List ℕ) (i : ℕ) (out : List ℕ) : Type 0 where
   pub bytes : out ≡ joined i g ++ drop (v * i) out₀
   pub kept : length out ≡ length out₀
 
@@ -72,18 +72,18 @@ module _ (v : ℕ) (g : ℕ → List ℕ) (long : (i : ℕ) → length (g i) ≡
   length-joined : (n : ℕ) → length (joined n g) ≡ v * n
   length-joined n = joined-length v g n (λ i h. long i)
 
-  pub laid-none : Laid v g out₀ 0 out₀
-  laid-none = record { bytes = rw mul-zero; kept = refl }
+  pub prefix-none : PrefixWritten v g out₀ 0 out₀
+  prefix-none = record { bytes = rw mul-zero; kept = refl }
 
-  module _ (i : ℕ) (out : List ℕ) (h : Laid v g out₀ i out) where
+  module _ (i : ℕ) (out : List ℕ) (h : PrefixWritten v g out₀ i out) where
     -- part j of what is written
-    pub laid-at : (j : ℕ) → j < i → recordAt v out j ≡ g j
-    laid-at j k =
+    pub prefix-at : (j : ℕ) → j < i → recordAt v out j ≡ g j
+    prefix-at j k =
         rw (h .bytes)
         (part-left (v * j) v (joined i g) (drop (v * i) out₀) (omega (arith, length-joined i, ends v j i k))
         ∙ joined-at v g i (λ l m. long l) j k)
 
-  module _ (i : ℕ) (out : List ℕ) (h : Laid v g out₀ i out) (room : v * i + v ≤ length out₀) where
+  module _ (i : ℕ) (out : List ℕ) (h : PrefixWritten v g out₀ i out) (room : v * i + v ≤ length out₀) where
     -- the output's own part for string i
     abbrev own : List ℕ
     own = take (v * i + v - v * i) (drop (v * i) out)
@@ -92,9 +92,9 @@ module _ (v : ℕ) (g : ℕ → List ℕ) (long : (i : ℕ) → length (g i) ≡
     own-length = lent-length v i out (omega (arith, room, h .kept))
 
     -- string i in its own part
-    pub laid-next : (exit : List ℕ) → exit ≡ g i
-        → Laid v g out₀ (i + 1) (take (v * i) out ++ (exit ++ drop (v * i + v - v * i) (drop (v * i) out)))
-    laid-next exit made = record { bytes = bytes; kept = ap length bytes ∙ lengths }
+    pub prefix-next : (exit : List ℕ) → exit ≡ g i
+        → PrefixWritten v g out₀ (i + 1) (take (v * i) out ++ (exit ++ drop (v * i + v - v * i) (drop (v * i) out)))
+    prefix-next exit made = record { bytes = bytes; kept = ap length bytes ∙ lengths }
       where
         next : v * i + v ≡ v * (i + 1)
         next = rw add-one (sym (mul-suc v i))
@@ -108,9 +108,9 @@ module _ (v : ℕ) (g : ℕ → List ℕ) (long : (i : ℕ) → length (g i) ≡
         lengths = rw (length-append, length-joined (i + 1), length-drop) (omega (arith, room, next))
 
     -- string i put into its own part
-    pub laid-more : (y exit : List ℕ) → y ≡ g i → exit ≡ take (length own) y ++ drop v own
-        → Laid v g out₀ (i + 1) (take (v * i) out ++ (exit ++ drop (v * i + v - v * i) (drop (v * i) out)))
-    laid-more y exit q e = laid-next exit (overwritten v own y exit own-length (ap length q ∙ long i) e ∙ q)
+    pub prefix-more : (y exit : List ℕ) → y ≡ g i → exit ≡ take (length own) y ++ drop v own
+        → PrefixWritten v g out₀ (i + 1) (take (v * i) out ++ (exit ++ drop (v * i + v - v * i) (drop (v * i) out)))
+    prefix-more y exit q e = prefix-next exit (overwritten v own y exit own-length (ap length q ∙ long i) e ∙ q)
 
 -- ---- strings put at their places
 
@@ -128,33 +128,33 @@ four-put v i g out e₀ e₁ e₂ e₃ = rw (e₀, e₁, e₂, e₃)
 
 -- string i at its place; then the four from i on at theirs
 module _ (v : ℕ) (g : ℕ → List ℕ) (long : (i : ℕ) → length (g i) ≡ v) (out₀ : List ℕ) where
-  laid-put : (i j : ℕ) → j ≡ i + 1 → (out : List ℕ) → Laid v g out₀ i out → v * i + v ≤ length out₀ → Laid v g out₀ j (putAt v i (g i) out)
-  laid-put i j e out h room =
-      rw e (rw (add-sub-cancel-left (v * i) v, drop-drop v (v * i) out) at (laid-next v g long out₀ i out h room (g i) refl))
+  prefix-put : (i j : ℕ) → j ≡ i + 1 → (out : List ℕ) → PrefixWritten v g out₀ i out → v * i + v ≤ length out₀ → PrefixWritten v g out₀ j (putAt v i (g i) out)
+  prefix-put i j e out h room =
+      rw e (rw (add-sub-cancel-left (v * i) v, drop-drop v (v * i) out) at (prefix-next v g long out₀ i out h room (g i) refl))
 
-  laid-four : (i n : ℕ) → i + 4 ≤ n → v * n ≤ length out₀ → (out : List ℕ) → Laid v g out₀ i out → Laid v g out₀ (i + 4) (putFour v i g out)
-  laid-four i n few room out h =
+  prefix-four : (i n : ℕ) → i + 4 ≤ n → v * n ≤ length out₀ → (out : List ℕ) → PrefixWritten v g out₀ i out → PrefixWritten v g out₀ (i + 4) (putFour v i g out)
+  prefix-four i n few room out h =
       let fits : (j : ℕ) → j < n → v * j + v ≤ length out₀ = λ j l. omega (arith, room, ends v j n l) in
-      let one = laid-put i (i + 1) refl out h (fits i (omega arith)) in
-      let two = laid-put (i + 1) (i + 2) (omega arith) _ one (fits (i + 1) (omega arith)) in
-      let three = laid-put (i + 2) (i + 3) (omega arith) _ two (fits (i + 2) (omega arith)) in
-      laid-put (i + 3) (i + 4) (omega arith) _ three (fits (i + 3) (omega arith))
+      let one = prefix-put i (i + 1) refl out h (fits i (omega arith)) in
+      let two = prefix-put (i + 1) (i + 2) (omega arith) _ one (fits (i + 1) (omega arith)) in
+      let three = prefix-put (i + 2) (i + 3) (omega arith) _ two (fits (i + 2) (omega arith)) in
+      prefix-put (i + 3) (i + 4) (omega arith) _ three (fits (i + 3) (omega arith))
 
 -- ---- where f makes the records of v bytes from records of w
 
 abbrev pub Wrote : (w v : ℕ) → (List ℕ → List ℕ) → (xs out₀ : List ℕ) → ℕ → List ℕ → Type 0
-Wrote w v f xs out₀ i out = Laid v (λ j. f (recordAt w xs j)) out₀ i out
+Wrote w v f xs out₀ i out = PrefixWritten v (λ j. f (recordAt w xs j)) out₀ i out
 
 module _ (w v : ℕ) (f : List ℕ → List ℕ) (long : (x : List ℕ) → length (f x) ≡ v) (xs out₀ : List ℕ) where
   pub wrote-none : Wrote w v f xs out₀ 0 out₀
-  wrote-none = laid-none v (λ j. f (recordAt w xs j)) (λ j. long (recordAt w xs j)) out₀
+  wrote-none = prefix-none v (λ j. f (recordAt w xs j)) (λ j. long (recordAt w xs j)) out₀
 
   -- record i of n at its place; then four of them
   pub wrote-one : (i n : ℕ) → i < n → v * n ≤ length out₀ → (out : List ℕ) → Wrote w v f xs out₀ i out → {exit : List ℕ} → exit ≡ putAt v i (f (recordAt w xs i)) out
       → Wrote w v f xs out₀ (i + 1) exit
   wrote-one i n h room out k e =
-      rw e (laid-put v (λ j. f (recordAt w xs j)) (λ j. long (recordAt w xs j)) out₀ i (i + 1) refl out k (omega (arith, room, ends v i n h)))
+      rw e (prefix-put v (λ j. f (recordAt w xs j)) (λ j. long (recordAt w xs j)) out₀ i (i + 1) refl out k (omega (arith, room, ends v i n h)))
 
   pub wrote-four : (i n : ℕ) → i + 4 ≤ n → v * n ≤ length out₀ → (out : List ℕ) → Wrote w v f xs out₀ i out → {exit : List ℕ} → exit ≡ putFour v i (λ j. f (recordAt w xs j)) out
       → Wrote w v f xs out₀ (i + 4) exit
-  wrote-four i n few room out k e = rw e (laid-four v (λ j. f (recordAt w xs j)) (λ j. long (recordAt w xs j)) out₀ i n few room out k)
+  wrote-four i n few room out k e = rw e (prefix-four v (λ j. f (recordAt w xs j)) (λ j. long (recordAt w xs j)) out₀ i n few room out k)
