@@ -3,7 +3,7 @@ use libc::STDERR_FILENO;
 use programs::Input;
 use programs::read_argument;
 use programs::read_input;
-use programs::tell;
+use programs::report_answer;
 use programs::write_output;
 use sitting::sitting_ring;
 use standard::BookAnswer;
@@ -63,10 +63,10 @@ fn main() {
     }
     let made = sitting_ring(&sitting[..n]);
     if made.refusal != 0 {
-        tell(answer(made.refusal, 0));
+        report_answer(answer(made.refusal, 0));
         return;
     }
     if write_made(made) {
-        tell(answer(0, RING + 8));
+        report_answer(answer(0, RING + 8));
     }
 }

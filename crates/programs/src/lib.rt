@@ -157,7 +157,7 @@ pub fn read_argument(program: &[u8], buf: &mut [u8]) -> Input
 }
 
 // A line to standard error.
-fn say(l: Line) -> bool {
+fn write_stderr(l: Line) -> bool {
     let n = l.size();
     let bytes = l.bytes;
     put(STDERR_FILENO, &bytes, n)
@@ -186,7 +186,7 @@ pub fn read_ring(program: &[u8]) -> RingInput
 {
     let mut ring = [0u8; RING];
     if os::arg_count() != 2 {
-        say(usage(program));
+        write_stderr(usage(program));
         return ring_input(ring, FAILED);
     }
     let input = read_argument(program, &mut ring);
@@ -215,7 +215,7 @@ pub fn write_output(program: &[u8], bytes: &[u8], n: usize) -> bool
 }
 
 // The first n bytes of a line about an answer, on standard error. Whether there was no refusal.
-fn told(refusal: u32, line: &[u8], n: usize) -> bool
+fn report_line(refusal: u32, line: &[u8], n: usize) -> bool
     ensures { λ r. ⌜ r ≡ eqb refusal 0 ⌝ }
 {
     put(STDERR_FILENO, line, n);
@@ -223,19 +223,19 @@ fn told(refusal: u32, line: &[u8], n: usize) -> bool
 }
 
 // The line about an answer, on standard error. Whether it is no refusal.
-pub fn tell(answer: BookAnswer) -> bool
+pub fn report_answer(answer: BookAnswer) -> bool
     ensures { λ r. ⌜ r ≡ eqb (answer .refusal) 0 ⌝ }
 {
     let mut line = [0u8; ROOM];
-    let said = report(answer, &mut line);
-    told(answer.refusal, &line, said.written)
+    let reported = report(answer, &mut line);
+    report_line(answer.refusal, &line, reported.written)
 }
 
 // The same for sealing and opening a book, with the block cipher runs.
-pub fn tell_counted(answer: CountedAnswer) -> bool
+pub fn report_counted_answer(answer: CountedAnswer) -> bool
     ensures { λ r. ⌜ r ≡ eqb (answer .refusal) 0 ⌝ }
 {
     let mut line = [0u8; ROOM];
-    let said = report_counted(answer, &mut line);
-    told(answer.refusal, &line, said.written)
+    let reported = report_counted(answer, &mut line);
+    report_line(answer.refusal, &line, reported.written)
 }
