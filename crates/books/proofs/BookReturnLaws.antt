@@ -64,7 +64,8 @@ module _ (r : List ℕ) (w : Way) (xs out : List ℕ) where
       unfolding bookCall
       record-refused k i runs s p f =
           rw (eq-eqb _ _ h, ← e)
-          (ap₂ counted (call-stopped refusal n (faultAt r w xs) bytes made out z k i s f) (p ∙ runs-stopped refusal n (faultAt r w xs) (inspectionAt w xs) z k i s f))
+          (ap₂ counted (call-stopped refusal n (faultAt r w xs) bytes made out z k i s f)
+          (p ∙ runs-stopped refusal n (faultAt r w xs) (inspectionAt w xs) z k i s f))
 
       pub all-written : Clean (faultAt r w xs) n → (exit : List ℕ) → exit ≡ made ++ drop bytes out
           → (inspections writes : ℕ) → inspections ≡ firstPass n (faultAt r w xs) (inspectionAt w xs) → writes ≡ secondPass n

@@ -59,7 +59,8 @@ fn core(way: Way, key: [u8; 16], input: [u8; 16]) -> CoreOutput15
 
 // What is made of the core's output, into the record's own part of the output.
 fn put(way: Way, identity_strings: [u8; 8], rec: &[u8], o: [u8; 15], out: &mut [u8])
-    ensures { λ _. ⌜ now (out .exit) ≡ take (length (now (out .entry))) (madeOf way «identity_strings» (now (rec .entry)) o) ++ drop (toOf way) (now (out .entry)) ⌝ }
+    ensures { λ _. ⌜ now (out .exit)
+        ≡ take (length (now (out .entry))) (madeOf way «identity_strings» (now (rec .entry)) o) ++ drop (toOf way) (now (out .entry)) ⌝ }
 {
     match way {
         Way::Sealing => put_sealed(identity_strings, rec, o, out),
@@ -78,7 +79,8 @@ fn put_at(
     out: &mut [u8],
 )
     requires { ⌜ (i < n) × (sizeOf way * n ≤ length (now book)) × (toOf way * n ≤ length (now out)) ⌝ }
-    ensures { λ _. ⌜ now (out .exit) ≡ putAt (toOf way) i (madeOf way «identity_strings» (recordAt (sizeOf way) (now (book .entry)) i) (o .output)) (now (out .entry)) ⌝ }
+    ensures { λ _. ⌜ now (out .exit)
+        ≡ putAt (toOf way) i (madeOf way «identity_strings» (recordAt (sizeOf way) (now (book .entry)) i) (o .output)) (now (out .entry)) ⌝ }
 {
     let size = way.size() as usize;
     let to = way.to() as usize;
@@ -196,7 +198,8 @@ fn put_four(
     out: &mut [u8],
 )
     requires { ⌜ (i + 4 ≤ n) × (sizeOf way * n ≤ length (now book)) × (toOf way * n ≤ length (now out)) ⌝ }
-    ensures { λ _. ⌜ now (out .exit) ≡ putAt (toOf way) (i + 3) (madeOf way «identity_strings» (recordAt (sizeOf way) (now (book .entry)) (i + 3)) (lane15 o 3 .output))
+    ensures { λ _. ⌜ now (out .exit)
+        ≡ putAt (toOf way) (i + 3) (madeOf way «identity_strings» (recordAt (sizeOf way) (now (book .entry)) (i + 3)) (lane15 o 3 .output))
         (putAt (toOf way) (i + 2) (madeOf way «identity_strings» (recordAt (sizeOf way) (now (book .entry)) (i + 2)) (lane15 o 2 .output))
         (putAt (toOf way) (i + 1) (madeOf way «identity_strings» (recordAt (sizeOf way) (now (book .entry)) (i + 1)) (lane15 o 1 .output))
         (putAt (toOf way) i (madeOf way «identity_strings» (recordAt (sizeOf way) (now (book .entry)) i) (lane15 o 0 .output)) (now (out .entry))))) ⌝ }

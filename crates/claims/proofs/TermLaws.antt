@@ -73,10 +73,14 @@ sealed-by Ta91 s v b hs h = rw (eq-eqb _ _ hs, spell (h .bytes))
 
 pub unsealing-size : (a : Algorithm) (s : List ℕ) (v : Version) (t : List ℕ) → unsealCall a t s v .refusal ≡ 0 → length s ≡ sealingSize a
 unfolding ta32Call ta52Call ta82Call ta92Call
-unsealing-size Ta31 s v t e = eqb-true _ _ (and-split (hasLength 15 t) (hasLength 10 s) (all-pass ((hasLength 15 t && hasLength 10 s, wrongLength) ∷ []) refl e 0) .1)
-unsealing-size Ta51 s v t e = eqb-true _ _ (and-split (hasLength 15 t) (hasLength 16 s) (all-pass ((hasLength 15 t && hasLength 16 s, wrongLength) ∷ []) refl e 0) .1)
-unsealing-size Ta81 s v t e = eqb-true _ _ (and-split (hasLength 15 t) (hasLength 16 s) (all-pass ((hasLength 15 t && hasLength 16 s, wrongLength) ∷ []) refl e 0) .1)
-unsealing-size Ta91 s v t e = eqb-true _ _ (and-split (hasLength 15 t) (hasLength 16 s) (all-pass ((hasLength 15 t && hasLength 16 s, wrongLength) ∷ []) refl e 0) .1)
+unsealing-size Ta31 s v t e =
+    eqb-true _ _ (and-split (hasLength 15 t) (hasLength 10 s) (all-pass ((hasLength 15 t && hasLength 10 s, wrongLength) ∷ []) refl e 0) .1)
+unsealing-size Ta51 s v t e =
+    eqb-true _ _ (and-split (hasLength 15 t) (hasLength 16 s) (all-pass ((hasLength 15 t && hasLength 16 s, wrongLength) ∷ []) refl e 0) .1)
+unsealing-size Ta81 s v t e =
+    eqb-true _ _ (and-split (hasLength 15 t) (hasLength 16 s) (all-pass ((hasLength 15 t && hasLength 16 s, wrongLength) ∷ []) refl e 0) .1)
+unsealing-size Ta91 s v t e =
+    eqb-true _ _ (and-split (hasLength 15 t) (hasLength 16 s) (all-pass ((hasLength 15 t && hasLength 16 s, wrongLength) ∷ []) refl e 0) .1)
 
 -- what a text opens to, before it is shrunk: bytes, whatever the text
 pub opened-bytes : (k t : List ℕ) → Bytes 15 t → Bytes 15 (opened k t)

@@ -36,7 +36,8 @@ openedAtEnd k t = bl2 k (withZeroAtEnd t)
 unfoldable pub ta82AtEnd : List ℕ → List ℕ → Version → UnsealedNumbered
 ta82AtEnd t s v =
     let u : List ℕ = openedAtEnd (form81 .key s (bytesOf 2 (v .0))) t in
-    unsealedNumbered (first ((hasLength 15 t && hasLength 16 s, wrongLength) ∷ [])) (part 0 10 (form81 .shrink u)) (number2 (form81 .shrink u)) (failed form81 u)
+    unsealedNumbered (first ((hasLength 15 t && hasLength 16 s, wrongLength) ∷ []))
+    (part 0 10 (form81 .shrink u)) (number2 (form81 .shrink u)) (failed form81 u)
 
 -- 14a: "The zero byte can as well be put back at the end." A sealed text would no longer open: here all three checks of it fail
 abbrev pub sealedText : List ℕ

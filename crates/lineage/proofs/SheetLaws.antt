@@ -105,13 +105,15 @@ module _ (s values : List ℕ) (i : ℕ) where
   value-derived a b z ea eb = rw (ea, eb, ne-eqb (operation (recordAt sheetSize s i)) 0 z)
 
   -- where the values before it are written, it is the record's
-  pub value-next : (n : ℕ) → Clean (lineageFault s) n → i < n → (out₀ : List ℕ) → PrefixWritten valueSize (valueOf s) out₀ i values → fromValues s values i ≡ valueOf s i
+  pub value-next : (n : ℕ) → Clean (lineageFault s) n → i < n → (out₀ : List ℕ) → PrefixWritten valueSize (valueOf s) out₀ i values
+      → fromValues s values i ≡ valueOf s i
   unfolding fromValues
   value-next n clean h out₀ prefix =
       from-same (recordAt sheetSize s i) _ _ _ _
       (λ z.
       let q = parents-before s i (clean i h) z in
-      (prefix-at valueSize (valueOf s) (value-long s) out₀ i values prefix _ (q .0), prefix-at valueSize (valueOf s) (value-long s) out₀ i values prefix _ (q .1)))
+      (prefix-at valueSize (valueOf s) (value-long s) out₀ i values prefix _ (q .0),
+      prefix-at valueSize (valueOf s) (value-long s) out₀ i values prefix _ (q .1)))
       ∙ sym (value-step s n clean i h)
 
 -- ---- the ways in which the call returns

@@ -189,7 +189,8 @@ pub fn open_task(ring: &RingBytes, rec: &[u8]) -> Task
 
 // The sealed record of a plain one and its sealed text, into its own part of the output. `identity_strings` are the ring's.
 pub fn put_sealed(identity_strings: [u8; 8], rec: &[u8], text: [u8; 15], out: &mut [u8])
-    ensures { λ _. ⌜ now (out .exit) ≡ take (length (now (out .entry))) (sealedWith «identity_strings» (now (rec .entry)) text) ++ drop sealedSize (now (out .entry)) ⌝ }
+    ensures { λ _. ⌜ now (out .exit)
+        ≡ take (length (now (out .entry))) (sealedWith «identity_strings» (now (rec .entry)) text) ++ drop sealedSize (now (out .entry)) ⌝ }
 {
     let head = plain_head(array18(rec));
     let encrypted = encrypt_identity(identity_strings, identity_of(head));
@@ -198,7 +199,8 @@ pub fn put_sealed(identity_strings: [u8; 8], rec: &[u8], text: [u8; 15], out: &m
 
 // The plain record of a sealed one and what BL2 gives for it, into its own part of the output.
 pub fn put_opened(identity_strings: [u8; 8], rec: &[u8], u: [u8; 15], out: &mut [u8])
-    ensures { λ _. ⌜ now (out .exit) ≡ take (length (now (out .entry))) (openedWith «identity_strings» (now (rec .entry)) u) ++ drop plainSize (now (out .entry)) ⌝ }
+    ensures { λ _. ⌜ now (out .exit)
+        ≡ take (length (now (out .entry))) (openedWith «identity_strings» (now (rec .entry)) u) ++ drop plainSize (now (out .entry)) ⌝ }
 {
     let head = sealed_head(array21(rec));
     let kind = kind_of(head[0]);

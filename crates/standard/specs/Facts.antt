@@ -154,7 +154,8 @@ flagFault r t =
 -- by 01's flag every book gets the same answer: it opens, or is refused, with the same number and index
 abbrev pub SameBooks : Type 0
 SameBooks = (r s out : List ℕ)
-    → openBook r s out ≡ bookCall (record { size = sealedSize; to = plainSize; fault = flagFault r; inspection = inspectionRuns; convert = openRecord r }) r s out
+    → openBook r s out
+    ≡ bookCall (record { size = sealedSize; to = plainSize; fault = flagFault r; inspection = inspectionRuns; convert = openRecord r }) r s out
 
 -- ---- plainlist's checks (01)
 

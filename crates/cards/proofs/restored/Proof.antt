@@ -24,7 +24,8 @@ loop-again c =
       omega arith,
       length-set (at .out) _ _ ∙ at .inv .1,
       fill-next (at .out) (λ j. choose (unreadableOf (x .unreadable) j) (groupParity (x .t1) (4 * (j / 4))) (x .t1 ! j)) (at .i) _ (omega arith)
-          (picked (x .unreadable) (at .i) (c .before .before .erased .ensures .0) _ _ (rw (c .before .group-parity .ensures) at (c .pick .ensures))) (at .inv .2),
+          (picked (x .unreadable) (at .i) (c .before .before .erased .ensures .0) _ _
+          (rw (c .before .group-parity .ensures) at (c .pick .ensures))) (at .inv .2),
     )
 
 returns : tie.Need-returns Inv-loop μ-loop

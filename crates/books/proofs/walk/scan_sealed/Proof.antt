@@ -37,11 +37,13 @@ part-is c = lent sealedSize (c .before .before .before .loop .index) (now (c .be
 
 -- so its fault and the runs of the inspection of it are what the inspection answered
 at : (c : tie.After-open-fault Inv-loop μ-loop)
-    → c .inspect-sealed .result .refusal ≡ faultAt (now (c .before .before .before .before .before .args .ring)) Opening (now (c .before .before .before .before .before .args .sealed)) (c .before .before .before .loop .index)
+    → c .inspect-sealed .result .refusal
+    ≡ faultAt (now (c .before .before .before .before .before .args .ring)) Opening (now (c .before .before .before .before .before .args .sealed)) (c .before .before .before .loop .index)
 at c = c .inspect-sealed .ensures .0 ∙ ap (openFault (now (c .before .before .before .before .before .args .ring))) (part-is c)
 
 took : (c : tie.After-open-fault Inv-loop μ-loop)
-    → c .inspect-sealed .result .runs ≡ inspectionAt Opening (now (c .before .before .before .before .before .args .sealed)) (c .before .before .before .loop .index)
+    → c .inspect-sealed .result .runs
+    ≡ inspectionAt Opening (now (c .before .before .before .before .before .args .sealed)) (c .before .before .before .loop .index)
 took c = c .inspect-sealed .ensures .1 ∙ ap inspectionRuns (part-is c)
 
 loop-holds : tie.Need-loop-holds Inv-loop μ-loop
