@@ -2,9 +2,9 @@
 // that writes leaves that to `convert`, for one record or for four.
 use crate::convert::convert_four;
 use crate::convert::convert_one;
+use records::identity_strings_of;
 use records::inspect_sealed;
 use records::plain_fault;
-use records::identity_strings_of;
 use standard::PLAIN_RECORD;
 use standard::RingBytes;
 use standard::SEALED_RECORD;

@@ -41,7 +41,10 @@ fn erasures(unreadable: u16, a: usize) -> u16
     requires { ⌜ a ≤ 12 ⌝ }
     ensures { λ r. ⌜ r ≡ erasuresOf unreadable a ⌝ }
 {
-    erased(unreadable, a) + erased(unreadable, a + 1) + erased(unreadable, a + 2) + erased(unreadable, a + 3)
+    erased(unreadable, a)
+        + erased(unreadable, a + 1)
+        + erased(unreadable, a + 2)
+        + erased(unreadable, a + 3)
 }
 
 // The ⊕ of the group's readable bytes.
@@ -85,7 +88,11 @@ fn restored(read: [u8; 16], unreadable: u16) -> [u8; 16]
 {
     let mut out = [0u8; 16];
     for i in 0..16 {
-        out[i] = pick(erased(unreadable, i), group_parity(read, 4 * (i / 4)), read[i]);
+        out[i] = pick(
+            erased(unreadable, i),
+            group_parity(read, 4 * (i / 4)),
+            read[i],
+        );
     }
     out
 }

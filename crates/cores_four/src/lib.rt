@@ -2,10 +2,10 @@
 use cores::CoreOutput15;
 use cores::CoreOutput16;
 use cores::bl1_right_input;
-use cores::joined;
-use cores::bl2_output;
-use cores::left;
 use cores::bl2_left_input;
+use cores::bl2_output;
+use cores::joined;
+use cores::left;
 use cores::right;
 use hurdle::Blocks;
 use hurdle::decrypt4_with;

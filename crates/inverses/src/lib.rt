@@ -28,10 +28,7 @@ ghost use Rattle.standard.specs.Refusals.{noInput, first, value as valueOf};
 fn refused_value(refusal: u32) -> Value
     ensures { λ r. ⌜ r ≡ record { refusal = refusal; value = 0 } ⌝ }
 {
-    Value {
-        refusal,
-        value: 0,
-    }
+    Value { refusal, value: 0 }
 }
 
 fn refused_cell(refusal: u32) -> Cell

@@ -111,9 +111,10 @@ module _ (s values : List ℕ) (i : ℕ) where
   value-next n clean h out₀ prefix =
       from-same (recordAt sheetSize s i) _ _ _ _
       (λ z.
-      let q = parents-before s i (clean i h) z in
-      (prefix-at valueSize (valueOf s) (value-long s) out₀ i values prefix _ (q .0),
-      prefix-at valueSize (valueOf s) (value-long s) out₀ i values prefix _ (q .1)))
+      let q = parents-before s i (clean i h) z in (
+        prefix-at valueSize (valueOf s) (value-long s) out₀ i values prefix _ (q .0),
+        prefix-at valueSize (valueOf s) (value-long s) out₀ i values prefix _ (q .1),
+      ))
       ∙ sym (value-step s n clean i h)
 
 -- ---- the ways in which the call returns

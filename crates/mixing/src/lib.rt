@@ -1,10 +1,10 @@
 // TB1 to TB7, the mixing algorithms of TAA1 (000, clause 5).
 mod fields;
 
-use crate::fields::tb5_of;
 use crate::fields::fits_in;
-use crate::fields::tb6_of;
 use crate::fields::tb1_of;
+use crate::fields::tb5_of;
+use crate::fields::tb6_of;
 use arrays::array10;
 use arrays::array12;
 use arrays::array16;

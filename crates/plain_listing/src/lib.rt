@@ -1,13 +1,13 @@
 // The listing of a plain book.
 use books::check_plain;
+use lines::Line;
+use lines::ROOM;
 use records::kind_of;
 use reports::refused_at;
 use standard::Algorithm;
 use standard::Kind;
 use standard::MOST_RECORDS;
 use standard::PLAIN_RECORD;
-use lines::Line;
-use lines::ROOM;
 ghost use mathlib.Core.List.{_++_};
 ghost use mathlib.Core.Path.{_≡_};
 ghost use Prim.Native.Nat.{_+_, _-_, _*_, _≤_};

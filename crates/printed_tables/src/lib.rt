@@ -1,9 +1,9 @@
 // The printed tables (02, 13): the inverse, made from S, and the running rotations, made from the sequence a.
 use hurdle::S;
+use lines::Line;
 use register::A;
 use standard::OUTPUT_SHORT;
 use standard::TextAnswer;
-use lines::Line;
 ghost use mathlib.Core.Path.{_≡_};
 ghost use lib.ListN.{length};
 ghost use Rattle.standard.specs.Hurdle.{S⁻¹};

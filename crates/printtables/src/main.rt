@@ -1,8 +1,8 @@
 // Prints S's inverse and the key schedule's running rotations. Reads nothing.
 use libc::STDERR_FILENO;
-use programs::write_output;
 use printed_tables::TABLES_TEXT;
 use printed_tables::print_tables;
+use programs::write_output;
 
 fn main() {
     if os::arg_count() > 1 {

@@ -1,8 +1,8 @@
 // The line about an answer: the bytes written, or the refusal with its meaning; and the block cipher runs, if they are counted.
+use lines::Line;
 use standard::BookAnswer;
 use standard::CountedAnswer;
 use standard::TextAnswer;
-use lines::Line;
 ghost use mathlib.Core.Path.{_≡_};
 ghost use Rattle.standard.specs.Listing.{refusedAt};
 ghost use Rattle.standard.specs.Programs.{meaning as meaningOf, meaningText, wroteText, answerText};

@@ -136,7 +136,12 @@ pub fn ta31(cipher_key: &[u8], version: Version, sealing_key: &[u8]) -> Bytes15
         Kind::TA31_SEALING_KEY,
     );
     let key = key10(array10(sealing_key), version);
-    seal_if(right_lengths, Algorithm::Ta31, key, body(array10(cipher_key), 0, 0))
+    seal_if(
+        right_lengths,
+        Algorithm::Ta31,
+        key,
+        body(array10(cipher_key), 0, 0),
+    )
 }
 
 pub fn ta32(text: &[u8], sealing_key: &[u8], version: Version) -> Unsealed

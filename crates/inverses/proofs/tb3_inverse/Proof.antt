@@ -42,7 +42,7 @@ returns-3 c =
     let long-tested = tested .before .before in
     let x = long-tested .before .before .before .before .args in
     let l : hasLength 16 (now (x .input)) && hasLength 16 (now (x .result)) ≡ true =
-        passed (long-tested .before .have-lengths .ensures) (long-tested .if1 .left) in
+    passed (long-tested .before .have-lengths .ensures) (long-tested .if1 .left) in
     let t : wide (x .width) ≡ true = passed (tested .before .wide .ensures) (tested .if2 .left) in
     let b = xors 8 (now (x .input)) (now (x .result)) in
     rw (c .confirmed .ensures, made .tb3 .ensures, made .before .field .ensures, made .before .before .unmixed .ensures, tb3-again (now (x .input)) b (x .width) (and-split _ _ l .0) t, l, t)

@@ -11,7 +11,7 @@ use Rattle.keys.proofs.under_root.Tie as tie
 returns : tie.Need-returns
 returns c =
     let t : hasLength 16 (now (c .before .before .before .args .root)) && c .before .before .before .args .seed-has-length ≡ false =
-        not-true _ (c .before .if1 .taken) in
+    not-true _ (c .before .if1 .taken) in
     rw (c .refused16 .ensures, t)
 
 returns-2 : tie.Need-returns-2

@@ -12,8 +12,12 @@ returns-2 : tie.Need-returns-2
 unfolding tb4Call
 returns-2 c =
     let tested = c .before .before .before in
-    rw (c .tb4-of .ensures, c .before .array102 .ensures, c .before .before .array10 .ensures,
-    passed (tested .before .have-lengths .ensures) (tested .if1 .left))
+    rw (
+      c .tb4-of .ensures,
+      c .before .array102 .ensures,
+      c .before .before .array10 .ensures,
+      passed (tested .before .have-lengths .ensures) (tested .if1 .left),
+    )
 
 pub tb4-spec : {M : Type 1} → statement M
 tb4-spec =
