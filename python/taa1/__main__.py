@@ -7,11 +7,14 @@ if __name__ == "__main__":
         signal.signal(signal.SIGINT, signal.SIG_DFL)  # it ends without a word, until main speaks
 
     import sys
+    from importlib.util import find_spec
 
     from .library import repository
 
     if root := repository():
         sys.path.append(str(root / "desk"))
+    if find_spec("taa1_desk") is None:
+        sys.exit("taa1: the module is here without the desk; `pip install .` in the repository installs both")
 
     from taa1_desk.cli import main
 

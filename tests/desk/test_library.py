@@ -7,6 +7,7 @@ import ctypes
 import io
 import mmap
 import os
+import shutil
 import subprocess
 import sys
 import time
@@ -225,3 +226,11 @@ class Installing(Case):
                 capture_output=True, cwd=self.folder, env=environment, check=False,
             )
             self.assertEqual((made.stdout, made.stderr), (b"bytes " + b"0" * 32 + b"\n", b""))
+
+    def test_module_alone(self) -> None:
+        """Copied without the desk, the module says what is missing."""
+        shutil.copytree(library.PACKAGE, self.folder / "taa1")
+        command = [sys.executable, "-m", "taa1", "slips"]
+        done = subprocess.run(command, cwd=self.folder, capture_output=True, check=False)
+        said = b"taa1: the module is here without the desk; `pip install .` in the repository installs both\n"
+        self.assertEqual((done.returncode, done.stdout, done.stderr), (1, b"", said))
