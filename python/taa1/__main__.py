@@ -14,7 +14,9 @@ if __name__ == "__main__":
     if root := repository():
         sys.path.append(str(root / "desk"))
     if find_spec("taa1_desk") is None:
-        sys.exit("taa1: the module is here without the desk; `pip install .` in the repository installs both")
+        said = "the module is here without the desk; `pip install .` in the repository installs both"
+        print(f"taa1: {said}", file=sys.stderr)
+        sys.exit(2)
 
     from taa1_desk.cli import main
 
