@@ -121,7 +121,7 @@ def play(engine: taa1.Engine, folder: str) -> None:
         print(f"accepted {size(engine.open_book(ring, candidate))}")
     except taa1.Refused as refused:
         print(refused)
-        if refused.number == taa1.Refusal.FLAG_SET:
+        if refused.number == taa1.Refusal.FLAG_SET and refused.index is not None:
             at = refused.index * taa1.SEALED_RECORD_BYTES
             record = candidate[at : at + taa1.SEALED_RECORD_BYTES]
             print_marks(engine, ring, refused.index, record)

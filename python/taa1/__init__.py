@@ -1,4 +1,15 @@
-"""The TAA1 engine for Python hosts."""
+"""The TAA1 engine for Python hosts; `python3 -m taa1` is the desk."""
+
+import sys as _sys
+
+# Under `python3 -m taa1` these lines are the program's first: an interrupt ends it without
+# a word, until main speaks. A host's signals are its own. (Python 3.9 does not tell what it
+# runs; there __main__ is the first to do so.)
+if _sys.argv[:1] == ["-m"]:
+    if getattr(_sys, "orig_argv", [])[-len(_sys.argv) :][:1] in (["taa1"], ["-mtaa1"]):
+        _signal = __import__("_signal")  # built in: no import is under way before this
+        if _signal.getsignal(_signal.SIGINT) is _signal.default_int_handler:
+            _signal.signal(_signal.SIGINT, _signal.SIG_DFL)
 
 from .engine import Engine
 from .library import LibraryError

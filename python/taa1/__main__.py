@@ -7,11 +7,16 @@ if __name__ == "__main__":
         signal.signal(signal.SIGINT, signal.SIG_DFL)  # it ends without a word, until main speaks
 
     import sys
+    from importlib.util import find_spec
 
     from .library import repository
 
     if root := repository():
         sys.path.append(str(root / "desk"))
+    if find_spec("taa1_desk") is None:
+        said = "the module is here without the desk; `pip install .` in the repository installs both"
+        print(f"taa1: {said}", file=sys.stderr)
+        sys.exit(2)
 
     from taa1_desk.cli import main
 

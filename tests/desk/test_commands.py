@@ -510,6 +510,9 @@ class Bad(Case):
         self.assertEqual(said, b"\r0 of 1\r\x1b[K")
 
 
+CHECKED = ("python/taa1", "python/make_wheel.py", "desk/taa1_desk", "examples/python/sitting.py")
+
+
 class Types(Case):
     """The type hints, where a checker is installed."""
 
@@ -521,7 +524,7 @@ class Types(Case):
                 self.skipTest("no mypy")
             command = [found]
         done = subprocess.run(
-            [*command, "--strict", "--cache-dir", str(self.folder), "python/taa1", "desk/taa1_desk"],
+            [*command, "--strict", "--cache-dir", str(self.folder), *CHECKED],
             cwd=ROOT, env={**os.environ, "MYPYPATH": "python:desk"}, capture_output=True, check=False,
         )  # fmt: skip
         self.assertEqual(done.returncode, 0, done.stdout.decode())

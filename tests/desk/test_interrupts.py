@@ -7,6 +7,7 @@ import signal
 import subprocess
 import sys
 import time
+import unittest
 from types import FrameType
 from typing import Any, Callable, Optional
 
@@ -26,6 +27,23 @@ class Interrupt:
             os.kill(os.getpid(), signal.SIGINT)
 sys.meta_path.insert(0, Interrupt())
 runpy.run_path(sys.argv[0], run_name="__main__")
+"""
+
+# Interrupts a process at one of the events that Python tells of (imports, files opened, code
+# run and so on), counted from our first line on: that of the package's __init__. The program
+# comes there without another event.
+COUNTING = """
+import os, sys
+seen = None
+def count(event, args):
+    global seen
+    if seen is not None:
+        seen += 1
+        if seen == int(os.environ["MOMENT"]):
+            os.kill(os.getpid(), 2)
+    elif event == "exec" and args[0].co_filename.endswith("taa1/__init__.py"):
+        seen = 0
+sys.addaudithook(count)
 """
 
 
@@ -122,6 +140,37 @@ class Command(Case):
                 self.assertEqual((done.stdout, done.stderr), (b"", b""))
                 self.assertEqual(done.returncode, -signal.SIGINT)
 
+    @unittest.skipIf(sys.version_info < (3, 10), "before Python 3.10 a package can't know that it is run")
+    def test_package(self) -> None:
+        """python3 -m taa1, at many moments from our first line on."""
+        self.file("sitecustomize.py", COUNTING)
+        path = os.pathsep.join((str(self.folder), str(ROOT / "python")))
+        silent, moment, status = 0, 1, -signal.SIGINT
+        while status and moment < 10_000:
+            environment = {**os.environ, "PYTHONPATH": path, "MOMENT": str(moment)}
+            command = [sys.executable, "-W", "error", "-m", "taa1", "scheme"]
+            done = subprocess.run(command, env=environment, capture_output=True, check=False, timeout=60)
+            status = done.returncode
+            with self.subTest(moment):
+                said = {-signal.SIGINT: b"", 130: b"taa1: interrupted\n", 0: b""}
+                self.assertEqual(done.stderr, said.get(status, b"another status"))
+            silent += status == -signal.SIGINT
+            moment += 1 if moment < 20 else 50
+        self.assertGreater(silent, 20)
+
+    def test_hosts(self) -> None:
+        """A host's signals are left alone, also of one that is run as a package."""
+        (self.folder / "host").mkdir()
+        code = "import signal, taa1; print(signal.getsignal(2) is signal.default_int_handler)"
+        self.file("host/__init__.py", code)
+        self.file("host/__main__.py", "")
+        path = os.pathsep.join((str(self.folder), str(ROOT / "python")))
+        environment = {**os.environ, "PYTHONPATH": path}
+        for run in (["-m", "host", "taa1"], ["-c", code, "-m", "taa1"]):
+            with self.subTest(run):
+                out = subprocess.check_output([sys.executable, *run], env=environment)
+                self.assertEqual(out, b"True\n")
+
     def test_marking(self) -> None:
         """At some time of the marking: the status says so, and nothing is half done."""
         books = (CLASS / "ann.book").read_bytes()
@@ -161,5 +210,3 @@ class Command(Case):
         run.send_signal(signal.SIGINT)
         out, error = run.communicate(b"", timeout=60)
         self.assertEqual((run.returncode, out, error), (0, b"entries 0\n", b""))
-
-

@@ -4,16 +4,22 @@ from __future__ import annotations
 
 import array
 import ctypes
+import email
 import io
 import mmap
 import os
+import shutil
 import subprocess
 import sys
 import time
+import types
 import unittest
+import venv
+import zipfile
 from contextlib import redirect_stderr
 from unittest import mock
 
+import make_wheel
 import taa1
 from common import DESK, ROOT, Case
 from taa1 import library
@@ -204,24 +210,100 @@ class Values(unittest.TestCase):
             ENGINE.ta12(KEY, KEY[:10], -1, 0)
 
 
+class Public(unittest.TestCase):
+    """The package's names."""
+
+    def test_names(self) -> None:
+        """`__all__` is all, beside the package's own modules: nothing of ctypes, for one."""
+        found = {name for name, value in vars(taa1).items() if not isinstance(value, types.ModuleType)}
+        public = {name for name in found if not name.startswith("_")} | {"__version__"}
+        self.assertEqual(public, set(taa1.__all__))
+        self.assertEqual(len(taa1.__all__), len(public))
+        modules = {name for name, value in vars(taa1).items() if isinstance(value, types.ModuleType)}
+        self.assertLessEqual(
+            {name for name in modules if not name.startswith("_")},
+            {path.stem for path in library.PACKAGE.glob("*.py")},
+        )
+        for name in taa1.__all__:
+            self.assertNotIn("ctypes", getattr(getattr(taa1, name), "__module__", ""), name)
+
+
 class Installing(Case):
     """pip install, from the folder and without a network."""
 
-    def test_pip(self) -> None:
+    def wheel(self, made: str) -> dict[str, bytes]:
+        """The files of a wheel that was made."""
+        with zipfile.ZipFile(self.folder / made) as archive:
+            return {name: archive.read(name) for name in archive.namelist()}
+
+    def test_wheel(self) -> None:
+        """Module, desk, engine and licence; the metadata of pyproject.toml."""
+        files = self.wheel(make_wheel.build_wheel(str(self.folder)))
+        names = {"taa1/py.typed", "taa1_desk/py.typed", "taa1/libtaa1.so", "taa1_desk/cli.py"}
+        self.assertLessEqual(names, set(files))
+        info = f"taa1-{taa1.__version__}.dist-info"
+        self.assertEqual(files[f"{info}/licenses/LICENSE"], (ROOT / "LICENSE").read_bytes())
+        said = email.message_from_bytes(files[f"{info}/METADATA"])
+        self.assertEqual(said["Version"], taa1.__version__)
+        self.assertEqual(said["License-Expression"], "MIT")
+        self.assertTrue(said.get_payload().startswith("# Lirgotuul"))
+        listed = {line.partition(",")[0] for line in files[f"{info}/RECORD"].decode().splitlines()}
+        self.assertEqual(listed, set(files))
+
+    def test_project(self) -> None:
+        """The table is read as a parser of TOML reads it."""
+        try:
+            import tomllib
+        except ImportError:
+            self.skipTest("no tomllib")
+        text = (ROOT / "pyproject.toml").read_text()
+        self.assertEqual(make_wheel.project(), tomllib.loads(text)["project"])
+
+    def test_editable(self) -> None:
+        """An editable wheel leads to the folders, and has the command and no module."""
+        files = self.wheel(make_wheel.build_editable(str(self.folder)))
+        self.assertEqual(files["taa1.pth"].decode(), f"{ROOT / 'python'}\n{ROOT / 'desk'}\n")
+        self.assertEqual(files[make_wheel.SCRIPT], make_wheel.COMMAND.encode())
+        self.assertFalse([name for name in files if name.startswith(("taa1/", "taa1_desk/"))])
+
+    def install(self, *options: str) -> None:
+        """Runs pip."""
         pip = [sys.executable, "-m", "pip"]
         if subprocess.run([*pip, "--version"], capture_output=True, check=False).returncode:
             self.skipTest("no pip")
-        place = self.folder / "site"
         done = subprocess.run(
-            [*pip, "install", "--quiet", "--no-index", "--disable-pip-version-check",
-             "--target", str(place), str(ROOT)],
+            [*pip, *options, "--quiet", "--no-index", "--disable-pip-version-check"],
             capture_output=True, check=False, timeout=300,
-        )
+        )  # fmt: skip
         self.assertEqual(done.returncode, 0, done.stderr.decode())
-        environment = {"PATH": os.environ["PATH"], "PYTHONPATH": str(place)}
+
+    def works(self, command: list[str], **environment: str) -> None:
+        """The command makes a call."""
+        made = subprocess.run(
+            [*command, "call", "tb7", "--group-key", "00" * 12],
+            capture_output=True, cwd=self.folder, check=False,
+            env={"PATH": os.environ["PATH"], **environment},
+        )  # fmt: skip
+        self.assertEqual((made.stdout, made.stderr), (b"bytes " + b"0" * 32 + b"\n", b""))
+
+    def test_pip(self) -> None:
+        place = self.folder / "site"
+        self.install("install", "--target", str(place), str(ROOT))
         for command in ([str(place / "bin" / "taa1")], [sys.executable, "-m", "taa1"]):
-            made = subprocess.run(
-                [*command, "call", "tb7", "--group-key", "00" * 12],
-                capture_output=True, cwd=self.folder, env=environment, check=False,
-            )
-            self.assertEqual((made.stdout, made.stderr), (b"bytes " + b"0" * 32 + b"\n", b""))
+            self.works(command, PYTHONPATH=str(place))
+
+    def test_pip_editable(self) -> None:
+        place = self.folder / "environment"
+        python = str(place / "bin" / "python")
+        venv.create(place)
+        self.install("--python", python, "install", "--editable", str(ROOT))
+        for command in ([str(place / "bin" / "taa1")], [python, "-m", "taa1"]):
+            self.works(command)
+
+    def test_module_alone(self) -> None:
+        """Copied without the desk, the module says what is missing."""
+        shutil.copytree(library.PACKAGE, self.folder / "taa1")
+        command = [sys.executable, "-m", "taa1", "slips"]
+        done = subprocess.run(command, cwd=self.folder, capture_output=True, check=False)
+        said = b"taa1: the module is here without the desk; `pip install .` in the repository installs both\n"
+        self.assertEqual((done.returncode, done.stdout, done.stderr), (2, b"", said))

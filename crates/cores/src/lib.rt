@@ -1,4 +1,9 @@
 // The two-block cores BL1 and BL2, and the expansions EXP2 and EXP4, on typed arrays.
+use arrays::array8;
+use arrays::array15;
+use arrays::join_8_8;
+use arrays::part8;
+use arrays::xor8;
 use hurdle::decrypt_with;
 use hurdle::encrypt_with;
 use hurdle::schedule;
@@ -21,8 +26,8 @@ fn sum_of_xors(b: [u8; 10]) -> u8
     wrapping_add_u8(four, b[8] ^ b[9])
 }
 
-// After each pair its ⊕, and the last byte.
-fn with_xors(b: [u8; 10], last: u8) -> [u8; 16]
+// EXP1, and a last byte.
+pub fn exp1_with(b: [u8; 10], last: u8) -> [u8; 16]
     ensures { λ r. ⌜ r ≡ exp1 b ++ (last ∷ []) ⌝ }
 {
     [
@@ -48,7 +53,7 @@ fn with_xors(b: [u8; 10], last: u8) -> [u8; 16]
 pub fn exp2(b: [u8; 10]) -> [u8; 16]
     ensures { λ r. ⌜ r ≡ exp2Of b ⌝ }
 {
-    with_xors(b, sum_of_xors(b))
+    exp1_with(b, sum_of_xors(b))
 }
 
 // The byte sums of the five pairs.
@@ -102,31 +107,17 @@ pub fn exp4(b: [u8; 10]) -> [u8; 16]
     with_sums(b, pair_sums(b))
 }
 
+// The two blocks of a core's input.
 pub fn left(x: [u8; 16]) -> [u8; 8]
     ensures { λ r. ⌜ r ≡ part 0 8 x ⌝ }
 {
-    [x[0], x[1], x[2], x[3], x[4], x[5], x[6], x[7]]
+    array8(&x)
 }
 
 pub fn right(x: [u8; 16]) -> [u8; 8]
     ensures { λ r. ⌜ r ≡ part 8 8 x ⌝ }
 {
-    [x[8], x[9], x[10], x[11], x[12], x[13], x[14], x[15]]
-}
-
-fn xor8(a: [u8; 8], b: [u8; 8]) -> [u8; 8]
-    ensures { λ r. ⌜ r ≡ xors 8 a b ⌝ }
-{
-    [
-        a[0] ^ b[0],
-        a[1] ^ b[1],
-        a[2] ^ b[2],
-        a[3] ^ b[3],
-        a[4] ^ b[4],
-        a[5] ^ b[5],
-        a[6] ^ b[6],
-        a[7] ^ b[7],
-    ]
+    part8(&x, 8)
 }
 
 // The right block of x ⊕ the left output.
@@ -152,24 +143,7 @@ pub fn joined(l: [u8; 8], r: [u8; 8]) -> CoreOutput16
     ensures { λ o. ⌜ o ≡ counted16 (part 0 8 l ++ part 0 8 r) ⌝ }
 {
     CoreOutput16 {
-        output: [
-            l[0],
-            l[1],
-            l[2],
-            l[3],
-            l[4],
-            l[5],
-            l[6],
-            l[7],
-            r[0],
-            r[1],
-            r[2],
-            r[3],
-            r[4],
-            r[5],
-            r[6],
-            r[7],
-        ],
+        output: join_8_8(l, r),
         runs: TEXT_RUNS,
     }
 }
@@ -201,24 +175,9 @@ pub fn bl2_left_input(y: [u8; 16], r: [u8; 8]) -> [u8; 8]
 pub fn bl2_output(l: [u8; 8], r: [u8; 8], y: [u8; 16]) -> CoreOutput15
     ensures { λ o. ⌜ o ≡ counted15 (part 0 8 l ++ xors 7 r (part 0 7 y)) ⌝ }
 {
+    let whole = join_8_8(l, xor8(r, left(y)));
     CoreOutput15 {
-        output: [
-            l[0],
-            l[1],
-            l[2],
-            l[3],
-            l[4],
-            l[5],
-            l[6],
-            l[7],
-            r[0] ^ y[0],
-            r[1] ^ y[1],
-            r[2] ^ y[2],
-            r[3] ^ y[3],
-            r[4] ^ y[4],
-            r[5] ^ y[5],
-            r[6] ^ y[6],
-        ],
+        output: array15(&whole),
         runs: TEXT_RUNS,
     }
 }

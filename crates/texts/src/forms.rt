@@ -1,4 +1,6 @@
 // The forms of the algorithms: BL1's data input from a body of 12 bytes, and the check and the body of BL2's 15 bytes.
+use arrays::array10;
+use cores::exp1_with;
 use standard::Algorithm;
 ghost use mathlib.Core.Path.{_≡_};
 ghost use Prim.Native.Nat.{_≤_};
@@ -9,24 +11,7 @@ ghost use Rattle.standard.specs.Seals.{checks, failedOf, failed, orOn, orOf, fo
 fn input31(b: [u8; 12]) -> [u8; 16]
     ensures { λ r. ⌜ r ≡ form31 .input b ⌝ }
 {
-    [
-        b[0],
-        b[1],
-        b[0] ^ b[1],
-        b[2],
-        b[3],
-        b[2] ^ b[3],
-        b[4],
-        b[5],
-        b[4] ^ b[5],
-        b[6],
-        b[7],
-        b[6] ^ b[7],
-        b[8],
-        b[9],
-        b[8] ^ b[9],
-        0,
-    ]
+    exp1_with(array10(&b), 0)
 }
 
 fn input51(b: [u8; 12]) -> [u8; 16]
