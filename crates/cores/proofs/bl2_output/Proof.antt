@@ -1,11 +1,11 @@
 use borrow.Author.Needs.{needs}
-use Rattle.cores.proofs.joined7.Statement.{statement}
-use Rattle.cores.proofs.joined7.Tie as tie
+use Rattle.cores.proofs.bl2_output.Statement.{statement}
+use Rattle.cores.proofs.bl2_output.Tie as tie
 
 returns : tie.Need-returns
 returns c = rw (c .array15 .ensures, c .before .before .join-8-8 .ensures, c .before .before .before .xor8 .ensures, c .before .before .before .before .left .ensures)
 
-pub joined7-spec : {M : Type 1} → statement M
-joined7-spec =
+pub bl2-output-spec : {M : Type 1} → statement M
+bl2-output-spec =
     tie.close
     (tie.spec (λ c κs. search needs) (λ c κs. search needs) (λ c κs. search needs) (λ c. search needs) (λ c κs. search needs) returns)
