@@ -27,9 +27,9 @@ from .classpage import class_page
 from .damage import Damage, damaged
 from .desk import Desk, RefusedFile, refusals
 from .document import Document, as_page, as_text
-from .exports import class_json, csv_text
+from .exports import class_json, csv_text, is_marks
 from .files import STANDARD, Problem, place, shown
-from .forms import BYTES, FORMS, text_of
+from .forms import BYTES, FORMS
 from .handins import Reader
 from .mark import Marker
 from .model import model_answer, model_json, model_text
@@ -230,7 +230,25 @@ def _keep(args: argparse.Namespace) -> None:
     read = [name for name in given if isinstance(name, str) and os.path.isfile(name)]
     read += [handins.keys_of(name) for name in getattr(args, "candidate", [])]
     if output != STANDARD and any(os.path.realpath(output) == os.path.realpath(n) for n in read):
-        raise Problem(f"{shown(output)}: it is read, so nothing is written over it: -o wants another name")
+        raise Problem(f"{shown(output)}: {files.READ}")
+
+
+def _keep_hand_ins(args: argparse.Namespace) -> None:
+    """Refuses an output in the place of a file in a folder of hand-ins, unless that holds
+    marks that the desk wrote."""
+    if args.output == STANDARD or not os.path.isfile(args.output):
+        return
+    try:
+        with open(args.output, "rb") as file:
+            if is_marks(file.read(1024)):
+                return
+        folders = filter(os.path.isdir, args.candidate)
+        among = (os.path.join(folder, name) for folder in folders for name in os.listdir(folder))
+        if any(os.path.samefile(name, args.output) for name in among if os.path.exists(name)):
+            said = "it lies among the hand-ins and holds no marks, so nothing is written over it"
+            raise Problem(f"{shown(args.output)}: {said}: give the output another name")
+    except OSError as error:
+        raise Problem(f"{shown(args.output)}: {files.reason(error)}") from None
 
 
 # ---- the commands
@@ -515,6 +533,7 @@ def run_mark(args: argparse.Namespace) -> int:
     if args.dry and (args.html is not None or args.csv or args.json):
         given = "--html" if args.html is not None else "--csv" if args.csv else "--json"
         raise Problem(f"mark: --dry says how hand-ins are read and marks none, so it takes no {given}")
+    _keep_hand_ins(args)
     beside = (args.sitting, args.book, args.scheme, args.candidates, args.output)
     handed = handins.hand_ins(args.candidate, [name for name in beside if name])
     _once(args.sitting, args.book, *handed.names)
@@ -528,14 +547,18 @@ def run_mark(args: argparse.Namespace) -> int:
     sheets = []
     for done, (name, form) in enumerate(zip(handed.names, forms)):
         files.progress(done, len(handed.names))
+        keys = _keys_beside(name)
         try:
-            sheet = reader.mark(name, files.read(name), form, _keys_beside(name))
+            sheet = reader.mark(name, files.read(name), form, keys)
         except Problem as problem:
             reason = str(problem).removeprefix(f"{place(name)}: ")
             sheet = reader.unreadable(place(name), reason)
-        if sheet.problem and not args.dry:
+        if keys and keys.unread:
+            sheet = sheet._replace(keys=sheet.keys._replace(unread=keys.unread))
+        if not args.dry and (sheet.problem or sheet.keys.unread):
             files.progress(0, 0)
-            files.say(f"{sheet.name}: {sheet.problem}")
+            book = [f"{sheet.name}: {sheet.problem}"] if sheet.problem else []
+            files.say(*book, *([sheet.keys.unread] if sheet.keys.unread else []))
         sheets.append(sheet)
     files.progress(0, 0)
     asked = reader.keys.asked
@@ -556,7 +579,7 @@ def run_mark(args: argparse.Namespace) -> int:
     if args.dry:
         left_out = [f"{each}\n" for each in handed.left_out]
         _emit_text(args, "".join([f"{reading(sheet)}\n" for sheet in sheets] + left_out))
-        return REFUSED if of.unreadable else ACCEPTED
+        return REFUSED if of.unreadable or of.unread_keys else ACCEPTED
     if args.html is not None:
         content = {
             name: pages.sheet_page(sheet, reader.wanted, heading.line).encode()
@@ -576,7 +599,7 @@ def run_mark(args: argparse.Namespace) -> int:
     else:
         end = summary_text(of) if len(sheets) > 1 else ""
         _emit_text(args, "".join(sheet_text(sheet, bool(listed)) for sheet in sheets) + end)
-    return REFUSED if of.unreadable else ACCEPTED
+    return REFUSED if of.unreadable or of.unread_keys else ACCEPTED
 
 
 def _scheme(name: Optional[str]) -> scheme.Scheme:
@@ -600,14 +623,11 @@ def _keys_beside(name: str) -> Optional[keysheet.KeyFile]:
     if not os.path.isfile(beside):
         what = "a folder" if os.path.isdir(beside) else "no regular file"
         what = what if os.path.exists(beside) else "a link to no file"
-        return keysheet.KeyFile({}, (f"{shown(beside)}: {what}, where lines of keys are wanted",))
+        return keysheet.unread(shown(beside), what)
     try:
-        text = text_of(files.read(beside))
+        return keysheet.read(shown(beside), files.read(beside))
     except Problem as problem:
-        return keysheet.KeyFile({}, problem.lines)
-    if text is None:
-        return keysheet.KeyFile({}, (f"{shown(beside)}: it is no text",))
-    return keysheet.parse(text[0])
+        return keysheet.unread(shown(beside), str(problem).removeprefix(f"{place(beside)}: "))
 
 
 def _reader(args: argparse.Namespace) -> tuple[Union[Reader, OpenedMarker], texts.Heading]:
@@ -901,6 +921,7 @@ def main(argv: Optional[Sequence[str]] = None) -> int:
 
 def _main(argv: Optional[Sequence[str]]) -> int:
     try:
+        files.forget()
         args = parser().parse_args(argv)
         _keep(args)
         return int(args.run(args))

@@ -8,6 +8,7 @@ from __future__ import annotations
 
 import csv
 import io
+import re
 from typing import Any, Iterable, Sequence
 
 from .mark import Sheet
@@ -26,6 +27,16 @@ NOTHING = "nothing was handed in"
 FORMULA = ("=", "+", "-", "@", "\t", "\r")  # what begins a formula in a spreadsheet
 
 
+def is_marks(start: bytes) -> bool:
+    """Whether a file that begins so is what the desk wrote of marks: text, JSON or a table."""
+    text = start.decode("utf-8", "replace")
+    line = text.partition("\n")[0]
+    words = r".*: (\d+ of \d+ entries right|not marked: |read as )|candidates \d+: \d+ all right"
+    return (
+        f'"form": "{FORM}"' in text or line.startswith(",".join(HEADS)) or bool(re.match(words, line))
+    )
+
+
 def _cell(value: Any) -> Any:
     """A cell; a text that a spreadsheet would work out has an apostrophe in front."""
     return f"'{value}" if isinstance(value, str) and value.startswith(FORMULA) else value
@@ -37,7 +48,7 @@ def _row(sheet: Sheet) -> Iterable[Any]:
     read_as = "" if sheet.problem else sheet.read_as or "bytes"
     points = map(written, (sheet.points.sum, sheet.points.most)) if sheet.points else ("", "")
     start = (sheet.candidate, sheet.name, sheet.size, *counts(sheet), *points)
-    return map(_cell, (*start, opens, slips, read_as, sheet.problem or ""))
+    return map(_cell, (*start, opens, slips, read_as, sheet.problem or sheet.keys.unread))
 
 
 def class_json(

@@ -49,6 +49,25 @@ def reason(error: OSError) -> str:
     return error.strerror or str(error)
 
 
+_read: set[tuple[int, int]] = set()  # the files that were read, by device and number
+READ = "it is read, so nothing is written over it: give the output another name"
+
+
+def forget() -> None:
+    """Forgets which files were read, before a command begins."""
+    _read.clear()
+
+
+def keep(name: str) -> None:
+    """Raises Problem if a file was read: it is no place for an output."""
+    try:
+        found = os.stat(name)
+    except (OSError, ValueError):
+        return
+    if (found.st_dev, found.st_ino) in _read:
+        raise Problem(f"{shown(name)}: {READ}")
+
+
 def read(name: str) -> bytes:
     """A file's bytes, or those of standard input."""
     try:
@@ -58,6 +77,9 @@ def read(name: str) -> bytes:
             data = sys.stdin.buffer.read(MOST_BYTES + 1)
         else:
             with open(name, "rb") as file:
+                found = os.fstat(file.fileno())
+                if stat.S_ISREG(found.st_mode):
+                    _read.add((found.st_dev, found.st_ino))
                 data = file.read(MOST_BYTES + 1)
     except (OSError, ValueError) as error:
         said = reason(error) if isinstance(error, OSError) else str(error)
@@ -125,9 +147,10 @@ def write_file(name: str, data: bytes, private: bool = False, new: bool = False)
     """Writes a file whole, or leaves what was there: a temporary one takes its name.
 
     A private file is readable by its owner alone; a new one takes the name only if no
-    file has it. What is no regular file, such as a pipe, is written to as it is.
+    file has it. A file that was read is not written over. What is no regular file, such as a pipe, is written to as it is.
     """
     path = Path(os.path.realpath(name))
+    keep(name)
     with _problems(name):
         if path.exists() and not path.is_file():
             with open(path, "wb", buffering=0) as device:
@@ -167,7 +190,9 @@ def write_folder(
     unwanted: Iterable[str] = (),
 ) -> None:
     """Writes files into a folder, which is made where it is missing, and removes the
-    unwanted: all of it is done, or nothing."""
+    unwanted: all of it is done, or nothing. A file that was read is not written over."""
+    for name in content:
+        keep(os.path.join(folder, name))
     with _problems(folder), held() as interrupted:
         made = not os.path.isdir(folder)
         os.makedirs(folder, exist_ok=True)

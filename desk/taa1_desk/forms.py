@@ -14,6 +14,15 @@ BYTES = "bytes"  # the form of a file that is no text
 END = "\x1a"  # of a text, in DOS
 
 
+FILES = (  # by their first bytes
+    (b"%PDF", "a PDF document"),
+    (b"PK\3\4", "a zip archive or an office document"),
+    (b"\x1f\x8b", "a gzip archive"),
+    (b"\x89PNG", "a picture"),
+    (b"\xff\xd8\xff", "a picture"),
+)
+
+
 def text_of(data: bytes) -> Optional[tuple[str, str]]:
     """The text that these bytes are, and its code if that is to be said; None if they are
     none."""

@@ -18,7 +18,7 @@ from typing import Callable, Container, Mapping, NamedTuple, Optional, Sequence
 from taa1 import Refused
 
 from .files import STANDARD, Problem, place, reason
-from .forms import BYTES, FORMS, rows, text_of
+from .forms import BYTES, FILES, FORMS, rows, text_of
 from .keysheet import KeyFile, KeyMarker
 from .mark import Marked, Marker, Sheet, Wanted
 from .page import is_made_by
@@ -35,13 +35,6 @@ NO_BOOK = f"left out: no hand-in beside it whose keys they are (NAME{KEYS} belon
 
 # ---- looks: what a file is that is no book
 
-FILES = (  # by their first bytes
-    (b"%PDF", "a PDF document"),
-    (b"PK\3\4", "a zip archive or an office document"),
-    (b"\x1f\x8b", "a gzip archive"),
-    (b"\x89PNG", "a picture"),
-    (b"\xff\xd8\xff", "a picture"),
-)
 TEXTS = (  # by what is found in them
     (r"\{\\rtf", "a document in rich text"),
     (r"(?i)\s*<(!doctype )?html", "a page of HTML"),

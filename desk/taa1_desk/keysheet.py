@@ -14,6 +14,7 @@ from taa1 import Sitting
 
 from .desk import Desk
 from .explain import KEY, Found, Part, Table
+from .forms import FILES, text_of
 from .model import sides_of
 from .names import field
 from .records import KINDS, Ring
@@ -46,6 +47,7 @@ class KeyFile(NamedTuple):
 
     values: dict[str, bytes]  # empty where a line gives one that can't be read
     problems: tuple[str, ...] = ()  # lines that can't be read
+    unread: str = ""  # why no value can be read; it is among the problems
 
 
 class KeyMark(NamedTuple):
@@ -66,6 +68,7 @@ class KeySheet(NamedTuple):
     problems: tuple[str, ...] = ()
     own: Mapping[str, bytes] = {}  # those that can be worked with
     ring: Optional[Ring] = None  # of them, where it is not the model's
+    unread: str = ""  # why no value can be read
 
     @property
     def wrong(self) -> dict[str, bytes]:
@@ -79,11 +82,34 @@ class KeySheet(NamedTuple):
         return [(KEY, mark.name) for mark in self.marks if mark.state in ("right", "follows")]
 
 
+def unread(where: str, why: str) -> KeyFile:
+    """A file of keys of which nothing can be read."""
+    said = f"{where}: {why}, where lines of keys are wanted (NAME = HEXADECIMAL)"
+    return KeyFile({}, (said,), said)
+
+
+def read(where: str, data: bytes) -> KeyFile:
+    """What a file of keys says."""
+    if not data.strip():
+        return unread(where, "the file is empty")
+    for start, what in FILES:
+        if data.startswith(start):
+            return unread(where, f"this looks like {what}")
+    text = text_of(data)
+    if text is None:
+        return unread(where, "it is no text")
+    file = parse(text[0])
+    if file.values:
+        return file
+    none = unread(where, "no value in it")
+    return none._replace(problems=(*none.problems, *file.problems))
+
+
 def parse(text: str) -> KeyFile:
     """The values in a text of lines NAME = HEXADECIMAL; any may be missing."""
     values: dict[str, bytes] = {}
     problems: list[str] = []
-    for number, line in lines_of(text):
+    for number, line in lines_of("\n".join(text.splitlines())):
         left, equals, right = re.sub(r"[=:]", "=", line, count=1).partition("=")
         name, digits = SHORT.get(_short(left)), "".join(map(without_0x, right.split()))
         bad = sorted(set(digits) - DIGITS)
@@ -151,7 +177,7 @@ class KeyMarker:
                 marks.append(KeyMark(name, state, has, wants, under, also))
         ring = ring_of({name: own.get(name, value) for name, value in worked.items()})
         differs = ring != self.ring
-        return KeySheet(tuple(marks), file.problems, own, ring if differs else None)
+        return KeySheet(tuple(marks), file.problems, own, ring if differs else None, file.unread)
 
     def explain(self, sheet: KeySheet, rest: Collection[Part]) -> list[Found]:
         """Of wrong values that nothing explains yet, and that follow from none: the slips

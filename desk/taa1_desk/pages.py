@@ -16,7 +16,7 @@ from .records import KINDS, Entry
 from .results import key_result, result
 from .scheme import Points
 from .scheme import said as points_said
-from .sheets import explains, fault, opening, others, too_many, was_read
+from .sheets import explains, fault, not_read, opening, others, too_many, was_read
 
 RESULT = """
 .result { font-size: 1.15em; margin: 0 0 .8em; }
@@ -132,13 +132,14 @@ def _points(points: Points) -> Html:
 
 def _keys(keys: KeySheet) -> Iterable[Html]:
     """The values that were handed in, wrong ones over those that are wanted."""
-    yield from (text("p", line) for line in keys.problems)
+    yield from (text("p", line) for line in not_read(keys.problems))
     rows = []
     for mark in keys.marks:
         wrong = mark.wants is not None and mark.has != mark.wants
         value = beside.over(mark.has, mark.wants or b"") if wrong else mark.has
         rows.append((both(mark.name), value, key_result(mark)))
-    yield table(("value", "bytes", "result"), rows, "keys")
+    if rows:
+        yield table(("value", "bytes", "result"), rows, "keys")
 
 
 def _entry_section(entry: Marked, sheet: Sheet, wanted: Wanted) -> Html:

@@ -69,7 +69,8 @@ def flags_said(flags: Flags) -> str:
 
 def reading(sheet: Sheet) -> str:
     """How a hand-in was read, in a line."""
-    return f"{sheet.name}: {verdict(sheet) if sheet.problem else was_read(sheet)}"
+    keys = f"; its keys are not read: {sheet.keys.unread}" if sheet.keys.unread else ""
+    return f"{sheet.name}: {verdict(sheet) if sheet.problem else was_read(sheet)}{keys}"
 
 
 def spans(indexes: Iterable[int]) -> str:
@@ -216,7 +217,7 @@ def others(sheet: Sheet) -> list[str]:
         said.append(f"in another order: {entries_said(moved)}")
     if sheet.missing and not sheet.problem:
         said.append(f"missing: the model's {entries_said(list(sheet.missing))}")
-    said += sheet.problems
+    said += not_read(sheet.problems)
     if sheet.left:
         more = f"{plural(sheet.left, 'more byte')} behind the last record"
         cut = f"the last record is cut short: {sheet.left} of {SEALED} bytes"
@@ -243,9 +244,16 @@ def explanation(slip: Explained, sheet: Sheet) -> str:
     return f"{slip.name}{same}: explains {', and '.join(what)}{own}"
 
 
+def not_read(problems: Sequence[str]) -> list[str]:
+    """Lines that can't be read; of very many, the first ones."""
+    more = len(problems) - MOST_LINES
+    said = [f"{more} more lines can't be read: --json lists each"] if more > 0 else []
+    return [*problems[:MOST_LINES], *said]
+
+
 def keys_said(keys: KeySheet) -> list[str]:
     """What is to be said of the keys that are handed in."""
-    said = list(keys.problems)
+    said = not_read(keys.problems)
     for mark in keys.marks:
         if mark.state == "wrong" and mark.wants is not None:
             also = f", which is {mark.also}" if mark.also else ""
@@ -281,6 +289,7 @@ class Summary(NamedTuple):
     candidates: int
     perfect: int
     unreadable: int
+    unread_keys: int  # files of keys
     unopened: Optional[int]  # None: they are opened books
     slips: tuple[tuple[str, int], ...]  # and how many candidates made each
     checks: tuple[tuple[int, int, int], ...]  # kind, check, entries that fail it
@@ -303,6 +312,7 @@ def summary(sheets: list[Sheet]) -> Summary:
         len(sheets),
         sum(sheet.perfect for sheet in sheets),
         sum(sheet.problem is not None for sheet in sheets),
+        sum(bool(sheet.keys.unread) for sheet in sheets),
         None if opened_books else sum(sheet.refused is not None for sheet in sheets),
         tuple(sorted(slips.items(), key=lambda item: (-item[1], item[0]))),
         tuple((kind, check, count) for (kind, check), count in sorted(checks.items())),
@@ -312,7 +322,8 @@ def summary(sheets: list[Sheet]) -> Summary:
 def class_numbers(of: Summary) -> str:
     """How many candidates there are, and how they did."""
     unopened = "" if of.unopened is None else f"{of.unopened} do not open, "
-    return f"{of.perfect} all right, {unopened}{of.unreadable} not marked"
+    keys = f", keys not read {of.unread_keys}" if of.unread_keys else ""
+    return f"{of.perfect} all right, {unopened}{of.unreadable} not marked{keys}"
 
 
 def summary_text(of: Summary) -> str:

@@ -17,6 +17,7 @@ from unittest import mock
 
 from common import CLASS, COMMAND, DESK, PLAIN_BOOK, RING, ROOT, SITTING, Case, Run, here, seal, taa1
 from taa1 import NAMES, Refused, __version__
+from taa1_desk import files
 from taa1_desk.cli import parser
 from taa1_desk.files import MOST_BYTES, Problem, write_file
 from taa1_desk.overview import EXAMPLES
@@ -494,9 +495,49 @@ class Bad(Case):
         for command in (("mark", *args), ("model", sitting, model), ("seal", sitting, model)):
             for file in command[1:]:
                 before = file.read_bytes()
-                said = f"{file}: it is read, so nothing is written over it: -o wants another name"
+                said = f"{file}: it is read, so nothing is written over it: give the output another name"
                 self.fails(2, said, *command, "-o", file)
                 self.assertEqual(file.read_bytes(), before)
+
+    def test_hand_ins_stay(self) -> None:
+        """No output replaces a file among the hand-ins, however it is named, but for marks."""
+        room, store = self.folder / "class", self.folder / "store"
+        room.mkdir()
+        store.mkdir()
+        (room / "ann.book").write_bytes(SEALED_BOOK)
+        (room / "ann.keys").write_text("D = 00\n")
+        (room / "ben.txt").write_bytes(SEALED_BOOK.hex().encode())
+        (store / "cho.book").write_bytes(SEALED_BOOK)
+        (room / "cho.book").symlink_to(store / "cho.book")
+        os.link(room / "ann.book", store / "linked")
+        before = {path: path.read_bytes() for path in (*room.iterdir(), *store.iterdir())}
+        said = "it lies among the hand-ins and holds no marks, so nothing is written over it"
+        names = ("class/ann.book", "class/../class/ann.keys", "class/ben.txt", "store/cho.book", "store/linked")
+        for name in names:
+            error = f"{name}: {said}: give the output another name"
+            self.fails(2, error, "mark", *INPUTS, "class", "-o", name, cwd=self.folder)
+        error = f"store/linked: {files.READ}"
+        self.fails(2, error, "mark", *INPUTS, "class/ann.book", "-o", "store/linked", cwd=self.folder)
+        self.file("key", bytes(16))
+        key = ("call", "encrypt", "--key", "@key", "--block", bytes(8).hex())
+        self.fails(2, f"key: {files.READ}", *key, "-o", "key", cwd=self.folder)
+        self.assertEqual({path: path.read_bytes() for path in before}, before)
+        for options in ((), ("--csv",), ("--json",), ("--dry",), ("--html", "pages")):
+            for _ in range(2):  # the second time, what the first one wrote is replaced
+                done = taa1("mark", *INPUTS, "class", "-o", "class/marks", *options, cwd=self.folder)
+                self.assertEqual(done.status, 0, done.error)
+
+    def test_pages_stay(self) -> None:
+        """Nor does a page replace what is read."""
+        self.file("index.html", INPUTS[0].read_bytes())
+        self.file("ann", SEALED_BOOK)
+        self.file("paper.html", INPUTS[1].read_bytes())
+        for name, command in (
+            ("./index.html", ("mark", "index.html", INPUTS[1], "ann", "--html", ".")),
+            ("./paper.html", ("paper", INPUTS[0], "paper.html", "--html", ".")),
+            ("paper.html", ("argue", INPUTS[0], "paper.html", "--html", "paper.html")),
+        ):
+            self.fails(2, f"{name}: {files.READ}", *command, cwd=self.folder)
 
     def test_progress(self) -> None:
         """Marking shows how far it is on a terminal only, and wipes it out."""

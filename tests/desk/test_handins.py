@@ -2,6 +2,7 @@
 
 from __future__ import annotations
 
+import csv
 import json
 import random
 import shutil
@@ -419,6 +420,7 @@ class Folders(Case):
         (self.room / "below").mkdir(parents=True)
         for name in ("ann.book", "ben.hex", "cho", ".hidden", "ann.keys", "notes.txt", "below/dee.book"):
             (self.room / name).write_bytes(BOOK)
+        (self.room / "ann.keys").write_text(f"D = {DESK.call('ring', *SITTING)['ring'][:10].hex()}\n")
         (self.room / "model").write_bytes(PLAIN_BOOK)
 
     def mark(self, *args: Any) -> Any:
@@ -459,9 +461,51 @@ class Folders(Case):
         """A link to nothing and a folder in the place of NAME.keys are said, not passed over."""
         (self.room / "ben.keys").symlink_to("nothing")
         (self.room / "cho.keys").mkdir()
-        said = self.mark("class/ben.hex", "class/cho").out.decode()
-        for name, what in (("ben", "a link to no file"), ("cho", "a folder")):
-            self.assertIn(f"  class/{name}.keys: {what}, where lines of keys are wanted\n", said)
+        (self.room / "ann.keys").write_bytes(BOOK)
+        (self.room / "dee.book").write_bytes(BOOK)
+        (self.room / "dee.keys").write_bytes(b"\n")
+        (self.room / "eve.book").write_bytes(BOOK)
+        (self.room / "eve.keys").write_bytes(b"%PDF-1.7\n\xff")
+        (self.room / "fay.book").write_bytes(BOOK)
+        (self.room / "fay.keys").write_text("none of it\nworked\n")
+        why = {
+            "class/ann.keys": "it is no text",
+            "class/ben.keys": "a link to no file",
+            "class/cho.keys": "a folder",
+            "class/dee.keys": "the file is empty",
+            "class/eve.keys": "this looks like a PDF document",
+            "class/fay.keys": "no value in it",
+        }
+        books = [f"class/{name}" for name in
+                 ("ann.book", "ben.hex", "cho", "dee.book", "eve.book", "fay.book")]  # fmt: skip
+        done = self.mark(*books)
+        lines = [
+            f"{name}: {what}, where lines of keys are wanted (NAME = HEXADECIMAL)"
+            for name, what in why.items()
+        ]
+        self.assertEqual((done.status, done.error), (1, "".join(f"taa1: {line}\n" for line in lines)))
+        for line in (*lines, "keys, line 1: no line of the form NAME = HEXADECIMAL"):
+            self.assertIn(f"  {line}\n", done.out.decode())
+        self.assertEqual(done.out.decode().count("12 of 12 entries right"), 6)
+        self.assertIn("candidates 6: 0 all right, 0 do not open, 0 not marked, keys not read 6\n", done.out.decode())
+        done = self.mark(*books, "--dry")
+        self.assertEqual((done.status, done.error), (1, ""))
+        self.assertIn(f"class/cho: read as bytes: 12 records; its keys are not read: {lines[2]}\n", done.out.decode())
+        done = self.mark(*books, "--csv")
+        self.assertEqual([row["problem"] for row in csv.DictReader(done.out.decode().splitlines())], lines)
+        self.assertEqual(done.status, 1)
+        (self.room / "ann.book").write_bytes(b"")
+        self.assertIn(f"taa1: {lines[0]}\n", self.mark("class/ann.book").error)
+
+    def test_keys_by_old_lines(self) -> None:
+        """Lines of keys may end as a Mac's or a DOS machine's, in UTF-16."""
+        ring = DESK.call("ring", *SITTING)["ring"]
+        text = f"D = {ring[:10].hex()}\rO = {ring[10:26].hex()}\r"
+        for data in (text.encode(), text.replace("\r", "\r\n").encode("utf-16")):
+            (self.room / "ann.keys").write_bytes(data)
+            done = self.mark("class/ann.book")
+            self.assertEqual((done.status, done.error), (0, ""))
+            self.assertIn("  right: D and O\n", done.out.decode())
 
     def test_twice(self) -> None:
         """A file is one candidate's, however often it is named; a link to it is another's."""

@@ -37,7 +37,7 @@ class Files(unittest.TestCase):
         for name in KEYS:
             for written in (name, name.upper(), name.replace(" ", "_"), name.replace(" ", "")):
                 read = parse(f"{written}: 0x{VALUES[name].hex(' ')}")
-                self.assertEqual(read, ({name: VALUES[name]}, ()))
+                self.assertEqual(read, KeyFile({name: VALUES[name]}))
         fields = parse("KS = 00\nKS' = 01\nRES1 = 02\nDCK1 = 03\nDCK = 04\nKSO = 05\nEGSKO = 06\n")
         names = ["session key 1", "session key 2", "response 1", "key 1", "D", "O", "G"]
         self.assertEqual((list(fields.values), fields.problems), (names, ()))
@@ -53,7 +53,7 @@ class Files(unittest.TestCase):
         ):
             read = parse(f"D = 01  # mine\n\n{line}\n")
             unread = {"O": b""} if line.startswith("O") else {}
-            self.assertEqual(read, ({"D": b"\1", **unread}, (f"keys, line 3: {problem}",)))
+            self.assertEqual(read, KeyFile({"D": b"\1", **unread}, (f"keys, line 3: {problem}",)))
         self.assertEqual(parse("O = 1\nO = 02\n").values, {"O": b"\2"})
 
 
