@@ -29,19 +29,19 @@ abbrev μ-loop : tie.MeasureT-loop
 μ-loop ring sealed n runs₀ i₀ runs i = n - i
 
 -- the part that the turn lends is its record
-part-is : (c : tie.After-open-fault Inv-loop μ-loop)
+part-is : (c : tie.After-inspect-sealed Inv-loop μ-loop)
     → let i = c .before .before .before .loop .index in
     let sealed = now (c .before .before .before .before .before .args .sealed) in
     take (sealedSize * i + sealedSize - sealedSize * i) (drop (sealedSize * i) sealed) ≡ recordAt sealedSize sealed i
 part-is c = lent sealedSize (c .before .before .before .loop .index) (now (c .before .before .before .before .before .args .sealed)) (search needs)
 
 -- so its fault and the runs of the inspection of it are what the inspection answered
-at : (c : tie.After-open-fault Inv-loop μ-loop)
+at : (c : tie.After-inspect-sealed Inv-loop μ-loop)
     → c .inspect-sealed .result .refusal
     ≡ faultAt (now (c .before .before .before .before .before .args .ring)) Opening (now (c .before .before .before .before .before .args .sealed)) (c .before .before .before .loop .index)
 at c = c .inspect-sealed .ensures .0 ∙ ap (openFault (now (c .before .before .before .before .before .args .ring))) (part-is c)
 
-took : (c : tie.After-open-fault Inv-loop μ-loop)
+took : (c : tie.After-inspect-sealed Inv-loop μ-loop)
     → c .inspect-sealed .result .runs
     ≡ inspectionAt Opening (now (c .before .before .before .before .before .args .sealed)) (c .before .before .before .loop .index)
 took c = c .inspect-sealed .ensures .1 ∙ ap inspectionRuns (part-is c)
