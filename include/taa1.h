@@ -14,6 +14,10 @@
  * book's answer and the runs of a refused opening. Compare fields and not whole
  * structs: padding is no part of an answer.
  *
+ * A call's comment ends with the refusals that it tests for, in the order of the
+ * tests: the first that applies is the answer. Those of a record are tested after the
+ * others, record by record.
+ *
  * An output is a pointer and a length too, and must not overlap an input. It may
  * be longer than the result: the bytes behind those written stay as they are. For
  * an output of no bytes, null will do. A refusal leaves it unchanged.
@@ -262,50 +266,51 @@ typedef struct {
 
 /* ---- HURDLE-II: a block [8] under a key [16] ---- */
 
-/* The block, encrypted. */
+/* The block, encrypted. Refuses 11. */
 taa1_bytes8 taa1_encrypt(const uint8_t *key, size_t key_length,
                          const uint8_t *block, size_t block_length);
 
-/* The block, decrypted: undoes taa1_encrypt under the same key. */
+/* The block, decrypted: undoes taa1_encrypt under the same key. Refuses 11. */
 taa1_bytes8 taa1_decrypt(const uint8_t *key, size_t key_length,
                          const uint8_t *block, size_t block_length);
 
 /*
  * The same with the key schedule in one register of sixteen bytes in place of the
  * round keys: it starts as the key, and steps from round to round until the key
- * is back, from where decryption steps back.
+ * is back, from where decryption steps back. Refuses 11.
  */
 taa1_bytes8 taa1_encrypt_register(const uint8_t *key, size_t key_length,
                                   const uint8_t *block, size_t block_length);
 
+/* The block, decrypted. Refuses 11. */
 taa1_bytes8 taa1_decrypt_register(const uint8_t *key, size_t key_length,
                                   const uint8_t *block, size_t block_length);
 
 /*
  * That register after so many steps, 0 for the key [16] itself. Any number is
  * taken: after each sixteen the register is the key again and the steps begin
- * anew.
+ * anew. Refuses 11.
  */
 taa1_bytes16 taa1_register(const uint8_t *key, size_t key_length, uint64_t steps);
 
 /*
  * A diffusion tally over up to TAA1_MOST_RECORDS records, which are a key and then
  * a block: each of the 64 block bits is flipped in turn, and the bits that change
- * in the encrypted block are counted. No records give four zeros.
+ * in the encrypted block are counted. No records give four zeros. Refuses 1, 2.
  */
 taa1_tally taa1_diffusion(const uint8_t *records, size_t records_length);
 
 /* ---- TA11, TA21, TA41: a session key from a root [16] and a seed [10] ---- */
 
-/* The session key for TA12. */
+/* The session key for TA12. Refuses 11. */
 taa1_bytes16 taa1_ta11(const uint8_t *root, size_t root_length,
                        const uint8_t *seed, size_t seed_length);
 
-/* The session key for TA22: TA11 of the seed's bytes in reverse. */
+/* The session key for TA22: TA11 of the seed's bytes in reverse. Refuses 11. */
 taa1_bytes16 taa1_ta21(const uint8_t *root, size_t root_length,
                        const uint8_t *seed, size_t seed_length);
 
-/* The session key that seals kinds 2 to 4: made as in TA11. */
+/* The session key that seals kinds 2 to 4: made as in TA11. Refuses 11. */
 taa1_bytes16 taa1_ta41(const uint8_t *root, size_t root_length,
                        const uint8_t *seed, size_t seed_length);
 
@@ -318,18 +323,20 @@ taa1_bytes16 taa1_ta41(const uint8_t *root, size_t root_length,
  * shared.
  */
 
+/* The response and the key. Refuses 11, 7, 8. */
 taa1_authentication taa1_ta12(const uint8_t *session_key, size_t session_key_length,
                               const uint8_t *challenge, size_t challenge_length,
                               uint16_t response_mask, uint16_t key_mask);
 
-/* As TA12: the challenge is not reversed. */
+/* As TA12: the challenge is not reversed. Refuses 11, 7, 8. */
 taa1_authentication taa1_ta22(const uint8_t *session_key, size_t session_key_length,
                               const uint8_t *challenge, size_t challenge_length,
                               uint16_t response_mask, uint16_t key_mask);
 
 /*
  * TA12 for each of a class of up to TAA1_MOST_RECORDS challenges, which stand one
- * after the other; writes TAA1_AUTHENTICATION_BYTES for each.
+ * after the other; writes TAA1_AUTHENTICATION_BYTES for each. Refuses 11, 1, 2, 12,
+ * 7, 8.
  */
 taa1_book_answer taa1_ta12_class(const uint8_t *session_key, size_t session_key_length,
                                  const uint8_t *challenges, size_t challenges_length,
@@ -338,71 +345,73 @@ taa1_book_answer taa1_ta12_class(const uint8_t *session_key, size_t session_key_
 
 /* ---- TA31, TA32: a cipher key [10] under a sealing key [10], kind 1 ---- */
 
-/* The sealed text. */
+/* The sealed text. Refuses 11. */
 taa1_bytes15 taa1_ta31(const uint8_t *cipher_key, size_t cipher_key_length,
                        taa1_version version,
                        const uint8_t *sealing_key, size_t sealing_key_length);
 
-/* The cipher key that a text [15] seals. */
+/* The cipher key that a text [15] seals. Refuses 11. */
 taa1_unsealed taa1_ta32(const uint8_t *text, size_t text_length,
                         const uint8_t *sealing_key, size_t sealing_key_length,
                         taa1_version version);
 
 /* ---- TA51, TA52: a cipher key [10] and a number under a sealing key [16], kinds 2 and 5 ---- */
 
-/* The sealed text. The number is 0 to 31. */
+/* The sealed text. The number is 0 to 31. Refuses 11, 5. */
 taa1_bytes15 taa1_ta51(const uint8_t *cipher_key, size_t cipher_key_length,
                        taa1_version version,
                        const uint8_t *sealing_key, size_t sealing_key_length,
                        taa1_key_number number);
 
-/* The cipher key and number that a text [15] seals. The number is never above 31. */
+/* The cipher key and number that a text [15] seals. The number is never above 31. Refuses 11. */
 taa1_unsealed_numbered taa1_ta52(const uint8_t *text, size_t text_length,
                                  const uint8_t *sealing_key, size_t sealing_key_length,
                                  taa1_version version);
 
 /* ---- TA61: an identity of 24 bits under a common key [10] ---- */
 
-/* The identity, encrypted. */
+/* The identity, encrypted. Refuses 11, 10. */
 taa1_identity taa1_ta61(const uint8_t *common_key, size_t common_key_length,
                         uint64_t identity);
 
-/* The identity of an encrypted one: undoes taa1_ta61 under the same key. */
+/* The identity of an encrypted one: undoes taa1_ta61 under the same key. Refuses 11, 10. */
 taa1_identity taa1_ta61_inverse(const uint8_t *common_key, size_t common_key_length,
                                 uint64_t encrypted_identity);
 
 /* ---- TA71: a cipher key from two [10 each]; their order matters ---- */
 
+/* The cipher key. Refuses 11. */
 taa1_bytes10 taa1_ta71(const uint8_t *key1, size_t key1_length,
                        const uint8_t *key2, size_t key2_length);
 
 /* ---- TA81, TA82: a cipher key [10] and a number under a sealing key [16], kinds 3 and 6 ---- */
 
-/* The sealed text. The number may be any of sixteen bits. */
+/* The sealed text. The number may be any of sixteen bits. Refuses 11. */
 taa1_bytes15 taa1_ta81(const uint8_t *cipher_key, size_t cipher_key_length,
                        taa1_version version,
                        const uint8_t *sealing_key, size_t sealing_key_length,
                        taa1_key_number number);
 
-/* The cipher key and number that a text [15] seals. */
+/* The cipher key and number that a text [15] seals. Refuses 11. */
 taa1_unsealed_numbered taa1_ta82(const uint8_t *text, size_t text_length,
                                  const uint8_t *sealing_key, size_t sealing_key_length,
                                  taa1_version version);
 
 /* ---- TA91, TA92: a group key [12] under a sealing key [16], kind 4 ---- */
 
-/* The sealed text. */
+/* The sealed text. Refuses 11. */
 taa1_bytes15 taa1_ta91(const uint8_t *group_key, size_t group_key_length,
                        taa1_version version,
                        const uint8_t *sealing_key, size_t sealing_key_length);
 
-/* The group key that a text [15] seals. */
+/* The group key that a text [15] seals. Refuses 11. */
 taa1_unsealed_group taa1_ta92(const uint8_t *text, size_t text_length,
                               const uint8_t *sealing_key, size_t sealing_key_length,
                               taa1_version version);
 
 /* ---- TA101: a session key from KS [16], GCK0 [10] and the network identity mni of 24 bits ---- */
 
+/* The session key. Refuses 11, 10. */
 taa1_bytes16 taa1_ta101(const uint8_t *ks, size_t ks_length,
                         const uint8_t *gck0, size_t gck0_length,
                         uint64_t mni);
@@ -411,37 +420,43 @@ taa1_bytes16 taa1_ta101(const uint8_t *ks, size_t ks_length,
 
 /*
  * The value over and over, each copy as many bits wide as the width says, 16 to 32:
- * the leftmost 128 bits of that.
+ * the leftmost 128 bits of that. Refuses 9, 10.
  */
 taa1_bytes16 taa1_tb1(uint64_t value, uint64_t width);
 
-/* The input [16] itself. */
+/* The input [16] itself. Refuses 11. */
 taa1_bytes16 taa1_tb2(const uint8_t *input, size_t input_length);
 
-/* The input [16], xor TB1 of the value. */
+/* The input [16], xor TB1 of the value. Refuses 11, 9, 10. */
 taa1_bytes16 taa1_tb3(const uint8_t *input, size_t input_length,
                       uint64_t value, uint64_t width);
 
-/* The xor of two inputs [10 each]. */
+/* The xor of two inputs [10 each]. Refuses 11. */
 taa1_bytes10 taa1_tb4(const uint8_t *input1, size_t input1_length,
                       const uint8_t *input2, size_t input2_length);
 
-/* A cipher key [10] for one cell: 14 bits of location area, 12 of carrier, 6 of colour code. */
+/*
+ * A cipher key [10] for one cell: 14 bits of location area, 12 of carrier, 6 of
+ * colour code. Refuses 11, 10.
+ */
 taa1_bytes10 taa1_tb5(const uint8_t *cipher_key, size_t cipher_key_length,
                       uint64_t location_area, uint64_t carrier, uint64_t colour_code);
 
-/* A cipher key [10] for one identity on a carrier: carrier 12 bits, identity 24. */
+/*
+ * A cipher key [10] for one identity on a carrier: carrier 12 bits, identity 24.
+ * Refuses 11, 10.
+ */
 taa1_bytes10 taa1_tb6(const uint8_t *cipher_key, size_t cipher_key_length,
                       uint64_t carrier, uint64_t identity);
 
-/* A group key [12], with the xor of each three bytes behind them. */
+/* A group key [12], with the xor of each three bytes behind them. Refuses 11. */
 taa1_bytes16 taa1_tb7(const uint8_t *group_key, size_t group_key_length);
 
 /*
  * A card [16] that has a group key in its TB7 form, with some bytes unreadable:
  * bit i of the mask is set where byte i is, and byte 0 is rightmost. Where a group of
  * four lacks one, the other three give it. The answer is the key and the whole card;
- * what stands at the unreadable places is not looked at.
+ * what stands at the unreadable places is not looked at. Refuses 11, 18, 19.
  */
 taa1_card taa1_restore_card(const uint8_t *card, size_t card_length, uint16_t unreadable);
 
@@ -452,19 +467,25 @@ taa1_card taa1_restore_card(const uint8_t *card, size_t card_length, uint16_t un
  * with TAA1_NO_INPUT where none does.
  */
 
-/* The value, of that width, of which TB1 makes the result [16]. */
+/* The value, of that width, of which TB1 makes the result [16]. Refuses 11, 9, 17. */
 taa1_value taa1_tb1_inverse(const uint8_t *result, size_t result_length, uint64_t width);
 
-/* The value, of that width, of which TB3 makes the result [16] with the input [16]. */
+/*
+ * The value, of that width, of which TB3 makes the result [16] with the input [16].
+ * Refuses 11, 9, 17.
+ */
 taa1_value taa1_tb3_inverse(const uint8_t *input, size_t input_length,
                             const uint8_t *result, size_t result_length,
                             uint64_t width);
 
-/* The cell for which TB5 makes the result [10] of the cipher key [10]. */
+/* The cell for which TB5 makes the result [10] of the cipher key [10]. Refuses 11, 17. */
 taa1_cell taa1_tb5_inverse(const uint8_t *cipher_key, size_t cipher_key_length,
                            const uint8_t *result, size_t result_length);
 
-/* The carrier and identity for which TB6 makes the result [10] of the cipher key [10]. */
+/*
+ * The carrier and identity for which TB6 makes the result [10] of the cipher key
+ * [10]. Refuses 11, 17.
+ */
 taa1_carrier_identity taa1_tb6_inverse(const uint8_t *cipher_key, size_t cipher_key_length,
                                        const uint8_t *result, size_t result_length);
 
@@ -478,7 +499,7 @@ taa1_carrier_identity taa1_tb6_inverse(const uint8_t *cipher_key, size_t cipher_
  *
  * The number of sides says which of the two run: 1 TA12 alone, 2 TA22 alone, 3
  * both. One that does not run gives zeros to TB4 and as its response; of its
- * challenge only the length is tested.
+ * challenge only the length is tested. Refuses 11, 13, 7, 8.
  */
 taa1_ring_made taa1_ring(const uint8_t *root, size_t root_length,
                          const uint8_t *rs, size_t rs_length,
@@ -502,17 +523,26 @@ taa1_ring_made taa1_ring(const uint8_t *root, size_t root_length,
  * and the sealed text [15] of the kind's call.
  */
 
-/* Seals a plain book; writes TAA1_SEALED_RECORD_BYTES for each record. */
+/*
+ * Seals a plain book; writes TAA1_SEALED_RECORD_BYTES for each record. Refuses 11,
+ * 1, 2, 12; of a record 3, 4, 5.
+ */
 taa1_counted_answer taa1_seal_book(const uint8_t *ring, size_t ring_length,
                                    const uint8_t *plain, size_t plain_length,
                                    uint8_t *out, size_t out_length);
 
-/* Opens a sealed book, if each record in it does; writes TAA1_PLAIN_RECORD_BYTES for each. */
+/*
+ * Opens a sealed book, if each record in it does; writes TAA1_PLAIN_RECORD_BYTES
+ * for each. Refuses 11, 1, 2, 12; of a record 3, 6.
+ */
 taa1_counted_answer taa1_open_book(const uint8_t *ring, size_t ring_length,
                                    const uint8_t *sealed, size_t sealed_length,
                                    uint8_t *out, size_t out_length);
 
-/* The refusals 1 to 5 that taa1_seal_book gives for a plain book; nothing is written. */
+/*
+ * The refusals 1 to 5 that taa1_seal_book gives for a plain book; nothing is
+ * written. Refuses 1, 2; of a record 3, 4, 5.
+ */
 taa1_book_answer taa1_check_plain(const uint8_t *plain, size_t plain_length);
 
 /*
@@ -527,7 +557,10 @@ taa1_book_answer taa1_check_plain(const uint8_t *plain, size_t plain_length);
  * keys [10] to one of 10.
  */
 
-/* The key of each record; writes TAA1_SHEET_VALUE_BYTES for each, zeros behind a key [10]. */
+/*
+ * The key of each record; writes TAA1_SHEET_VALUE_BYTES for each, zeros behind a
+ * key [10]. Refuses 1, 2, 12; of a record 14, 15, 16.
+ */
 taa1_book_answer taa1_lineage(const uint8_t *sheet, size_t sheet_length,
                               uint8_t *out, size_t out_length);
 
@@ -538,19 +571,19 @@ taa1_book_answer taa1_lineage(const uint8_t *sheet, size_t sheet_length,
  * writes as many bytes as it takes.
  */
 
-/* The columns of a plain book. */
+/* The columns of a plain book. Refuses 1, 2, 12. */
 taa1_book_answer taa1_plain_to_columns(const uint8_t *plain, size_t plain_length,
                                        uint8_t *out, size_t out_length);
 
-/* The plain book of its columns: undoes taa1_plain_to_columns. */
+/* The plain book of its columns: undoes taa1_plain_to_columns. Refuses 1, 2, 12. */
 taa1_book_answer taa1_plain_from_columns(const uint8_t *columns, size_t columns_length,
                                          uint8_t *out, size_t out_length);
 
-/* The columns of a sealed book. */
+/* The columns of a sealed book. Refuses 1, 2, 12. */
 taa1_book_answer taa1_sealed_to_columns(const uint8_t *sealed, size_t sealed_length,
                                         uint8_t *out, size_t out_length);
 
-/* The sealed book of its columns: undoes taa1_sealed_to_columns. */
+/* The sealed book of its columns: undoes taa1_sealed_to_columns. Refuses 1, 2, 12. */
 taa1_book_answer taa1_sealed_from_columns(const uint8_t *columns, size_t columns_length,
                                           uint8_t *out, size_t out_length);
 

@@ -2,20 +2,25 @@
 //! `requires`, one that stays in its crate is `pub(crate)`, what hosts call cites
 //! definitions of `standard` alone, and docs/READING.md has the table of the public
 //! ones, that of what they cite outside `standard`, and that of the must-fail edits.
-//! The claims of docs/ARGUMENT.md are those of the crate `claims`.
+//! The claims of docs/ARGUMENT.md are those of the crate `claims`. docs/hosts.md has the
+//! table of the calls, and include/taa1.h names the refusals of each.
 //!
 //!     contracts          checks; the last line: N passed, M failed
 //!     contracts table    prints the tables
 
 mod claims;
+mod definitions;
 mod edits;
+mod hosts;
 
+use definitions::Definitions;
 use std::fs;
 use std::path::Path;
 use std::process::ExitCode;
 
 const FUNCTIONS: &str = "## Functions that other crates can call\n";
 const EDITS: &str = "## Edits that must be refused\n";
+const CALLS: &str = "## The calls\n";
 
 /// A public function's path and contract.
 struct Function {
@@ -272,6 +277,20 @@ fn outside(all: &[Function]) -> String {
     text
 }
 
+/// The table of the calls for hosts, and what is wrong with the header.
+fn calls(root: &Path, all: &[Function]) -> (String, Vec<String>) {
+    let specs = antt_files(&root.join("crates/standard/specs"));
+    let engine = read(&root.join("crates/engine/src/lib.rt"));
+    let sources = specs.iter().map(|(name, text)| (&name[..], &text[..]));
+    let definitions = Definitions::read(sources.chain([("engine", &engine[..])]));
+    let contract = |name: &str| {
+        let mut of_name = all.iter().filter(|f| f.name == format!("engine::{name}"));
+        let (_, right) = of_name.next()?.ensures.first()?.split_once("≡ ")?;
+        Some(right.to_string())
+    };
+    hosts::table(&read(&root.join("include/taa1.h")), &definitions, contract)
+}
+
 fn main() -> ExitCode {
     let arguments: Vec<_> = std::env::args_os().skip(1).collect();
     let print = match &arguments[..] {
@@ -299,13 +318,16 @@ fn main() -> ExitCode {
         refused.extend(edits);
         odd.extend(faults);
     }
+    let (calls, faults) = calls(&root, &all);
+    odd.extend(faults);
     let tables = [
-        (EDITS, edits::table(&refused)),
-        (FUNCTIONS, outside(&all)),
-        (FUNCTIONS, table(&all)),
+        ("READING", EDITS, edits::table(&refused)),
+        ("READING", FUNCTIONS, outside(&all)),
+        ("READING", FUNCTIONS, table(&all)),
+        ("hosts", CALLS, calls),
     ];
     if print {
-        for (_, table) in &tables {
+        for (_, _, table) in &tables {
             println!("{table}");
         }
         return ExitCode::SUCCESS;
@@ -326,14 +348,14 @@ fn main() -> ExitCode {
         }
     }
     let passed = all.len() - failed;
-    let guide = read(&root.join("docs/READING.md"));
-    let missing = tables.iter().filter(|(heading, table)| {
-        let section = guide.split_once(heading).map_or("", |(_, rest)| rest);
-        !section.split("\n## ").next().unwrap_or("").contains(table)
-    });
-    let missing = missing.count();
-    if missing != 0 {
-        println!("a table in docs/READING.md differs; `contracts table` prints the right ones");
+    let mut missing = 0;
+    for (guide, heading, table) in &tables {
+        let text = read(&root.join(format!("docs/{guide}.md")));
+        let section = text.split_once(heading).map_or("", |(_, rest)| rest);
+        if !section.split("\n## ").next().unwrap_or("").contains(table) {
+            println!("a table in docs/{guide}.md differs; `contracts table` prints the right ones");
+            missing += 1;
+        }
     }
     let folder = root.join("crates/claims");
     let (claimed, faults) = claims::check(

@@ -79,7 +79,7 @@ pub fn run(tally: &mut Tally, random: &mut Random) {
         for (first, second) in TOO_MANY {
             let ring = random.bytes::<RING>();
             let books = [first, second].map(|count| random.plain_book(count));
-            let sealed = books.each_ref().map(|book| SEAL.made(&ring, book));
+            let sealed = [0, 1].map(|i| SEAL.made(&ring, &books[i]));
             for (call, book) in [(&SEAL, books.concat()), (&OPEN, sealed.concat())] {
                 for room in rooms(call.room(&book)) {
                     call.want_refused(group, &ring, &book, room, (1, 0, 0));
@@ -127,7 +127,7 @@ fn joined(group: &mut Group, random: &mut Random, first: usize, second: usize) {
     let ring = random.bytes::<RING>();
     let books = [first, second].map(|count| random.plain_book(count));
     if group.turn() {
-        let sealed = books.each_ref().map(|book| SEAL.made(&ring, book));
+        let sealed = [0, 1].map(|i| SEAL.made(&ring, &books[i]));
         both(group, &ring, &books.concat(), &sealed.concat());
     }
 }

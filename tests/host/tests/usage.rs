@@ -2,6 +2,7 @@
 //! long run takes its options, and an interrupt.
 
 use std::ffi::OsStr;
+use std::io::{BufRead, BufReader, Read};
 use std::os::unix::ffi::OsStrExt;
 use std::process::{Command, Output, Stdio};
 use std::thread::sleep;
@@ -107,33 +108,30 @@ fn one_call_alone() {
     assert_eq!(lines[3..], ["1 passed, 0 failed"]);
 }
 
-/// It ends with the counts so far.
+/// It ends with the counts so far. Whoever reads the seed finds it ready for that.
 #[test]
 fn an_interrupt_ends_the_long_run() {
-    let run = long("--seed 1 --threads 1")
+    let mut run = long("--seed 1 --threads 1")
         .stdout(Stdio::piped())
         .stderr(Stdio::piped())
         .spawn()
         .unwrap();
+    let mut output = BufReader::new(run.stdout.take().unwrap());
+    let mut said = String::new();
+    output.read_line(&mut said).unwrap();
+    assert_eq!(said, "seed 1\n");
     sleep(Duration::from_millis(500));
     let id = run.id().to_string();
-    assert!(Command::new("kill")
-        .args(["-INT", &id])
-        .status()
-        .unwrap()
-        .success());
+    let killed = Command::new("kill").args(["-INT", &id]).status().unwrap();
+    assert!(killed.success());
+    output.read_to_string(&mut said).unwrap();
+    let last = said.lines().last().unwrap();
+    assert!(last.ends_with(" passed, 0 failed"), "{last}");
     let output = run.wait_with_output().unwrap();
     assert_eq!(output.status.code(), Some(130));
-    let said = String::from_utf8(output.stderr.clone()).unwrap();
-    assert!(
-        said.ends_with("long: interrupted; these are the counts so far\n"),
-        "{said}"
-    );
-    let last = *lines(&output).last().unwrap();
-    assert!(
-        last.ends_with(" passed, 0 failed") && !last.starts_with("0 "),
-        "{last}"
-    );
+    let error = String::from_utf8(output.stderr).unwrap();
+    let wanted = "long: interrupted; these are the counts so far\n";
+    assert!(error.ends_with(wanted), "{error}");
 }
 
 #[test]

@@ -6,7 +6,7 @@
 //! to standard output. The status is 1 if anything differed, 130 after an interrupt.
 
 use host::long::calls::{Call, CALLS};
-use host::long::run::{grouped, run, time, Count, Plan};
+use host::long::run::{grouped, run, time, Count, Plan, Said};
 use std::collections::hash_map::RandomState;
 use std::ffi::OsString;
 use std::hash::{BuildHasher, Hasher};
@@ -46,7 +46,9 @@ fn main() -> ExitCode {
     let stop = stopped_by_signals();
     println!("seed {}", plan.seed);
     let start = Instant::now();
-    let counts = run(&calls, &plan, stop, |text| eprintln!("{text}"));
+    let counts = run(&calls, &plan, stop, |said| match said {
+        Said::Difference(text) | Said::Progress(text) => eprintln!("{text}"),
+    });
     for (call, count) in calls.iter().zip(&counts) {
         println!("{}", line(call, count));
     }

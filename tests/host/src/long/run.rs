@@ -152,13 +152,20 @@ impl Shared<'_> {
     }
 }
 
-/// Compares what the plan says, until `stop` is set. Differences and progress go to
-/// `say`, line by line. The answer has the counts of the calls in their order.
+/// What a run says on its way: what differs, in some lines, or how far it has come.
+#[derive(Debug, PartialEq)]
+pub enum Said {
+    Difference(String),
+    Progress(String),
+}
+
+/// Compares what the plan says, until `stop` is set. The answer has the counts of the
+/// calls in their order.
 pub fn run(
     calls: &[&Call],
     plan: &Plan,
     stop: &AtomicBool,
-    mut say: impl FnMut(&str),
+    mut say: impl FnMut(Said),
 ) -> Vec<Count> {
     let shares = shares(calls, plan);
     let all: u64 = shares.iter().sum();
@@ -183,15 +190,12 @@ pub fn run(
         let mut due = start + PROGRESS;
         loop {
             match said.recv_timeout(due.saturating_duration_since(Instant::now())) {
-                Ok(text) => say(&text),
+                Ok(text) => say(Said::Difference(text)),
                 Err(RecvTimeoutError::Disconnected) => break,
                 Err(RecvTimeoutError::Timeout) => {
                     due += PROGRESS;
-                    say(&progress(
-                        shared.made.load(Ordering::Relaxed),
-                        all,
-                        start.elapsed(),
-                    ));
+                    let made = shared.made.load(Ordering::Relaxed);
+                    say(Said::Progress(progress(made, all, start.elapsed())));
                 }
             }
         }
@@ -241,6 +245,7 @@ mod tests {
     use super::super::calls::{compared, Argument, CALLS};
     use super::*;
     use crate::{engine, other};
+    use std::collections::HashMap;
 
     fn plan(single: u64, lists: u64, threads: usize) -> Plan {
         Plan {
@@ -255,7 +260,11 @@ mod tests {
     fn runs(calls: &[&Call], plan: &Plan) -> (Vec<Count>, Vec<String>) {
         let mut said = Vec::new();
         let stop = AtomicBool::new(false);
-        let counts = run(calls, plan, &stop, |text| said.push(text.to_string()));
+        let counts = run(calls, plan, &stop, |text| {
+            if let Said::Difference(text) = text {
+                said.push(text);
+            }
+        });
         (counts, said)
     }
 
@@ -291,22 +300,47 @@ mod tests {
         }
     }
 
-    /// The engine and the reference agree, in any number of threads alike; nine lists
-    /// in ten are short.
+    /// The refusals of each call, by the table for hosts.
+    fn tabled() -> HashMap<&'static str, Vec<usize>> {
+        let guide = include_str!(concat!(env!("CARGO_MANIFEST_DIR"), "/../../docs/hosts.md"));
+        let row = |line: &'static str| {
+            let cells: Vec<&str> = line.split('|').map(str::trim).collect();
+            let name = cells.get(1)?.strip_prefix("`taa1_")?.strip_suffix('`')?;
+            let words = cells.get(3)?.split([' ', ',', ';']);
+            let mut refusals: Vec<usize> = words.filter_map(|word| word.parse().ok()).collect();
+            refusals.sort_unstable();
+            Some((name, refusals))
+        };
+        guide.lines().filter_map(row).collect()
+    }
+
+    #[test]
+    fn threads_change_nothing() {
+        let calls: Vec<&Call> = CALLS.iter().collect();
+        let [one, three] = [1, 3].map(|threads| runs(&calls, &plan(3_500, 1_000, threads)));
+        assert_eq!(one, three);
+    }
+
+    /// The engine and the reference agree. Nine lists in ten are short, and every refusal
+    /// of each call is met, and no other.
     #[test]
     fn a_short_run() {
         let calls: Vec<&Call> = CALLS.iter().collect();
-        let (counts, said) = runs(&calls, &plan(7_000, 5_000, 1));
+        let (counts, said) = runs(&calls, &plan(35_000, 40_000, 2));
         assert_eq!(said, Vec::<String>::new());
-        assert_eq!(runs(&calls, &plan(7_000, 5_000, 3)), (counts.clone(), said));
         let lists = calls
             .iter()
             .zip(&counts)
             .filter(|(call, _)| !call.is_single());
         let short: u64 = lists.map(|(_, count)| count.short).sum();
-        assert!((4_450..4_650).contains(&short), "{short}");
-        let accepted: u64 = counts.iter().map(|count| count.refusals[0]).sum();
-        assert!((8_000..11_000).contains(&accepted), "{accepted}");
+        assert!((36_000..37_000).contains(&short), "{short}");
+        let tabled = tabled();
+        assert_eq!(tabled.len(), calls.len());
+        for (call, count) in calls.iter().zip(&counts) {
+            let met: Vec<usize> = count.refused().map(|(refusal, _)| refusal).collect();
+            assert_eq!(met, tabled[call.name], "{}", call.name);
+            assert!(count.refusals[0] > count.made / 3, "{}", call.name);
+        }
     }
 
     /// An encryption with a bit wrong now and then.
