@@ -43,7 +43,7 @@ struct File {
 }
 
 /// The tests that say what one argument must be.
-const NOTED: [&str; 3] = ["long", "fits", "wide"];
+const NOTED: [&str; 3] = ["hasLength", "fits", "wide"];
 /// The field with the refusal of a record or a body.
 const FAULT: &str = "fault";
 
@@ -454,7 +454,7 @@ impl Definitions {
             None => Value::Other,
         };
         match (name, value(0), value(1)) {
-            ("long", Number(bytes), Argument(of)) => drop(tests.lengths.insert(of, bytes)),
+            ("hasLength", Number(bytes), Argument(of)) => drop(tests.lengths.insert(of, bytes)),
             ("lengthTests", Number(bytes), LengthOf(of)) => tests.list = Some((of, bytes)),
             ("listTests", _, Number(bytes)) => tests.written = Some(bytes),
             ("fits", Number(bits), Argument(of)) => drop(tests.bits.insert(of, bits.to_string())),
@@ -658,8 +658,8 @@ wrongKind = 3
 abbrev pub notZero : ℕ
 notZero = 4
 
-abbrev pub long : ℕ → List ℕ → Bool
-long n xs = eqb (length xs) n
+abbrev pub hasLength : ℕ → List ℕ → Bool
+hasLength n xs = eqb (length xs) n
 
 abbrev pub fits : ℕ → ℕ → Bool
 fits w v = ltb v (2 ^ w)
@@ -673,7 +673,7 @@ answer8 r b = record { refusal = r; bytes = choose (eqb r 0) b (zeros 8) }
 ";
 
     const BOOKS: &str = "\
-use Rattle.standard.specs.Refusals.{wrongLength, tooLong, notWhole, outputShort, wrongKind, notZero, long, fits, first, answer8}
+use Rattle.standard.specs.Refusals.{wrongLength, tooLong, notWhole, outputShort, wrongKind, notZero, hasLength, fits, first, answer8}
 
 abbrev pub size : ℕ
 size = 18
@@ -701,7 +701,7 @@ fault p = choose (isKnown p) (formOf (p .kind) .fault p) wrongKind
 abbrev pub bookCall : Way → List ℕ → List ℕ → List ℕ → Answer
 bookCall W r xs out =
     let n = length xs / W .size in
-    let head = first ((long 52 r, wrongLength) ∷ listTests (W .size) 21 (length xs) (length out)) in
+    let head = first ((hasLength 52 r, wrongLength) ∷ listTests (W .size) 21 (length xs) (length out)) in
     let g : ℕ → ℕ = λ i. W .fault (recordAt (W .size) xs i) in
     counted (answer head n g (21 * n)) (runs head n g)
 
@@ -710,7 +710,7 @@ sealBook r p out = bookCall (record { size = size; fault = fault }) r p out
 
 unfoldable pub singleCall : List ℕ → ℕ → ℕ → Bytes8
 singleCall k n w =
-    answer8 (first ((long 16 k, wrongLength) ∷ (fits w n, tooLong) ∷ (leb 1 w && leb w 3, notZero) ∷ [])) (seal form1 k)
+    answer8 (first ((hasLength 16 k, wrongLength) ∷ (fits w n, tooLong) ∷ (leb 1 w && leb w 3, notZero) ∷ [])) (seal form1 k)
 ";
 
     const ENGINE: &str = "ghost use Rattle.standard.specs.Books.{sealBook, singleCall};\n";

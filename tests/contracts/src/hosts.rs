@@ -189,11 +189,11 @@ taa1_book_answer taa1_two(const uint8_t *key, size_t key_length, uint8_t *out, s
 abbrev pub wrongLength : ℕ
 wrongLength = 11
 
-abbrev pub long : ℕ → List ℕ → Bool
-long n xs = eqb (length xs) n
+abbrev pub hasLength : ℕ → List ℕ → Bool
+hasLength n xs = eqb (length xs) n
 
 unfoldable pub oneCall : List ℕ → ℕ → Value
-oneCall k n = value (first ((long 16 k && leb n 31, wrongLength) ∷ []))
+oneCall k n = value (first ((hasLength 16 k && leb n 31, wrongLength) ∷ []))
 
 unfoldable pub twoCall : List ℕ → List ℕ → BookAnswer
 twoCall k out = value (first ((wrongLength) ∷ []))
