@@ -29,7 +29,7 @@ from .desk import Desk, RefusedFile, refusals
 from .document import Document, as_page, as_text
 from .exports import class_json, csv_text, is_marks
 from .files import STANDARD, Problem, place, shown
-from .forms import BYTES, FORMS
+from .forms import BYTES
 from .handins import Reader
 from .mark import Marker
 from .model import model_answer, model_json, model_text
@@ -648,7 +648,7 @@ def _reader(args: argparse.Namespace) -> tuple[Union[Reader, OpenedMarker], text
 def _forms(args: argparse.Namespace, names: list[str]) -> list[str]:
     """For each hand-in the form that it is to be read in, or nothing."""
     forms = dict.fromkeys(names, BYTES if args.bytes else "")
-    known = [BYTES, *FORMS]
+    known = handins.READ_AS
     for given in args.as_ or ():
         file, _, form = given.rpartition("=")
         meant = [name for name in names if file in ("", name, os.path.basename(name))]
@@ -894,7 +894,7 @@ def parser() -> Parser:
         action="append",
         dest="as_",
         metavar="[CANDIDATE=]FORM",
-        help=f"read it so, whatever it looks like: {', '.join((BYTES, *FORMS))}",
+        help=f"read it so, whatever it looks like: {', '.join(handins.READ_AS)}",
     )
     _common(mark, bytes="", json="")
 

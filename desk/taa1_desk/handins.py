@@ -12,14 +12,17 @@ import os
 import re
 import shlex
 from collections import Counter
+from dataclasses import replace
 from itertools import count
 from typing import Callable, Container, Mapping, NamedTuple, Optional, Sequence
 
+from . import answerform
 from taa1 import Refused
 
 from .files import STANDARD, Problem, place, reason
 from .forms import BYTES, FILES, FORMS, rows, text_of
 from .keysheet import KeyFile, KeyMarker
+from .lineends import CHANGES, DAMAGED, Change, changed
 from .mark import Marked, Marker, Sheet, Wanted
 from .page import is_made_by
 from .pages import MADE_BY
@@ -27,6 +30,8 @@ from .records import KINDS, PLAIN, SEALED, split
 from .sheets import plural
 from .texts import is_lines
 
+FORM = "form"  # the name of the answer form among the forms of hand-ins
+READ_AS = (BYTES, *FORMS, FORM)
 MOST_IN_FRONT = 1024  # bytes of a header
 MOST_NAME = 200  # bytes of a page's name
 KEYS = ".keys"
@@ -40,25 +45,26 @@ TEXTS = (  # by what is found in them
     (r"(?i)\s*<(!doctype )?html", "a page of HTML"),
     (r"(?:.*\n){0,5}\s*(0{6,16}|[0-7]{7}):?\s", "a dump of bytes, but in no form that is known, or with "
      "lines lost or doubled (od -An -v -tx1 makes one that is read)"),
+    (r"Question paper\b", "the question paper, with no answer in it"),
+    (r"Worked solution\b", "the worked solution, which is no candidate's"),
     (r"\s*[A-Za-z][A-Za-z0-9_ ]*=", "names and values"),
 )  # fmt: skip
-
-
-def _line_ends(old: bytes, new: bytes) -> Callable[[bytes], bytes]:
-    """Puts back line ends that a copy has changed everywhere."""
-    return lambda book: book if old in book.replace(new, b"") else book.replace(new, old)
 
 
 def _latin(book: bytes) -> bytes:
     return book.decode().encode("latin-1")
 
 
+def _undone(change: Change) -> Callable[[bytes], bytes]:
+    """Puts back line ends that a copy has changed everywhere."""
+    return lambda book: book.replace(change.new, change.old) if change.may_be(book) else book
+
+
+# Damages that can be undone, to recognise them also where no right record shows them.
 DAMAGES: tuple[tuple[str, Callable[[bytes], bytes]], ...] = (
-    ("its line ends were changed, and each 0a is 0d 0a now", _line_ends(b"\n", b"\r\n")),
-    ("its line ends were changed, and each 0a is 0d now", _line_ends(b"\n", b"\r")),
+    *((change.said, _undone(change)) for change in CHANGES[:2]),
     ("it was converted to UTF-8, and each byte above 7f is two now", _latin),
 )
-DAMAGED = "a book that was damaged when it was copied"
 LOST = "\ufffd".encode()  # what stands for bytes that are no UTF-8
 WANTED = ", where a sealed one is wanted (mark --opened marks what was opened)"
 
@@ -75,6 +81,8 @@ class Reading(NamedTuple):
     problem: Optional[str] = None  # why it is not marked
     problems: tuple[str, ...] = ()  # of lines that hold no record
     hopeless: bool = False  # no form makes a book of it
+    keys: Optional[KeyFile] = None  # that are in it, too
+    rows: tuple[int, ...] = ()  # the entries of the records, where the hand-in numbers them
 
 
 class Reader:
@@ -98,11 +106,12 @@ class Reader:
         reading = self.forced(data, form) if form else self.read(data)
         problem = reading.problem
         if problem is None:
+            keys = answerform.both(reading.keys, keys) if reading.keys else keys
             sheet = self.marker.mark(where, reading.book, keys)
             sheet = sheet._replace(read_as=reading.how, problems=reading.problems)
-            problem = None if form else self.strange(sheet)
+            problem = None if form or not reading.book else self.strange(sheet)
             if problem is None:
-                return sheet
+                return _numbered(sheet, reading.rows) if reading.rows else sheet
         if not form and not reading.hopeless:
             given = f"{shlex.quote(name)}={reading.form or BYTES}"
             problem += f"; --as {given} marks it all the same"
@@ -138,6 +147,8 @@ class Reader:
         try:
             if text is None:
                 raise ValueError("it is no text")
+            if form == FORM:
+                return self._form(*text)
             return Reading(FORMS[form].read(text[0]), FORMS[form].what)
         except (Problem, ValueError) as error:
             return Reading(b"", problem=f"it can't be read as {form}: {_said(error)}")
@@ -156,6 +167,8 @@ class Reader:
 
     def _read_text(self, text: str, code: str) -> Reading:
         """How a text is read: in the form that shows most of the model."""
+        if answerform.is_form(text):
+            return self._form(text, code)
         readings, why = [], ""
         for name, form in FORMS.items():
             try:
@@ -168,12 +181,12 @@ class Reader:
             return by_rows
         if self.common(best.book):
             return self._look(best)
-        if is_lines(text):
+        look = next((what for pattern, what in TEXTS if re.match(pattern, text)), "")
+        if is_lines(text) and not look:
             return Reading(b"", problem=f"this looks like a plain book in lines{WANTED}")
         # nothing is proved: digits are taken for what they seem to be
         seem = [each for each in readings if each.form in ("hex", "dump", "words")]
         seem.sort(key=lambda each: len(each.book) % SEALED > 0)
-        look = next((what for pattern, what in TEXTS if re.match(pattern, text)), "")
         if look and not (seem and len(seem[0].book) % SEALED == 0):
             return Reading(b"", problem=f"this looks like {look}")
         if not seem:
@@ -181,6 +194,16 @@ class Reader:
         if not seem[0].book:
             return Reading(b"", problem="this looks like a text without a digit")
         return self._look(seem[0])
+
+    def _form(self, text: str, code: str) -> Reading:
+        """An answer form that is filled in."""
+        filled = answerform.read(text)
+        if filled.is_blank:
+            return Reading(b"", problem=answerform.NOTHING, hopeless=True)
+        how = answerform.WHAT + code
+        return Reading(
+            filled.book, how, FORM, problems=filled.problems, keys=filled.keys, rows=filled.rows
+        )
 
     def _rows(self, text: str, code: str, best: Reading) -> Optional[Reading]:
         """A text with a record in each line but for a few, whose digits are too few or too
@@ -202,6 +225,7 @@ class Reader:
         if found == 2 * whole and not left:
             return reading
         problem = self._other(book, found)
+        problem = problem or self._between(book)
         front = 0 if problem or not left else self._in_front(book, found)
         if front and (len(book) - front) // SEALED >= len(self.marker.model):
             how = f"{reading.how or BYTES}, but for {plural(front, 'byte')} in front"
@@ -212,6 +236,20 @@ class Reader:
         if not problem and found and left and whole + 1 < len(self.marker.model):
             problem = f"a book that was cut short: {plural(whole, 'record')} and {plural(left, 'byte')}"
         return reading._replace(problem=f"this looks like {problem}") if problem else reading
+
+    def _between(self, book: bytes) -> str:
+        """That bytes were lost or added within a book, if records at its start and at its
+        end show the model, and others don't fit between them."""
+        left = len(book) % SEALED
+        starts = [self.common(record) > 0 for record in split(book, SEALED)]
+        ends = [self.common(record) > 0 for record in split(book[left:], SEALED)][::-1]
+        first, last = ([*shown, False].index(False) for shown in (starts, ends))
+        if not (left and first and last):
+            return ""
+        return (
+            f"{DAMAGED}: bytes were lost or added within it: its first {plural(first, 'record')} "
+            f"begin where they should, and its last {last} do if they are counted from the end"
+        )
 
     def _in_front(self, book: bytes, found: int) -> int:
         """How many bytes stand in front of a book of whole records, if that shows more."""
@@ -243,6 +281,9 @@ class Reader:
                 return "a book filed by columns (taa1 columns sealed --back puts it back)"
         except Refused:
             pass
+        line_ends = changed(book, self.marker.model)
+        if line_ends:
+            return f"{DAMAGED}: {line_ends}"
         for damage, mend in DAMAGES:
             try:
                 if self.common(mend(book)) > found:
@@ -281,6 +322,20 @@ class Reader:
         if opened is None or entry.slip or entry.state == "doubled":
             return True
         return opened.identity in self.identities or opened.key in self.entry_keys
+
+
+def _numbered(sheet: Sheet, rows: Sequence[int]) -> Sheet:
+    """A sheet whose records have the numbers of the rows that they stand in."""
+    refused = sheet.refused
+    if refused and refused.index is not None:
+        refused = Refused(refused.number, rows[refused.index])
+    return sheet._replace(
+        refused=refused,
+        entries=tuple(replace(entry, index=rows[entry.index]) for entry in sheet.entries),
+        slips=tuple(
+            slip._replace(entries=tuple(rows[index] for index in slip.entries)) for slip in sheet.slips
+        ),
+    )
 
 
 def _said(error: Exception) -> str:

@@ -34,12 +34,12 @@ PARENTS = {
 }
 
 
-def _short(name: str) -> str:
+def short(name: str) -> str:
     """A name as it is compared: without spaces, in small letters."""
     return re.sub(r"[\s_-]", "", name).lower()
 
 
-SHORT = {_short(each): name for name in KEYS for each in (field(name), name)}
+SHORT = {short(each): name for name in KEYS for each in (field(name), name)}
 
 
 class KeyFile(NamedTuple):
@@ -111,7 +111,7 @@ def parse(text: str) -> KeyFile:
     problems: list[str] = []
     for number, line in lines_of("\n".join(text.splitlines())):
         left, equals, right = re.sub(r"[=:]", "=", line, count=1).partition("=")
-        name, digits = SHORT.get(_short(left)), "".join(map(without_0x, right.split()))
+        name, digits = SHORT.get(short(left)), "".join(map(without_0x, right.split()))
         bad = sorted(set(digits) - DIGITS)
         problem = ""
         if not equals:

@@ -14,12 +14,13 @@ from typing import Any, NamedTuple, Optional
 
 from taa1 import MOST_RECORDS, Refusal, Refused, Sitting
 
-from . import texts
+from . import answerform, texts
 from .desk import Desk, RefusedFile
 from .explain import IDENTITY, KEY, TEXT, Found, Part, Table, exchanges, joined, under_own
 from .files import Problem, place
 from .forms import BYTES, FORMS, text_of
 from .keysheet import KeyFile, KeyMarker, KeySheet, own_keys
+from .lineends import DAMAGED, changed
 from .mark import (
     Difference,
     Explained,
@@ -115,6 +116,9 @@ class OpenedMarker:
         text, code = text_of(data) or (None, "")
         if form == BYTES or text is None:
             return self._plain(data, "")
+        if answerform.is_form(text):
+            said = f"{answerform.WHAT} with a sealed book, where what was opened is wanted"
+            raise ValueError(f"this looks like {said}: lines, or a plain book's bytes")
         if not form and any(is_answer(line) for _, line in texts.lines_of(text)):
             return self._lines(text, f"lines{code}")
         if form:
@@ -139,6 +143,9 @@ class OpenedMarker:
         """A plain book's bytes, whose records are paired with the entries."""
         if data == self.sealed:
             raise ValueError("this is the sealed book that was handed out, not an opened one")
+        line_ends = changed(data, [_entry(opened).data for opened in self.truth])
+        if line_ends:
+            raise ValueError(f"this looks like {DAMAGED}: {line_ends}")
         if not data or len(data) % PLAIN:
             raise ValueError(
                 f"this looks like no plain book: {len(data)} bytes, where a record has {PLAIN}"

@@ -31,6 +31,8 @@ GENERATIONS = (
 )
 THIRD = "Third generation: the sealed book"
 RECORD = (("kind", 1), ("ESI", 3), ("version", 2), ("sealed text", 15))
+ROW = ("row", "value", "bytes")  # of the form's values
+ARGUMENT = "The argument"
 ARGUMENT_LINES = 24
 
 
@@ -157,7 +159,7 @@ def question_paper(of: Examination) -> Document:
     generations: list[Block] = []
     for title, values in asked(of.sitting.sides):
         rows = [(value.row, both(value.name), value.length, value.how) for value in values]
-        table = Table(("row", "value", "bytes", "made by"), rows, "asked")
+        table = Table((*ROW, "made by"), rows, "asked")
         generations.append(Together((Head(title, 3), table)))
     sealed = "; ".join(f"{name} ({count})" for name, count in RECORD)
     kind_rows = [
@@ -200,7 +202,7 @@ def question_paper(of: Examination) -> Document:
             Together(third),
             Together(
                 (
-                    Head("The argument", 3),
+                    Head(ARGUMENT, 3),
                     Words(
                         "Why can a sealed text open to one entry only? Say what must be fixed for "
                         "that, which property of each step of the sealing your argument uses, and "
@@ -220,14 +222,14 @@ def answer_form(of: Examination) -> Document:
     ]
     for title, values in asked(of.sitting.sides):
         rows = [(value.row, both(value.name), Boxes(value.length)) for value in values]
-        table = Table(("row", "value", "bytes"), rows, "form rows")
+        table = Table(ROW, rows, "form rows")
         blocks.append(Together((Head(title), table)))
     heads = ("entry", *(name for name, _ in RECORD))
     rows_ = [
         (index, *(Boxes(number) for _, number in RECORD)) for index in range(len(of.entries))
     ]
     blocks += [Head(THIRD), Table(heads, rows_, "form")]
-    blocks += [Head("The argument", new_page=True), Lines(ARGUMENT_LINES)]
+    blocks += [Head(ARGUMENT, new_page=True), Lines(ARGUMENT_LINES)]
     return Document("Answer form", of.heading.line, blocks)
 
 

@@ -125,7 +125,9 @@ FIXED = {  # what the tools print of it, where they are not installed
 
 # Hand-ins that are not certain: what is said, and the form that marks it all the same.
 WANTED = ", where a sealed one is wanted (mark --opened marks what was opened)"
-DAMAGED = "this looks like a book that was damaged when it was copied"
+DAMAGED = (
+    "this looks like a book that was damaged when it was copied (ask for it anew, best in hexadecimal)"
+)
 ANOTHER = (
     "this looks like another sitting's book, or one worked by a wrong cipher: no entry and no "
     "identity is the model's, though kinds and versions are"
@@ -196,6 +198,21 @@ STRANGE: dict[str, tuple[bytes, str, str]] = {
         "dump",
     ),
 }
+
+
+def _with_line_ends() -> tuple[bytes, bytes]:
+    """A plain book, and its sealed one, that has 0a, 0d and 0d 0a in records of their own."""
+    draw = random.Random(10)
+    made = []
+    for end in (b"\n", b"\r", b"\r\n"):
+        version = 0x0D0A if end == b"\r\n" else 7
+        while True:
+            entry = ENTRIES[2]._replace(identity=draw.getrandbits(24), version=version, key=draw.randbytes(10))
+            if end in seal(plain=entry.data):
+                break
+        made.append(entry)
+    book = b"".join(entry.data for entry in [*ENTRIES[:2], *made, *ENTRIES[3:]])
+    return book, seal(plain=book)
 
 
 class Forms(unittest.TestCase):
@@ -271,6 +288,41 @@ class Forms(unittest.TestCase):
         self.assertEqual(sheet.problem, f"{said}; --as a=bytes marks it all the same")
         forced = READER.mark("a", book.replace(b"\n", b"\r\n"), "bytes")
         self.assertEqual((forced.problem, forced.right), (None, 2))
+
+    def test_line_ends_of_the_model(self) -> None:
+        """Every change of line ends that a right record shows is named; one that none shows
+        is damage all the same, and no bytes in front."""
+        plain, sealed = _with_line_ends()
+        reader = Reader(Marker(DESK, SITTING, RING, plain))
+        records = split(sealed, SEALED)
+        changes = {
+            (b"\n", b"\r\n"): "0a is 0d 0a now",
+            (b"\n", b"\r"): "0a is 0d now",
+            (b"\n", b""): "0a is lost",
+            (b"\r\n", b"\n"): "0d 0a is 0a now",
+            (b"\r", b"\n"): "0d is 0a now",
+            (b"\r", b""): "0d is lost",
+        }
+        for (old, new), said in changes.items():
+            wrong = records[0][:6] + b"\x8f" * 15
+            for book in (sealed, b"".join([wrong, *records[1:]]), b"".join(records[1:])):
+                damaged = book.replace(old, new)
+                self.assertNotEqual(damaged, book)
+                said_of = reader.mark("a", damaged).problem or ""
+                self.assertTrue(said_of.startswith(f"{DAMAGED}: its line ends were changed, and each {said};"), said_of)
+            self.assertTrue(reader.mark("a", sealed).perfect)
+
+    def test_bytes_within(self) -> None:
+        """Bytes that were lost or added within a book, wherever that is."""
+        for at in (1, 5, 10):
+            for damaged in (BOOK[: 21 * at + 9] + BOOK[21 * at + 10 :], BOOK[: 21 * at] + b"?" + BOOK[21 * at :]):
+                sheet = READER.mark("a", damaged)
+                first, last = (at + 1, 11 - at) if len(damaged) < len(BOOK) else (at, 12 - at)
+                said = (
+                    f"{DAMAGED}: bytes were lost or added within it: its first {first} record{'s' * (first > 1)} "
+                    f"begin where they should, and its last {last} do if they are counted from the end"
+                )
+                self.assertEqual(sheet.problem, f"{said}; --as a=bytes marks it all the same")
 
     def test_truncated(self) -> None:
         """The whole records are marked, and the cut one is said."""
@@ -395,7 +447,7 @@ class Command(Case):
         self.assertEqual(done.status, 0)
         done = self.mark(self.folder / "ben.book", "--as", "ben.book=bytes")
         self.assertEqual(done.status, 0)
-        known = ", ".join(["bytes", *FORMS])
+        known = ", ".join(["bytes", *FORMS, "form"])
         for error, form in (
             (f"mark: argument --as: no form 'hexa': they are {known}", "hexa"),
             ("mark: argument --as: no hand-in is called 'cho.book'", "cho.book=hex"),

@@ -9,6 +9,7 @@ from common import CLASS, DESK, ENTRIES, LINES, PLAIN_BOOK, RING, SITTING, Case,
 from taa1_desk.damage import Damage, damaged
 from taa1_desk.files import Problem
 from taa1_desk.keysheet import KeyFile
+from taa1_desk.lineends import DAMAGED as BROKEN
 from taa1_desk.mark import Sheet
 from taa1_desk.opened import OpenedMarker
 from taa1_desk.records import KINDS, PLAIN, SEALED, split
@@ -21,6 +22,9 @@ DAMAGED = damaged(DESK, RING, ENTRIES, SEALED_BOOK, [Damage(2, 4), Damage(6)])
 MARKER = OpenedMarker(DESK, SITTING, RING, DAMAGED, "handout")
 TRUE = [line for line in LINES.splitlines() if line.startswith("entry ")]
 TRUE[2], TRUE[6] = "entry 2 flag", "entry 6 flag"
+
+
+ENDS = "its line ends were changed, and each"
 
 
 def mark(*lines: str) -> Sheet:
@@ -215,6 +219,8 @@ class Lines(unittest.TestCase):
             (b"\n", "the file is empty"),
             (b"\0" * 17, "this looks like no plain book: 17 bytes, where a record has 18"),
             (b"nothing", "this looks like text that is neither lines of entries nor hexadecimal"),
+            (PLAIN_BOOK.replace(b"\n", b""), f"this looks like {BROKEN}: {ENDS} 0a is lost"),
+            (PLAIN_BOOK.replace(b"\n", b"\r"), f"this looks like {BROKEN}: {ENDS} 0a is 0d now"),
         ):
             sheet = MARKER.mark("hand-in", data)
             self.assertEqual((sheet.problem, sheet.right, len(sheet.missing)), (said, 0, 12))

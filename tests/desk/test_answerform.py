@@ -1,0 +1,190 @@
+"""Answer forms, filled in and handed in as text."""
+
+from __future__ import annotations
+
+import json
+import re
+import unittest
+from typing import Callable, Iterable, Mapping, Optional
+
+from common import CLASS, DESK, PLAIN_BOOK, RING, SITTING, Case, here, ring_for, seal
+from taa1_desk import answerform, paper
+from taa1_desk.document import as_text
+from taa1_desk.handins import Reader
+from taa1_desk.keysheet import KeyFile
+from taa1_desk.mark import Marker, Sheet
+from taa1_desk.opened import OpenedMarker
+from taa1_desk.records import SEALED, split
+from taa1_desk.sheets import others, sheet_text
+from taa1_desk.texts import Heading
+from taa1_desk.working import Steps
+
+INPUTS = (CLASS / "sitting.txt", CLASS / "model.txt")
+HEADING = Heading("Key management", "3 December")
+READER = Reader(Marker(DESK, SITTING, RING, PLAIN_BOOK))
+RECORDS = split(seal(), SEALED)
+KEYS = {name: value for name, value in Steps(DESK).keys(SITTING).items() if value and name != "C"}
+FORM = as_text(paper.answer_form(paper.examination(DESK, SITTING, HEADING, PLAIN_BOOK, "f")))
+
+
+def filled(
+    records: Iterable[Optional[bytes]] = RECORDS,
+    keys: Mapping[str, bytes] = KEYS,
+    written: Callable[[int], str] = "{:02x}".format,
+) -> str:
+    """The form as a candidate fills it in, box by box; what is None stays blank."""
+    lines, rows = [], iter(records)
+    for line in FORM.splitlines():
+        name = re.match(r" +\d+  (.*?) \(", line)
+        values = keys.get(name[1]) if name else None
+        if re.match(r" +\d+  __ ", line):
+            values = next(rows, None)
+        for byte in values or b"":
+            line = line.replace("__", written(byte), 1)
+        lines.append(line)
+    return "\n".join(lines) + "\n"
+
+
+def mark(text: str, keys: Optional[KeyFile] = None) -> Sheet:
+    return READER.mark("ann.txt", text.encode(), "", keys)
+
+
+class Forms(unittest.TestCase):
+    """What is read of a form."""
+
+    def test_whole(self) -> None:
+        """Every box filled in, in any writing."""
+        text = filled()
+        for name, given, how in (
+            ("as printed", text.encode(), ""),
+            ("DOS", text.replace("\n", "\r\n").encode(), ""),
+            ("UTF-16", text.encode("utf-16"), " in UTF-16"),
+            ("a byte order mark", text.encode("utf-8-sig"), " behind a byte order mark"),
+            ("capitals", filled(written="{:02X}".format).encode(), ""),
+            ("no zero in front", filled(written="{:x}".format).encode(), ""),
+            ("0x", filled(written="0x{:02x}".format).encode(), ""),
+            ("set to the left", re.sub(r"(?m)^ +", "", text).encode(), ""),
+            ("tabs", re.sub(" {2,}", "\t", text).encode(), ""),
+            ("bars", re.sub(" {2,}", " | ", text).encode(), ""),
+            ("no spaces", re.sub(r"(?<=[0-9a-f]{2}) (?=[0-9a-f]{2}\b)", "", text).encode(), ""),
+            ("the paper in front", b"Question paper, Key management\n\n" + text.encode(), ""),
+            ("an argument", text.replace("_" * 96, "12 entries, since 3 is no 4.", 2).encode(), ""),
+        ):
+            with self.subTest(name):
+                sheet = READER.mark("ann.txt", given)
+                self.assertEqual((sheet.problem, sheet.read_as), (None, f"an answer form{how}"))
+                self.assertTrue(sheet.perfect, sheet_text(sheet))
+                states = {mark.name: mark.state for mark in sheet.keys.marks}
+                self.assertEqual(states, dict.fromkeys(KEYS, "right"))
+
+    def test_slips(self) -> None:
+        """A wrong book and wrong keys are explained as ever, and follow from each other."""
+        other = SITTING._replace(rand2=SITTING.rand2[::-1])
+        keys = {name: value or b"" for name, value in Steps(DESK).keys(other).items()}
+        sheet = mark(filled(split(seal(other), SEALED), keys))
+        (slip,) = sheet.slips
+        self.assertEqual(slip.name, "TA22's challenge reversed (RAND2)")
+        self.assertEqual((slip.entries, slip.keys), ((0, 1), ("response 2", "key 2", "D")))
+        self.assertEqual((sheet.right, sheet.following), (10, 2))
+
+    def test_blank_rows(self) -> None:
+        """A row that is left blank is missing, and the others keep their numbers."""
+        wrong = RECORDS[9][:-1] + bytes([RECORDS[9][-1] ^ 1])
+        rows = [None if at in (3, 7) else wrong if at == 9 else r for at, r in enumerate(RECORDS)]
+        sheet = mark(filled(rows))
+        self.assertEqual((sheet.right, sheet.missing, sheet.problems), (9, (3, 7), ()))
+        self.assertEqual([e.index for e in sheet.entries], [0, 1, 2, 4, 5, 6, 8, 9, 10, 11])
+        self.assertEqual([e.index for e in sheet.entries if e.state == "wrong"], [9])
+        assert sheet.refused
+        self.assertEqual((sheet.refused.number, sheet.refused.index), (6, 9))
+        self.assertIn("  entry 9: seals no key: all 5 checks fail\n", sheet_text(sheet))
+
+    def test_bad_rows(self) -> None:
+        """A row that can't be read is named, and costs itself alone."""
+        text = filled().splitlines()
+        at = next(i for i, line in enumerate(text) if line.startswith("      4  "))
+        key = next(i for i, line in enumerate(text) if "DCK)" in line)
+        for line, said in (
+            (text[at][:-3] + " __", "20 of 21 boxes are filled in"),
+            (text[at][:-3], "40 hexadecimal digits, not 42"),
+            (text[at][:-2] + "9o", "'o' is no hexadecimal digit"),
+        ):
+            sheet = mark("\n".join([*text[:at], line, *text[at + 1 :]]))
+            self.assertEqual((sheet.right, sheet.missing), (11, (4,)))
+            self.assertIn(f"line {at + 1}, entry 4: {said}", others(sheet))
+        for line, said in (
+            (text[key][:-3], "18 hexadecimal digits, not 20"),
+            (text[key][:-2] + "__", "9 of 10 boxes are filled in"),
+        ):
+            sheet = mark("\n".join([*text[:key], line, *text[key + 1 :]]))
+            self.assertEqual([m.name for m in sheet.keys.marks if m.state == "wrong"], ["D"])
+            self.assertEqual(sheet.keys.problems, (f"line {key + 1}, D: {said}",))
+            self.assertEqual(sheet.right, 12)
+
+    def test_broken_rows(self) -> None:
+        """Rows that a mail program broke in two are joined."""
+        text = "\n".join(re.sub(r"^(.{60}\S*) ", r"\1\n", line) for line in filled().splitlines())
+        self.assertGreater(text.count("\n"), filled().count("\n") + 10)
+        self.assertTrue(mark(text).perfect)
+
+    def test_parts(self) -> None:
+        """The keys alone, the book alone, or nothing."""
+        sheet = mark(filled([]))
+        self.assertEqual((sheet.problem, len(sheet.missing), len(sheet.keys.marks)), (None, 12, 9))
+        sheet = mark(filled(keys={}))
+        self.assertEqual((sheet.right, sheet.keys.marks), (12, ()))
+        self.assertEqual(mark(FORM).problem, answerform.NOTHING)
+
+    def test_keys_beside(self) -> None:
+        """Values of NAME.keys count before the form's, and a difference is said."""
+        file = KeyFile({"D": bytes(10), "O": KEYS["O"]})
+        sheet = mark(filled(keys={"D": KEYS["D"], "G": KEYS["G"]}), file)
+        states = {mark.name: mark.state for mark in sheet.keys.marks}
+        self.assertEqual(states, {"D": "wrong", "O": "right", "G": "right"})
+        said = ("D: NAME.keys and the answer form differ; that of NAME.keys counts",)
+        self.assertEqual(sheet.keys.problems, said)
+
+    def test_others(self) -> None:
+        """Another sitting's form, one for what was opened, and what is no form."""
+        other = SITTING._replace(
+            root=bytes(range(16)), rs=bytes(10), rso=bytes(range(10)), c=bytes(range(50, 60)), group_key=bytes(12)
+        )
+        sheet = mark(filled(split(seal(other), SEALED), {}))
+        self.assertIn("this looks like another sitting's book", sheet.problem or "")
+        self.assertIn("; --as ann.txt=form marks it all the same", sheet.problem or "")
+        text = filled(split(seal(other), SEALED), {}).encode()
+        self.assertEqual(READER.mark("ann.txt", text, "form").problem, None)
+        opened = OpenedMarker(DESK, SITTING, ring_for(SITTING), seal(), "handout")
+        said = "this looks like an answer form with a sealed book, where what was opened is wanted"
+        self.assertIn(said, opened.mark("ann.txt", filled().encode()).problem or "")
+        of = paper.examination(DESK, SITTING, HEADING, PLAIN_BOOK, "f")
+        for document, what in (
+            (paper.question_paper(of), "the question paper, with no answer in it"),
+            (paper.solution(of), "the worked solution, which is no candidate's"),
+        ):
+            said = mark(as_text(document)).problem or ""
+            self.assertTrue(said.startswith(f"this looks like {what}"), said)
+
+
+class Command(Case):
+    """taa1 mark of forms."""
+
+    def test_command(self) -> None:
+        """The printed form, filled in, has the marks of its book and keys."""
+        printed = here("paper", *INPUTS, "--part", "form", cwd=self.folder).out.decode()
+        self.assertEqual(printed.splitlines()[3:], FORM.splitlines()[3:])
+        self.file("ann.form", filled())
+        done = here("mark", *INPUTS, "ann.form", cwd=self.folder)
+        self.assertEqual((done.status, done.error), (0, ""))
+        first, right, points = done.out.decode().splitlines()
+        self.assertEqual(first, "ann.form: 12 of 12 entries right; opens; read as an answer form")
+        self.assertEqual(points.split(" (")[0], "  points 24 of 24")
+        out = here("mark", *INPUTS, "ann.form", "--json", cwd=self.folder).out
+        self.assertEqual(len(json.loads(out)["sheets"][0]["keys"]), 9)
+        self.file("ben.form", FORM)
+        done = here("mark", *INPUTS, "ben.form", cwd=self.folder)
+        self.assertEqual((done.status, done.error), (1, f"taa1: ben.form: {answerform.NOTHING}\n"))
+
+
+if __name__ == "__main__":
+    unittest.main()
