@@ -19,6 +19,7 @@ use std::path::Path;
 use std::process::ExitCode;
 
 const FUNCTIONS: &str = "## Functions that other crates can call\n";
+const EXAMPLE: &str = "## A proof file, line by line\n";
 const EDITS: &str = "## Edits that must be refused\n";
 const CALLS: &str = "## The calls\n";
 
@@ -291,6 +292,18 @@ fn calls(root: &Path, all: &[Function]) -> (String, Vec<String>) {
     hosts::table(&read(&root.join("include/taa1.h")), &definitions, contract)
 }
 
+/// The indented lines of a section of a guide that stand in none of the files. One
+/// that has `..` leaves something out, and is not looked for.
+fn unquoted<'a>(guide: &'a str, heading: &str, files: &[String]) -> Vec<&'a str> {
+    let section = guide.split_once(heading).map_or("", |(_, rest)| rest);
+    let section = section.split("\n## ").next().unwrap_or("");
+    let quoted = section.lines().filter(|line| line.starts_with("    "));
+    let told = |line: &str| files.iter().any(|file| file.contains(line.trim()));
+    quoted
+        .filter(|line| !line.contains("..") && !told(line))
+        .collect()
+}
+
 fn main() -> ExitCode {
     let arguments: Vec<_> = std::env::args_os().skip(1).collect();
     let print = match &arguments[..] {
@@ -357,6 +370,13 @@ fn main() -> ExitCode {
             missing += 1;
         }
     }
+    let example = ["src/lib.rt", "proofs/count/Proof.antt"];
+    let example = example.map(|file| read(&root.join("crates/diffusion").join(file)));
+    let proving = read(&root.join("docs/PROVING.md"));
+    let untold = unquoted(&proving, EXAMPLE, &example);
+    for line in &untold {
+        println!("docs/PROVING.md: not in crates/diffusion: {line}");
+    }
     let folder = root.join("crates/claims");
     let (claimed, faults) = claims::check(
         &read(&root.join("docs/ARGUMENT.md")),
@@ -366,8 +386,8 @@ fn main() -> ExitCode {
     for fault in &faults {
         println!("docs/ARGUMENT.md: {fault}");
     }
-    let passed = passed + tables.len() - missing + claimed;
-    let failed = failed + odd.len() + missing + faults.len();
+    let passed = passed + tables.len() - missing + claimed + usize::from(untold.is_empty());
+    let failed = failed + odd.len() + missing + faults.len() + untold.len();
     println!("{passed} passed, {failed} failed");
     ExitCode::from(u8::from(failed != 0))
 }
