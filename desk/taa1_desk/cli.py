@@ -17,7 +17,7 @@ from pathlib import Path
 from typing import Any, Callable, NoReturn, Optional, Sequence, Union
 from urllib.parse import quote
 
-from taa1 import MOST_RECORDS, LibraryError, Refused, __version__
+from taa1 import MOST_RECORDS, LibraryError, Refused, Sitting, __version__
 from taa1.calls import CALLS, Call, Parameter
 from taa1.library import repository
 
@@ -159,6 +159,14 @@ def _once(*names: str) -> None:
         raise Problem("standard input: it can stand for one file only")
 
 
+def _examination(args: argparse.Namespace) -> tuple[Desk, Sitting, texts.Heading, bytes]:
+    """The engine, a sitting with its heading, and a plain book."""
+    _once(args.sitting, args.book)
+    desk = Desk()
+    sitting, heading = texts.read_headed(args.sitting)
+    return desk, sitting, heading, texts.read_plain(desk, args.book, args.bytes)
+
+
 # ---- output
 
 
@@ -210,10 +218,9 @@ def _answer(args: argparse.Namespace, where: str, name: str, labels: Sequence[st
 
 def _lengths(refused: Refused, call: Call, labels: Sequence[str], given: Sequence[Any]) -> str:
     """Which lengths are wrong, where that was refused."""
-    inputs = [parameter for parameter in call.parameters if parameter.kind != "out"]
     return "; ".join(
         f"{label} has {plural(len(value), 'byte')}, not {parameter.length}"
-        for parameter, label, value in zip(inputs, labels, given)
+        for parameter, label, value in zip(call.inputs, labels, given)
         if refused.number == LENGTH
         and parameter.kind == "bytes"
         and parameter.length not in (None, len(value))
@@ -257,11 +264,10 @@ def _keep_hand_ins(args: argparse.Namespace) -> None:
 def run_call(args: argparse.Namespace) -> int:
     """Any call of the engine."""
     call: Call = CALLS[args.call]
-    inputs = [parameter for parameter in call.parameters if parameter.kind != "out"]
     if (getattr(args, "out", None) or 0) > MOST_ROOM:
         raise Problem(f"call {call.name}: --out-length is above {MOST_ROOM:,}")
-    labels = [_flag(parameter) for parameter in inputs]
-    _answer(args, call.name, call.name, labels, *(getattr(args, each.name) for each in inputs))
+    labels = [_flag(parameter) for parameter in call.inputs]
+    _answer(args, call.name, call.name, labels, *(getattr(args, each.name) for each in call.inputs))
     return ACCEPTED
 
 
@@ -466,10 +472,7 @@ def run_tables(args: argparse.Namespace) -> int:
 
 def run_model(args: argparse.Namespace) -> int:
     """The model answer."""
-    _once(args.sitting, args.book)
-    desk = Desk()
-    sitting, heading = texts.read_headed(args.sitting)
-    plain = texts.read_plain(desk, args.book, args.bytes)
+    desk, sitting, heading, plain = _examination(args)
     model = model_answer(desk, sitting, plain, place(args.sitting))
     if args.html:
         _emit_text(args, pages.model_page(model, heading.line))
@@ -487,12 +490,9 @@ PARTS: dict[str, Callable[[paper.Examination], Document]] = {
 
 def run_paper(args: argparse.Namespace) -> int:
     """The question paper, the blank answer form and the worked solution."""
-    _once(args.sitting, args.book)
     if args.html is not None and (args.part or args.output != STANDARD):
         raise Problem("paper: --html writes all three pages into its folder: no --part, no -o")
-    desk = Desk()
-    sitting, heading = texts.read_headed(args.sitting)
-    plain = texts.read_plain(desk, args.book, args.bytes)
+    desk, sitting, heading, plain = _examination(args)
     of = paper.examination(desk, sitting, heading, plain, place(args.sitting))
     parts = [args.part] if args.part else list(PARTS)
     documents = {part: PARTS[part](of) for part in parts}
@@ -507,12 +507,9 @@ def run_paper(args: argparse.Namespace) -> int:
 
 def run_argue(args: argparse.Namespace) -> int:
     """The marking aid for the argument: claims, true and false, with instances."""
-    _once(args.sitting, args.book)
     if args.html is not None and args.output != STANDARD:
         raise Problem("argue: --html writes the page into its file: no -o")
-    desk = Desk()
-    sitting, heading = texts.read_headed(args.sitting)
-    plain = texts.read_plain(desk, args.book, args.bytes)
+    desk, sitting, heading, plain = _examination(args)
     ring = texts.sitting_ring(desk, sitting, place(args.sitting))
     if not plain:
         raise Problem(f"{place(args.book)}: no entry in it, so there is no instance of a claim")

@@ -19,6 +19,7 @@ from .names import KIND_NAMES
 from .records import KINDS, PLAIN, RING, Entry, Ring, split, whole
 from .values import IDENTITY, MASK, decimal, hexadecimal, string, without_0x
 
+
 class Name(NamedTuple):
     """A name of a text: a string of so many bytes, or a number that fills them; or words,
     which may be missing."""
@@ -51,7 +52,6 @@ HEADING = tuple(Name(name, 0, words=True) for name in Heading._fields)
 RING_NAMES = (Name("d", 10), Name("o", 16), Name("c", 10), Name("g", 16))
 RESPONSES = (Name("response1", 4), Name("response2", 4))
 RING_MADE_BYTES = RING + 8
-
 
 OLD_MAC = "its lines end as an old Mac's, with CR alone: convert them (tr '\\r' '\\n' does so)"
 
@@ -158,14 +158,20 @@ def format_sitting(data: bytes, heading: Heading = Heading()) -> str:
     return "".join(words) + format_names(SITTING, data)
 
 
+def _bytes_or_names(data: bytes, where: str, wanted: str) -> tuple[bytes, Optional[str]]:
+    """A file's bytes, also from hexadecimal; or the text beside them, if it has names."""
+    text = as_text(data)
+    if text and is_lines(text) and not is_names(text):
+        raise Problem(f"{where}: {BOOK_LINES}, where {wanted} is wanted")
+    if text and "=" not in text:
+        return from_hex(text, where), None
+    return data, text
+
+
 def parse_sitting(data: bytes, where: str) -> tuple[Sitting, Heading]:
     """The sitting in a file's content, and its heading: names, or the bytes that makering
     reads, also in hexadecimal, which have no heading."""
-    text = as_text(data)
-    if text and is_lines(text) and not is_names(text):
-        raise Problem(f"{where}: {BOOK_LINES}, where a sitting is wanted")
-    if text and "=" not in text:
-        data, text = from_hex(text, where), None
+    data, text = _bytes_or_names(data, where, "a sitting")
     if len(data) == SITTING_BYTES and not text:
         return sitting_of(data), Heading()
     if b"=" not in data:
@@ -191,12 +197,8 @@ def read_ring(desk: Desk, name: str) -> Ring:
     A ring is 52 bytes, or the 60 that makering writes, in bytes or hexadecimal; or
     its names, d, o, c and g.
     """
-    where, data = place(name), read(name)
-    text = as_text(data)
-    if text and is_lines(text) and not is_names(text):
-        raise Problem(f"{where}: {BOOK_LINES}, where a ring or a sitting is wanted")
-    if text and "=" not in text:
-        data, text = from_hex(text, where), None
+    where = place(name)
+    data, text = _bytes_or_names(read(name), where, "a ring or a sitting")
     if len(data) in (RING, RING_MADE_BYTES) and not text:
         return Ring.of(data)
     if text:

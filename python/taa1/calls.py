@@ -53,6 +53,11 @@ class Call(NamedTuple):
         return ANSWERS[self.answer]
 
     @property
+    def inputs(self) -> tuple[Parameter, ...]:
+        """The parameters without the output, which comes last."""
+        return tuple(p for p in self.parameters if p.kind != "out")
+
+    @property
     def record(self) -> int:
         """How many bytes are written for each record; 0 if the call has no output."""
         last = self.parameters[-1]

@@ -55,7 +55,7 @@ def value(parameter: Parameter) -> Any:
 
 def values(call: Call) -> list[Any]:
     """Values that the engine takes, but for a result that has no input."""
-    return [value(p) for p in call.parameters if p.kind != "out"]
+    return [value(p) for p in call.inputs]
 
 
 class Table(unittest.TestCase):
@@ -92,14 +92,13 @@ class Table(unittest.TestCase):
                 method = Sitting if call.name == "ring" else methods[call.name]
                 taken = get_type_hints(method)
                 taken.pop("return", None)
-                wanted = {p.name: kinds.get(p.kind, int) for p in call.parameters if p.kind != "out"}
+                wanted = {p.name: kinds.get(p.kind, int) for p in call.inputs}
                 self.assertEqual(list(taken.items()), list(wanted.items()))
 
     def test_lengths(self) -> None:
         """Each fixed length of the table is the one that the engine takes."""
         for call in CALLS.values():
-            inputs = [p for p in call.parameters if p.kind != "out"]
-            for at, parameter in enumerate(inputs):
+            for at, parameter in enumerate(call.inputs):
                 if parameter.kind != "bytes" or parameter.length is None:
                     continue
                 for change in (-1, 1):
@@ -114,7 +113,7 @@ class Table(unittest.TestCase):
         for call in CALLS.values():
             with self.subTest(call.name):
                 fields = DESK.call(call.name, *values(call))
-                out = ["out"] if call.parameters[-1].kind == "out" else []
+                out = ["out"] if call.record else []
                 self.assertEqual(list(fields), [f.name for f in call.fields] + out)
 
     def test_outputs(self) -> None:
@@ -129,12 +128,12 @@ class Table(unittest.TestCase):
             "sealed_from_columns": bytes(42),
             "lineage": (bytes(5) + bytes([10]) + bytes(16)) * 2,
         }
-        outs = {call.name: call for call in CALLS.values() if call.parameters[-1].kind == "out"}
+        outs = {call.name: call for call in CALLS.values() if call.record}
         self.assertEqual(set(records), set(outs))
         for name, call in outs.items():
             with self.subTest(name):
                 given = [records[name] if v == b"" else v for v in values(call)]
-                length = call.parameters[-1].length or 0
+                length = call.record
                 self.assertEqual(DESK.call(name, *given, room=2 * length)["written"], 2 * length)
                 with self.assertRaises(Refused) as caught:
                     DESK.call(name, *given, room=2 * length - 1)
