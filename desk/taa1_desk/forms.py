@@ -150,6 +150,29 @@ def records(text: str) -> bytes:
     return b"".join(found)
 
 
+def fields(text: str) -> bytes:
+    """The records of lines of four fields: kind and version in decimal, identity and text in
+    hexadecimal; the entry's number may stand in front."""
+    found = []
+    for number, line in enumerate(text.splitlines(), 1):
+        words = re.sub(r"#.*|//.*|\b0[xX]|[,;|]|\b[A-Za-z]+[:=]", " ", line).split()
+        numbered = len(words) > 4 and len(words[1]) != 6  # the identity is the third word
+        kind, identity, version, *digits = words[numbered:] if len(words) > 3 else ("", "", "")
+        sealed = "".join(digits)
+        if words and not (
+            re.fullmatch("0?[0-9]", kind)
+            and re.fullmatch("[0-9a-fA-F]{6}", identity)
+            and re.fullmatch("[0-9]{1,5}", version)
+            and re.fullmatch("[0-9a-fA-F]{30}", sealed)
+            and int(version) < 1 << 16
+        ):
+            raise ValueError(f"line {number} is no kind, identity, version and text")
+        if words:
+            start = int(kind).to_bytes(1, "big") + bytes.fromhex(identity)
+            found.append(start + int(version).to_bytes(2, "big") + bytes.fromhex(sealed))
+    return b"".join(found)
+
+
 class Rows(NamedTuple):
     """The records of a text with one in each line, and the lines that hold none."""
 
@@ -158,13 +181,13 @@ class Rows(NamedTuple):
 
 
 def rows(text: str) -> Rows:
-    """The records of lines of digits, of which some have too few or too many."""
+    """The records of lines of digits, of which some have too few or too many, or others."""
     found, problems = [], []
     for number, line in enumerate(text.splitlines(), 1):
         digits = re.sub(r"\s|#.*|//.*|[-,;:\[\]()'\"]|\\x|\b0[xX]", "", line)
         if digits and not re.fullmatch("[0-9a-fA-F]+", digits):
-            raise ValueError(f"line {number} has other than digits")
-        if len(digits) == 2 * SEALED:
+            problems.append(f"line {number} has other than hexadecimal digits, and is not read")
+        elif len(digits) == 2 * SEALED:
             found.append(bytes.fromhex(digits))
         elif digits:
             problems.append(f"line {number} has {len(digits)} digits, not {2 * SEALED}")
@@ -206,6 +229,7 @@ FORMS: dict[str, Form] = {
         "bytes in decimal", lambda text: dumped(re.sub(r"[,;\[\]()]", " ", text), _decimal)
     ),
     "records": Form("lines with a record of 42 digits in each", records),
+    "fields": Form("lines of kind, identity, version and text, two of them decimal", fields),
     "base64": Form("base64", _base64),
     "literal": Form("Python's b'..'", _literal),
 }

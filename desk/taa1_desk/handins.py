@@ -190,7 +190,8 @@ class Reader:
         if look and not (seem and len(seem[0].book) % SEALED == 0):
             return Reading(b"", problem=f"this looks like {look}")
         if not seem:
-            return Reading(b"", problem=f"this looks like text that is no hexadecimal: {why}")
+            wanted = f"a record is wanted in {2 * SEALED} digits"
+            return Reading(b"", problem=f"this looks like text that is no hexadecimal: {why} ({wanted})")
         if not seem[0].book:
             return Reading(b"", problem="this looks like a text without a digit")
         return self._look(seem[0])
@@ -208,10 +209,7 @@ class Reader:
     def _rows(self, text: str, code: str, best: Reading) -> Optional[Reading]:
         """A text with a record in each line but for a few, whose digits are too few or too
         many, if that shows more of the model than its digits as they follow each other."""
-        try:
-            book, problems = rows(text)
-        except ValueError:
-            return None
+        book, problems = rows(text)
         whole = len(book) // SEALED
         if not problems or whole <= len(problems) or self.common(book) <= self.common(best.book):
             return None

@@ -105,12 +105,24 @@ def read(where: str, data: bytes) -> KeyFile:
     return none._replace(problems=(*none.problems, *file.problems))
 
 
+def _parted(line: str) -> tuple[str, str, str]:
+    """A line's name, what stands behind it, and the value; the = may be missing where a
+    name and a value of its length are all that there is."""
+    left, equals, right = re.sub(r"[=:]", "=", line, count=1).partition("=")
+    words = line.split()
+    for at in range(1, 0 if equals else len(words)):
+        name, digits = SHORT.get(short(" ".join(words[:at]))), "".join(map(without_0x, words[at:]))
+        if name and len(digits) == 2 * LENGTHS[name] and DIGITS.issuperset(digits):
+            return name, "=", digits
+    return left, equals, right
+
+
 def parse(text: str) -> KeyFile:
     """The values in a text of lines NAME = HEXADECIMAL; any may be missing."""
     values: dict[str, bytes] = {}
     problems: list[str] = []
     for number, line in lines_of("\n".join(text.splitlines())):
-        left, equals, right = re.sub(r"[=:]", "=", line, count=1).partition("=")
+        left, equals, right = _parted(line)
         name, digits = SHORT.get(short(left)), "".join(map(without_0x, right.split()))
         bad = sorted(set(digits) - DIGITS)
         problem = ""

@@ -136,7 +136,10 @@ class OpenedMarker:
             default=(b"", ""),
         )
         if not plain:
-            raise ValueError("this looks like text that is neither lines of entries nor hexadecimal")
+            raise ValueError(
+                "this looks like text that is neither lines of entries nor hexadecimal (a line is "
+                "`entry I kind K identity I version V key HEX number N`, or `entry I flag`)"
+            )
         return self._plain(plain, how)
 
     def _plain(self, data: bytes, how: str) -> Read:
@@ -185,6 +188,8 @@ class OpenedMarker:
         for number, line in texts.lines_of(text):
             words = _words(line)
             index = None
+            if is_answer(line) and words[0].isdecimal():  # the number alone
+                words = ["entry", *words]
             if words[:1] == ["entry"] and words[1:] and words[1].isdecimal() and len(words[1]) < 10:
                 index, words = int(words[1]), words[2:]
             elif words[:1] == ["entry"]:

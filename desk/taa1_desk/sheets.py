@@ -15,6 +15,7 @@ from .slips import listed
 MOST_VALUES = 12  # lines of what is wrong with one book's entries that have values
 MOST_LINES = 24  # such lines
 MOST_SPANS = 12  # of entries in one line
+MANY_FLAGS = 3  # that one slip is likely to have set
 
 
 def plural(count: int, what: str) -> str:
@@ -116,6 +117,8 @@ def _like(entry: Marked, values: bool = True) -> tuple[Any, ...]:
     if entry.follows:
         own = (f"right under the candidate's own {entry.follows}",)
         return entry.state, 0, own, (), "", False
+    if entry.opened and entry.record and not any(entry.record):
+        return entry.state, 0, ("zero bytes alone",), (), "", False
     opened = entry.opened
     failed = failed_checks(opened.kind, opened.failed) if opened and opened.failed else ""
     no_kind = opened is not None and opened.kind not in KINDS
@@ -218,6 +221,13 @@ def others(sheet: Sheet) -> list[str]:
     if sheet.missing and not sheet.problem:
         said.append(f"missing: the model's {entries_said(list(sheet.missing))}")
     said += not_read(sheet.problems)
+    told = {index for slip in sheet.slips for index in slip.entries}
+    untold = [i for i in sheet.flags.invented if i not in told] if sheet.flags else []
+    if len(untold) >= MANY_FLAGS:
+        said.append(
+            "what set these flags can't be told from flags alone; from the fields behind them it can "
+            "(entry I flag kind K identity I version V key HEX number N)"
+        )
     if sheet.left:
         more = f"{plural(sheet.left, 'more byte')} behind the last record"
         cut = f"the last record is cut short: {sheet.left} of {SEALED} bytes"

@@ -87,6 +87,19 @@ CERTAIN: dict[str, tuple[Any, str]] = {
         "".join(f"entry {i}: {record.hex()}\n" for i, record in enumerate(RECORDS)),
         FORMS["records"].what,
     ),
+    "fields": (
+        "".join(
+            f"{r[0]} {r[1:4].hex()} {int.from_bytes(r[4:6], 'big')} {r[6:].hex(' ')}\n" for r in RECORDS
+        ),
+        FORMS["fields"].what,
+    ),
+    "numbered fields": (
+        "".join(
+            f"{i}, {r[0]:02}, {r[1:4].hex()}, {int.from_bytes(r[4:6], 'big')}, {r[6:].hex()}\n"
+            for i, r in enumerate(RECORDS)
+        ),
+        FORMS["fields"].what,
+    ),
     "a header of text": ("Ann, candidate 17\n" + lines(21), FORMS["records"].what),
     "a header in front": (b"BOOK\0\1\0\0" + BOOK, "bytes, but for 8 bytes in front"),
     "a long header": (
@@ -179,17 +192,20 @@ STRANGE: dict[str, tuple[bytes, str, str]] = {
     ),
     "a letter for a digit": (
         b"O" + BOOK.hex()[1:].encode(),
-        "this looks like text that is no hexadecimal: line 1, column 1: 'O' is no hexadecimal digit",
+        "this looks like text that is no hexadecimal: line 1, column 1: 'O' is no hexadecimal digit "
+        "(a record is wanted in 42 digits)",
         "bytes",
     ),
     "a letter": (
         b"Dear Sir,\nthe dog ate it.\n",
-        "this looks like text that is no hexadecimal: line 1, column 4: 'r' is no hexadecimal digit",
+        "this looks like text that is no hexadecimal: line 1, column 4: 'r' is no hexadecimal digit "
+        "(a record is wanted in 42 digits)",
         "bytes",
     ),
     "odd": (
         b"012",
-        "this looks like text that is no hexadecimal: an odd number of hexadecimal digits, 3",
+        "this looks like text that is no hexadecimal: an odd number of hexadecimal digits, 3 (a record is "
+        "wanted in 42 digits)",
         "bytes",
     ),
     "another sitting's dump": (
@@ -277,6 +293,14 @@ class Forms(unittest.TestCase):
             self.assertIn(f"line 6 has {digits} digits, not 42", others(sheet))
             self.assertEqual(sheet.read_as, f"{HEX}, a record in each line")
         self.assertEqual(READER.mark("a", "\n".join([*rows[:5], *rows[6:]]).encode()).read_as, HEX)
+        for line in ("Candidate 17, Ann", "kind,ESI,version,text", rows[5].replace("0", "O")):
+            sheet = READER.mark("a", "\n".join([*spaced[:5], line, *spaced[6:]]).encode())
+            self.assertEqual((sheet.problem, sheet.right, sheet.missing), (None, 11, (5,)))
+            said = "line 6 has other than hexadecimal digits, and is not read"
+            self.assertIn(said, others(sheet))
+        head = "kind, ESI, version, text\n"
+        table = head + "".join(f"{r[0]:02x}, {r[1:4].hex()}, {r[4:6].hex()}, {r[6:].hex()}\n" for r in RECORDS)
+        self.assertTrue(READER.mark("a", table.encode()).perfect)
 
     def test_line_ends(self) -> None:
         """Changed line ends are said, and not repaired."""

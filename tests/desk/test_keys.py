@@ -9,6 +9,7 @@ from fractions import Fraction
 from common import CLASS, DESK, ENTRIES, LINES, PLAIN_BOOK, RING, SITTING, Case, ring_for, seal, taa1
 from taa1_desk.keysheet import KeyFile, parse
 from taa1_desk.mark import Marker
+from taa1_desk.names import field
 from taa1_desk.records import KINDS, SEALED, split
 from taa1_desk.results import counts, key_result
 from taa1_desk.scheme import DEFAULT, Points, said, score
@@ -41,6 +42,13 @@ class Files(unittest.TestCase):
         fields = parse("KS = 00\nKS' = 01\nRES1 = 02\nDCK1 = 03\nDCK = 04\nKSO = 05\nEGSKO = 06\n")
         names = ["session key 1", "session key 2", "response 1", "key 1", "D", "O", "G"]
         self.assertEqual((list(fields.values), fields.problems), (names, ()))
+
+    def test_no_equals(self) -> None:
+        """The = may be missing, where the value has its length."""
+        for name in KEYS:
+            for line in (f"{name} {VALUES[name].hex(' ')}", f"{field(name)}\t0x{VALUES[name].hex()}"):
+                self.assertEqual(parse(line), KeyFile({name: VALUES[name]}), line)
+        self.assertEqual(parse(f"D {VALUES['O'].hex()}").values, {})
 
     def test_bad_lines(self) -> None:
         for line, problem in (

@@ -120,6 +120,19 @@ class Lines(unittest.TestCase):
         self.assertEqual((sheet.right, sheet.missing), (11, (4,)))
         self.assertIn("  line 5: no number behind entry\n", sheet_text(sheet))
 
+    def test_number_alone(self) -> None:
+        """A line may begin with the entry's number, without the word."""
+        lines = [line.removeprefix("entry ").replace(" flag", ": MF set") for line in TRUE]
+        sheet = mark(*lines)
+        self.assertEqual((sheet.right, sheet.problems), (12, ()))
+
+    def test_many_invented(self) -> None:
+        """Where flags alone are invented, it is said what would tell more."""
+        sheet = mark(*(f"entry {i} flag" for i in range(12)))
+        self.assertEqual((sheet.right, sheet.slips), (2, ()))
+        self.assertIn("what set these flags can't be told from flags alone", sheet_text(sheet))
+        self.assertNotIn("what set these flags", sheet_text(but(0, "entry 0 flag")))
+
     def test_other_lines(self) -> None:
         """A heading, a count and comments are no answers."""
         sheet = mark("Candidate 17", "# mine", *TRUE, "entries 12", "the end")
@@ -218,7 +231,11 @@ class Lines(unittest.TestCase):
         for data, said in (
             (b"\n", "the file is empty"),
             (b"\0" * 17, "this looks like no plain book: 17 bytes, where a record has 18"),
-            (b"nothing", "this looks like text that is neither lines of entries nor hexadecimal"),
+            (
+                b"nothing",
+                "this looks like text that is neither lines of entries nor hexadecimal (a line is "
+                "`entry I kind K identity I version V key HEX number N`, or `entry I flag`)",
+            ),
             (PLAIN_BOOK.replace(b"\n", b""), f"this looks like {BROKEN}: {ENDS} 0a is lost"),
             (PLAIN_BOOK.replace(b"\n", b"\r"), f"this looks like {BROKEN}: {ENDS} 0a is 0d now"),
         ):

@@ -95,6 +95,11 @@ class Lines(unittest.TestCase):
         self.assertIn(f"  entries 12 and 13: {words}", said(*MODEL, *extra))
         self.assertIn(f"  entry 12: one {words}", said(*MODEL, extra[0]))
 
+    def test_zeros(self) -> None:
+        """Zeros in the place of records that were not worked are called so, in one line."""
+        sheet = MARKER.mark("book", b"".join(MODEL[:9]) + bytes(3 * SEALED))
+        self.assertIn("  entries 9 to 11: zero bytes alone\n", sheet_text(sheet))
+
     def test_further_attempts(self) -> None:
         """Right texts under other identities, in the place of other entries."""
         book = [*MODEL[:6], *(r[:1] + bytes([0, 0, i]) + r[4:] for i, r in enumerate(MODEL[:6]))]
