@@ -47,7 +47,8 @@ TEXTS = (  # by what is found in them
      "lines lost or doubled (od -An -v -tx1 makes one that is read)"),
     (r"Question paper\b", "the question paper, with no answer in it"),
     (r"Worked solution\b", "the worked solution, which is no candidate's"),
-    (r"\s*[A-Za-z][A-Za-z0-9_ ]*=", "names and values"),
+    (r"\s*[A-Za-z][A-Za-z0-9_ ]*[0-9']?\s*=", "names and values (keys lie in NAME.keys beside a "
+     "hand-in NAME.book)"),
 )  # fmt: skip
 
 
@@ -389,8 +390,10 @@ def hand_ins(arguments: Sequence[str], beside: Sequence[str]) -> HandIns:
                 twice.append(name)
             elif name not in why:
                 found[_path(name)] = name
-    keys = {_path(keys_of(name)): name for name in found.values()}
-    return HandIns(list(found.values()), [_keys_said(each, keys) for each in left_out], twice)
+    keys = {_path(keys_of(name)): name for name in found.values() if not name.endswith(KEYS)}
+    left_out += [LeftOut(name, "") for path, name in found.items() if path in keys]
+    names = [name for path, name in found.items() if path not in keys]
+    return HandIns(names, [_keys_said(each, keys) for each in left_out], twice)
 
 
 def keys_of(name: str) -> str:

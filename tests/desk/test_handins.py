@@ -573,6 +573,21 @@ class Folders(Case):
         (self.room / "ann.book").write_bytes(b"")
         self.assertIn(f"taa1: {lines[0]}\n", self.mark("class/ann.book").error)
 
+    def test_keys_named(self) -> None:
+        """Where a shell names the keys among the hand-ins, they are those of their book."""
+        names = sorted(path.relative_to(self.folder) for path in self.room.glob("ann.*"))
+        self.assertEqual([name.name for name in names], ["ann.book", "ann.keys"])
+        for given in (names, names[::-1], [*names, "class/ben.hex"]):
+            done = self.mark(*given)
+            self.assertEqual((done.status, done.error), (0, ""))
+            self.assertIn("class/ann.book: 12 of 12 entries right; opens\n  right: D\n", done.out.decode())
+        done = self.mark(*names, "--dry")
+        self.assertIn("class/ann.keys: read as the keys of class/ann.book\n", done.out.decode())
+        done = self.mark("class/ann.keys")
+        said = "this looks like names and values (keys lie in NAME.keys beside a hand-in NAME.book)"
+        self.assertEqual(done.status, 1)
+        self.assertIn(said, done.error)
+
     def test_keys_by_old_lines(self) -> None:
         """Lines of keys may end as a Mac's or a DOS machine's, in UTF-16."""
         ring = DESK.call("ring", *SITTING)["ring"]
