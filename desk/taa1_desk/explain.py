@@ -7,13 +7,14 @@ the rest of it, a key. So two slips at once are both found, each in parts of its
 from __future__ import annotations
 
 from collections import defaultdict
-from typing import Any, Collection, Iterable, Mapping, NamedTuple, Optional
+from typing import Any, Collection, Iterable, Mapping, NamedTuple, Optional, Sequence
 
 from .slips import ANOTHERS, EXCHANGED, Slip
 
 IDENTITY, TEXT = "identity", "text"  # the parts of an entry that slips explain apart
 Part = tuple[int, str]  # an entry's place, and the part of it; of a key, KEY and its name
 KEY = -1
+NO_KEYS: Mapping[str, Any] = {}
 
 
 class Found(NamedTuple):
@@ -22,6 +23,18 @@ class Found(NamedTuple):
     slip: Slip
     parts: frozenset[Part]
     others: tuple[Slip, ...]
+
+
+def altered(
+    made: Mapping[int, Mapping[str, Any]], truth: Sequence[Mapping[str, Any]]
+) -> dict[Part, Any]:
+    """The parts of entries, by their places, that are not the model's."""
+    return {
+        (place, part): value
+        for place, parts in made.items()
+        for part, value in parts.items()
+        if value != truth[place][part]
+    }
 
 
 class Table:
@@ -33,8 +46,9 @@ class Table:
         self.given: dict[tuple[Part, Any], list[int]] = defaultdict(list)
         self.alters: list[set[Part]] = []
 
-    def add(self, slip: Slip, parts: Mapping[Part, Any]) -> None:
-        """Adds a slip with the parts that it alters."""
+    def add(self, slip: Slip, parts: Mapping[Part, Any], keys: Mapping[str, Any] = NO_KEYS) -> None:
+        """Adds a slip with the parts, and the keys by their names, that it alters."""
+        parts = {**parts, **{(KEY, name): value for name, value in keys.items()}}
         for part, value in parts.items():
             self.given[part, value].append(len(self.slips))
         self.slips.append(slip)

@@ -205,5 +205,5 @@ class KeyMarker:
         worked = self.steps.keys(self.sitting, sheet.own)
         for slip in slips_of(self.sitting):
             made = Steps(self.desk, slip.altered).keys(self.sitting, sheet.own)
-            table.add(slip, {(KEY, n): v for n, v in made.items() if v != worked[n]})
+            table.add(slip, {}, {n: v for n, v in made.items() if v != worked[n]})
         return table.explain(wrong, [(KEY, m.name) for m in sheet.marks if m.state != "wrong"])

@@ -16,7 +16,7 @@ from typing import Callable, Iterable, NamedTuple, Optional, Sequence, Union
 from taa1 import Refused, Sitting
 
 from .desk import Desk
-from .explain import IDENTITY, KEY, TEXT, Found, Part, Table, exchanges, joined, under_own
+from .explain import IDENTITY, KEY, TEXT, Found, Part, Table, altered, exchanges, joined, under_own
 from .keysheet import KeyFile, KeyMarker, KeySheet, own_keys
 from .pairing import Pairs, out_of_order, pair
 from .records import KINDS, PLAIN, SEALED, Entry, Ring, split, whole
@@ -177,15 +177,10 @@ class Marker:
                 self.signs[value].add(place)
         self.table = Table()
         for worked in work(desk, sitting, plain):
-            altered = {
-                (place, part): value
-                for place, record in worked.records.items()
-                for part, value in parts_of(record).items()
-                if value != self.parts[place][part]
-            }
-            keys = {(KEY, name): value for name, value in worked.keys.items()}
-            self.table.add(worked.slip, {**altered, **keys})
-            for (place, _), value in altered.items():
+            made = {place: parts_of(record) for place, record in worked.records.items()}
+            wrong = altered(made, self.parts)
+            self.table.add(worked.slip, wrong, worked.keys)
+            for (place, _), value in wrong.items():
                 self.signs[value].add(place)
         self.known: dict[bytes, Opened] = {}
 

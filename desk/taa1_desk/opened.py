@@ -16,7 +16,7 @@ from taa1 import MOST_RECORDS, Refusal, Refused, Sitting
 
 from . import answerform, texts
 from .desk import Desk, RefusedFile
-from .explain import IDENTITY, KEY, TEXT, Found, Part, Table, exchanges, joined, under_own
+from .explain import IDENTITY, KEY, TEXT, Found, Part, Table, altered, exchanges, joined, under_own
 from .files import Problem, place
 from .forms import BYTES, FORMS, text_of
 from .keysheet import KeyFile, KeyMarker, KeySheet, own_keys
@@ -85,15 +85,10 @@ class OpenedMarker:
         self.keys = KeyMarker(desk, sitting, ring)
         self.truth = [_unsealed(desk, ring, record) for record in records]
         self.table = Table()
+        truth = [_parts(each) for each in self.truth]
         for worked in work_opened(desk, sitting, records):
-            altered = {
-                (index, part): value
-                for index, made in worked.opened.items()
-                for part, value in _parts(made).items()
-                if value != _parts(self.truth[index])[part]
-            }
-            keys = {(KEY, name): value for name, value in worked.keys.items()}
-            self.table.add(worked.slip, {**altered, **keys})
+            made = {index: _parts(each) for index, each in worked.opened.items()}
+            self.table.add(worked.slip, altered(made, truth), worked.keys)
 
     def _check(self, records: list[bytes], where: str) -> None:
         bad = next((i for i, record in enumerate(records) if record[0] not in KINDS), 0)
