@@ -105,6 +105,9 @@ def is_printed(letter: str) -> bool:
     return letter.isprintable() or letter in "\t\r\n\f"
 
 
+ODD = "an odd number of hexadecimal digits"
+
+
 def from_hex(said: str, where: str) -> bytes:
     """The bytes of hexadecimal text, in which white space counts for nothing, nor does 0x."""
     said = re.sub(r"(?<![0-9a-fA-F])0[xX](?=[0-9a-fA-F])", "  ", said)
@@ -118,7 +121,7 @@ def from_hex(said: str, where: str) -> bytes:
         counts = {at: len("".join(line.split())) for at, line in enumerate(said.splitlines(), 1)}
         odd = [number for number, count in counts.items() if count % 2]
         at = f", {counts[odd[0]]} of them in line {odd[0]}" if len(odd) == 1 < len(counts) else ""
-        raise Problem(f"{where}: an odd number of hexadecimal digits, {len(digits)}{at}")
+        raise Problem(f"{where}: {ODD}, {len(digits)}{at}")
     return bytes.fromhex(digits)
 
 

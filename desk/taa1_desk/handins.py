@@ -19,10 +19,10 @@ from typing import Callable, Container, Mapping, NamedTuple, Optional, Sequence
 from . import answerform
 from taa1 import Refused
 
-from .files import STANDARD, Problem, place, reason
-from .forms import BYTES, FILES, FORMS, rows, text_of
+from .files import ODD, STANDARD, Problem, place, reason
+from .forms import BYTES, FILES, FORMS, hexadecimal, rows, text_of
 from .keysheet import KeyFile, KeyMarker
-from .lineends import CHANGES, DAMAGED, Change, changed
+from .lineends import CHANGES, DAMAGED, Change, Copies
 from .mark import Marked, Marker, Sheet, Wanted
 from .page import is_made_by
 from .pages import MADE_BY
@@ -98,6 +98,7 @@ class Reader:
         self.heads = {record[:1] + record[4:6] for record in plain}
         self.names = {PLAIN: {record[1:4] for record in plain}}
         self.sealed_names = {record[1:4] for record in marker.model}
+        self.copies = Copies(marker.model)
 
     def mark(
         self, name: str, data: bytes, form: str = "", keys: Optional[KeyFile] = None
@@ -176,6 +177,7 @@ class Reader:
                 readings.append(Reading(form.read(text), form.what + code, name))
             except (Problem, ValueError) as error:
                 why = why or _said(error)
+        readings += self._odd(text, code) if why.startswith(ODD) else []
         best = max(readings, key=lambda each: self.common(each.book), default=Reading(b""))
         by_rows = self._rows(text, code, best)
         if by_rows is not None:
@@ -191,11 +193,24 @@ class Reader:
         if look and not (seem and len(seem[0].book) % SEALED == 0):
             return Reading(b"", problem=f"this looks like {look}")
         if not seem:
+            what = why if why.startswith(ODD) else f"text that is no hexadecimal: {why}"
             wanted = f"a record is wanted in {2 * SEALED} digits"
-            return Reading(b"", problem=f"this looks like text that is no hexadecimal: {why} ({wanted})")
+            return Reading(b"", problem=f"this looks like {what} ({wanted})")
         if not seem[0].book:
             return Reading(b"", problem="this looks like a text without a digit")
         return self._look(seem[0])
+
+    def _odd(self, text: str, code: str) -> list[Reading]:
+        """Hexadecimal that lacks its last digit, if every whole record shows the model."""
+        try:
+            book = hexadecimal(text.rstrip()[:-1])
+        except (Problem, ValueError):
+            return []
+        whole = split(book, SEALED)
+        if not whole or not len(book) % SEALED or not all(map(self.common, whole)):
+            return []
+        said = ("the last byte has one digit, and is not read",)
+        return [Reading(book, FORMS["hex"].what + code, "hex", problems=said)]
 
     def _form(self, text: str, code: str) -> Reading:
         """An answer form that is filled in."""
@@ -224,7 +239,7 @@ class Reader:
         if found == 2 * whole and not left:
             return reading
         problem = self._other(book, found)
-        problem = problem or self._between(book)
+        problem = problem or self._between(reading)
         front = 0 if problem or not left else self._in_front(book, found)
         if front and (len(book) - front) // SEALED >= len(self.marker.model):
             how = f"{reading.how or BYTES}, but for {plural(front, 'byte')} in front"
@@ -236,19 +251,20 @@ class Reader:
             problem = f"a book that was cut short: {plural(whole, 'record')} and {plural(left, 'byte')}"
         return reading._replace(problem=f"this looks like {problem}") if problem else reading
 
-    def _between(self, book: bytes) -> str:
+    def _between(self, reading: Reading) -> str:
         """That bytes were lost or added within a book, if records at its start and at its
         end show the model, and others don't fit between them."""
+        book = reading.book
         left = len(book) % SEALED
         starts = [self.common(record) > 0 for record in split(book, SEALED)]
         ends = [self.common(record) > 0 for record in split(book[left:], SEALED)][::-1]
         first, last = ([*shown, False].index(False) for shown in (starts, ends))
         if not (left and first and last):
             return ""
-        return (
-            f"{DAMAGED}: bytes were lost or added within it: its first {plural(first, 'record')} "
-            f"begin where they should, and its last {last} do if they are counted from the end"
-        )
+        what = f"{DAMAGED}: bytes were lost or added within it"
+        if reading.form != BYTES:
+            what = "a book with bytes lost or added within it"
+        return f"{what}; records in place: {first} counted from the start, {last} counted from the end"
 
     def _in_front(self, book: bytes, found: int) -> int:
         """How many bytes stand in front of a book of whole records, if that shows more."""
@@ -280,9 +296,9 @@ class Reader:
                 return "a book filed by columns (taa1 columns sealed --back puts it back)"
         except Refused:
             pass
-        line_ends = changed(book, self.marker.model)
-        if line_ends:
-            return f"{DAMAGED}: {line_ends}"
+        damage = self.copies.damage(book)
+        if damage:
+            return f"{DAMAGED}: {damage}"
         for damage, mend in DAMAGES:
             try:
                 if self.common(mend(book)) > found:

@@ -20,7 +20,7 @@ from .explain import IDENTITY, KEY, TEXT, Found, Part, Table, altered, exchanges
 from .files import Problem, place
 from .forms import BYTES, FORMS, text_of
 from .keysheet import KeyFile, KeyMarker, KeySheet, own_keys
-from .lineends import DAMAGED, changed
+from .lineends import DAMAGED, Copies
 from .mark import (
     Difference,
     Explained,
@@ -84,6 +84,7 @@ class OpenedMarker:
         self.records, self.steps = records, Steps(desk)
         self.keys = KeyMarker(desk, sitting, ring)
         self.truth = [_unsealed(desk, ring, record) for record in records]
+        self.copies = Copies(_entry(opened).data for opened in self.truth)
         self.table = Table()
         truth = [_parts(each) for each in self.truth]
         for worked in work_opened(desk, sitting, records):
@@ -141,9 +142,9 @@ class OpenedMarker:
         """A plain book's bytes, whose records are paired with the entries."""
         if data == self.sealed:
             raise ValueError("this is the sealed book that was handed out, not an opened one")
-        line_ends = changed(data, [_entry(opened).data for opened in self.truth])
-        if line_ends:
-            raise ValueError(f"this looks like {DAMAGED}: {line_ends}")
+        damage = self.copies.damage(data)
+        if damage:
+            raise ValueError(f"this looks like {DAMAGED}: {damage}")
         if not data or len(data) % PLAIN:
             raise ValueError(
                 f"this looks like no plain book: {len(data)} bytes, where a record has {PLAIN}"

@@ -26,13 +26,13 @@ STYLE = RESULT + beside.STYLE + """
 .points, .points .number { width: auto; }
 .points tr:last-child td { font-weight: bold; }
 .keys td { padding-right: 1.2em; }
-.slips td:nth-child(2) { white-space: nowrap; }
+.slips td:nth-child(2) { width: 36%; }
 section h3 { margin: 1em 0 .2em; }
 section p { margin: 0 0 .2em; }
 .sign { break-inside: avoid; margin-top: 2em; }
 @media screen and (max-width: 40em) {
   .keys td:nth-child(2)::before { content: none; }
-  .slips td:nth-child(2) { white-space: normal; }
+  .slips td:nth-child(2) { width: auto; }
   .entries td, .entries td.number { display: inline; padding-right: .5em; }
   .entries td:nth-last-child(-n+2)::before { content: none; }
 }

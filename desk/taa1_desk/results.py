@@ -81,6 +81,7 @@ def result(sheet: Sheet) -> str:
     states = [mark.state for mark in sheet.keys.marks if mark.state != "idle"]
     bad = len(states) - states.count("right")
     keys = f"; {bad} of {len(states)} keys wrong" if bad else ""
+    keys += "; the file of keys can't be read" if sheet.keys.unread else ""
     return f"{points}{', '.join(parts)}{own}{keys}.{_explained(sheet, wrong)}"
 
 

@@ -140,11 +140,13 @@ def _odd_texts(of: Exam) -> Iterator[HandIn]:
     for name, done, text, say in (
         ("hex-letter-o", "the letter O for a zero", digits.replace("0", "O", 1), "the O is named"),
         ("hex-letter-l", "the letter l for a one", digits.replace("1", "l", 1), "the l is named"),
-        ("hex-odd", "the last digit lost", digits[:-1], "the odd number of digits is named"),
         ("hex-digit-lost", "a digit lost in record 3", _without(digits, 150), "odd digits named"),
         ("hex-question", "?? for bytes not worked", f"{digits[:400]}??{digits[402:]}", "?? named"),
     ):
         yield HandIn(f"text/{name}", "bad text", of, text.encode(), done, None, False, say)
+    say = "the digit that is left alone is named, and the last record is cut short"
+    odd, whole = digits[:-1].encode(), book[:-SEALED]
+    yield HandIn("text/hex-odd", "bad text", of, odd, "the last digit lost", whole, True, say)
     done, say = "a digit lost in one of the lines", "line 4 is named: it has 41 digits"
     others = book[: 3 * SEALED] + book[4 * SEALED :]
     text = _without(lines, 150)

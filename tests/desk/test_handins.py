@@ -204,8 +204,7 @@ STRANGE: dict[str, tuple[bytes, str, str]] = {
     ),
     "odd": (
         b"012",
-        "this looks like text that is no hexadecimal: an odd number of hexadecimal digits, 3 (a record is "
-        "wanted in 42 digits)",
+        "this looks like an odd number of hexadecimal digits, 3 (a record is wanted in 42 digits)",
         "bytes",
     ),
     "another sitting's dump": (
@@ -302,6 +301,17 @@ class Forms(unittest.TestCase):
         table = head + "".join(f"{r[0]:02x}, {r[1:4].hex()}, {r[4:6].hex()}, {r[6:].hex()}\n" for r in RECORDS)
         self.assertTrue(READER.mark("a", table.encode()).perfect)
 
+    def test_last_digit(self) -> None:
+        """Digits that lack the last one are read, but for the last byte; a digit that is
+        lost elsewhere shifts the rest, and is named."""
+        for text in (BOOK.hex()[:-1], lines(16)[:-2]):
+            sheet = READER.mark("a", text.encode())
+            self.assertEqual((sheet.problem, sheet.right, sheet.left), (None, 11, 20))
+            self.assertIn("the last byte has one digit, and is not read", others(sheet))
+        said = "this looks like an odd number of hexadecimal digits, 503 (a record is wanted in 42 digits)"
+        lost = BOOK.hex()[:99] + BOOK.hex()[100:]
+        self.assertEqual(READER.mark("a", lost.encode()).problem, f"{said}; --as a=bytes marks it all the same")
+
     def test_line_ends(self) -> None:
         """Changed line ends are said, and not repaired."""
         record = bytes.fromhex("02") + RECORDS[2][1:10] + b"\n\n" + RECORDS[2][12:]
@@ -327,6 +337,10 @@ class Forms(unittest.TestCase):
             (b"\r", b"\n"): "0d is 0a now",
             (b"\r", b""): "0d is lost",
         }
+        zeros = reader.mark("a", sealed.replace(b"\0", b"")).problem or ""
+        self.assertTrue(zeros.startswith(f"{DAMAGED}: each 00 is lost;"), zeros)
+        identities = b"".join(r[:1] + bytes([r[1] ^ 0x80]) + r[2:] for r in records)
+        self.assertIn("each 0d is 0a now", reader.mark("a", identities.replace(b"\r", b"\n")).problem or "")
         for (old, new), said in changes.items():
             wrong = records[0][:6] + b"\x8f" * 15
             for book in (sealed, b"".join([wrong, *records[1:]]), b"".join(records[1:])):
@@ -342,11 +356,12 @@ class Forms(unittest.TestCase):
             for damaged in (BOOK[: 21 * at + 9] + BOOK[21 * at + 10 :], BOOK[: 21 * at] + b"?" + BOOK[21 * at :]):
                 sheet = READER.mark("a", damaged)
                 first, last = (at + 1, 11 - at) if len(damaged) < len(BOOK) else (at, 12 - at)
-                said = (
-                    f"{DAMAGED}: bytes were lost or added within it: its first {first} record{'s' * (first > 1)} "
-                    f"begin where they should, and its last {last} do if they are counted from the end"
-                )
+                counted = f"records in place: {first} counted from the start, {last} counted from the end"
+                said = f"{DAMAGED}: bytes were lost or added within it; {counted}"
                 self.assertEqual(sheet.problem, f"{said}; --as a=bytes marks it all the same")
+                said = f"this looks like a book with bytes lost or added within it; {counted}"
+                sheet = READER.mark("a", damaged.hex().encode())
+                self.assertEqual(sheet.problem, f"{said}; --as a=hex marks it all the same")
 
     def test_truncated(self) -> None:
         """The whole records are marked, and the cut one is said."""
@@ -567,6 +582,9 @@ class Folders(Case):
         done = self.mark(*books, "--dry")
         self.assertEqual((done.status, done.error), (1, ""))
         self.assertIn(f"class/cho: read as bytes: 12 records; its keys are not read: {lines[2]}\n", done.out.decode())
+        self.mark(*books, "--html", "pages")
+        page = (self.folder / "pages" / "ann.book.html").read_text()
+        self.assertIn("All 12 entries right; the file of keys can&#x27;t be read.", page)
         done = self.mark(*books, "--csv")
         self.assertEqual([row["problem"] for row in csv.DictReader(done.out.decode().splitlines())], lines)
         self.assertEqual(done.status, 1)
