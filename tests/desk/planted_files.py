@@ -127,6 +127,8 @@ def _odd_texts(of: Exam) -> Iterator[HandIn]:
         ("hex-slashes", "comments behind //", f"// candidate 17\n{lines}", "a comment"),
         ("hex-ctrl-z", "a control-Z behind it", f"{lines}\x1a", "a DOS text's end"),
         ("decimal-list", "a list of decimal numbers", str(list(book)), "decimal numbers"),
+        ("fields", "kind, identity, version and text, two in decimal", _by_fields(book), "fields"),
+        ("headed", "a line of heads over fields in digits", _headed(book), "digits under heads"),
         ("decimal-words", "decimal numbers between spaces", " ".join(map(str, book)), "decimals"),
         ("base64", "base64, as mail has it", base64.encodebytes(book).decode(), "base64"),
         ("html", "a web page around it", f"<html><pre>{lines}</pre></html>\n", "a web page"),
@@ -151,6 +153,20 @@ def _odd_texts(of: Exam) -> Iterator[HandIn]:
     others = book[: 3 * SEALED] + book[4 * SEALED :]
     text = _without(lines, 150)
     yield HandIn("text/hex-line-odd", "bad text", of, text.encode(), done, others, True, say)
+
+
+def _by_fields(book: bytes) -> str:
+    """A line a record: kind and version in decimal, as the paper has them."""
+    return "".join(
+        f"{r[0]} {r[1:4].hex()} {int.from_bytes(r[4:6], 'big')} {r[6:].hex()}\n"
+        for r in records(book, SEALED)
+    )
+
+
+def _headed(book: bytes) -> str:
+    """Fields in digits, with commas between, under their names."""
+    rows = (f"{r[:1].hex()},{r[1:4].hex()},{r[4:6].hex()},{r[6:].hex()}" for r in records(book, SEALED))
+    return "\n".join(["kind,ESI,version,text", *rows]) + "\n"
 
 
 def _without(text: str, place: int) -> str:
@@ -303,6 +319,10 @@ def _damaged(of: Exam) -> Iterator[HandIn]:
     looks = "not marked: this looks like"
     for name, done, content, say in (
         ("lf-to-crlf", "each 0a made 0d 0a", crlf, f"{looks} changed line ends"),
+        ("lf-lost", "each 0a lost", book.replace(b"\n", b""), f"{looks} changed line ends: 0a lost"),
+        ("cr-lost", "each 0d lost", book.replace(b"\r", b""), f"{looks} changed line ends: 0d lost"),
+        ("cr-to-lf", "each 0d made 0a", book.replace(b"\r", b"\n"), f"{looks} changed line ends"),
+        ("byte-lost", "a byte lost in entry 7", book[:150] + book[151:], f"{looks} bytes lost within"),
         ("utf-8", "each byte from 80 on made two, as UTF-8", text.encode(), f"{looks} UTF-8"),
         (
             "utf-8-lost",
@@ -421,6 +441,54 @@ def _foreign(of: Exam) -> Iterator[HandIn]:
         yield HandIn(f"foreign/{name}", "foreign", of, book, done, book, marked, say)
 
 
+def _boxes(values: bytes, size: int) -> str:
+    """Boxes of a form, filled in or blank."""
+    return " ".join(f"{byte:02x}" for byte in values) if values else " ".join(["__"] * size)
+
+
+def _form(of: Exam, records_: List[bytes], keys: bool) -> str:
+    """The answer form's text, filled in: an empty record is a row that is left blank."""
+    worked = of.keys
+    values = (
+        ("session key 1 (KS)", worked.session1 or b"", 16),
+        ("session key 2 (KS')", worked.session2 or b"", 16),
+        ("response 1 (RES1)", worked.response1, 4),
+        ("key 1 (DCK1)", worked.key1, 10),
+        ("D (DCK)", worked.ring.d, 10),
+        ("O (KSO)", worked.ring.o, 16),
+    )
+    text = "Answer form, a sitting\n======\n\nName  Ann ________\n\n  row  value  bytes\n"
+    for row, (name, value, size) in enumerate(values, 1):
+        text += f"  {row:3}  {name:20} {_boxes(value if keys else b'', size)}\n"
+    text += "\nThird generation: the sealed book\n-----\n\n  entry  kind  ESI  version  sealed text\n"
+    for place, record in enumerate(records_):
+        cut = (record[:1], 1), (record[1:4], 3), (record[4:6], 2), (record[6:], 15)
+        text += f"  {place:5}  " + "  ".join(_boxes(*part) for part in cut) + "\n"
+    return text + "\nThe argument\n------------\n\nIt opens once, since 12 and 3 are fixed.\n"
+
+
+def _forms(of: Exam) -> Iterator[HandIn]:
+    """The answer form as text."""
+    book, each = of.sealed, records(of.sealed, SEALED)
+    blank = [b"" if place in (2, 5) else record for place, record in enumerate(each)]
+    wrong = records(slipped_book(of.name, "drop-last"), SEALED)
+    for name, done, rows, keys, sealed in (
+        ("filled", "filled in", each, True, book),
+        ("book-alone", "filled in but for the keys", each, False, book),
+        ("rows-blank", "rows 2 and 5 left blank", blank, True, b"".join(blank)),
+        ("drop-last", "filled in, the last byte dropped", wrong, True, b"".join(wrong)),
+    ):
+        text = _form(of, rows, keys)
+        say = "read as an answer form, the keys with it"
+        yield HandIn(f"form/{name}", "form", of, text.encode(), done, sealed, True, say)
+        done = f"{done}, in UTF-16 with 0d 0a line ends"
+        dressed = text.replace("\n", "\r\n").encode("utf-16")
+        yield HandIn(f"form/{name}-utf16", "form", of, dressed, done, sealed, True, say)
+    empty = _form(of, [b""] * len(each), False).encode()
+    say = "not marked: an answer form with nothing filled in"
+    yield HandIn("form/blank", "form", of, empty, "nothing filled in", None, False, say)
+
+
 def _wrong_books(of: Exam) -> Iterator[HandIn]:
     """A wrong book in an uncommon dress: read, and then marked as any other."""
     for slip, form in (("exp2-xor", "xxd"), ("kind-2-for-5", "od"), ("drop-last", "utf-16")):
@@ -436,5 +504,6 @@ def hand_ins() -> Iterator[HandIn]:
     """Every planted file, in the sitting "both"."""
     of = exam("both")
     yield HandIn("bytes", "bytes", of, of.sealed, "nothing", of.sealed, True, "all right")
-    for made in (_texts, _odd_texts, _dumps, _others, _damaged, _foreign, _wrong_books):
+    made_by = (_texts, _odd_texts, _dumps, _others, _damaged, _foreign, _forms, _wrong_books)
+    for made in made_by:
         yield from made(of)
