@@ -51,10 +51,10 @@ fn wrong_options_are_refused() {
             refuses(&mut long(&format!("{option} {text}")), &line);
         }
     }
-    refuses(
-        &mut long("--threads 0"),
-        "long: --threads wants a number from 1 on, not '0'",
-    );
+    for text in ["0", "1025"] {
+        let line = format!("long: --threads wants a number from 1 to 1024, not '{text}'");
+        refuses(&mut long(&format!("--threads {text}")), &line);
+    }
     refuses(
         &mut long("--seed"),
         "long: --seed wants a number from 0 on after it",

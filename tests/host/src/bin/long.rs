@@ -10,12 +10,25 @@ use host::long::run::{grouped, run, time, Count, Plan, Said};
 use std::collections::hash_map::RandomState;
 use std::ffi::OsString;
 use std::hash::{BuildHasher, Hasher};
+use std::ops::RangeInclusive;
 use std::process::ExitCode;
 use std::sync::atomic::{AtomicBool, Ordering};
 use std::time::Instant;
 
 const USAGE: &str = "\
 usage: long [--seed S] [--single N] [--lists M] [--threads T] [--only CALL [--from INDEX]]";
+
+const HELP: &str = "\
+Compares every call of include/taa1.h with the independent implementation, on
+random inputs with every refusal among them. Nine lists in ten have at most 8
+records. The status is 1 if anything differed, 130 after an interrupt.
+
+--seed S      the same inputs again; otherwise a seed is drawn. It is printed.
+--single N    comparisons of calls without a list, 100000000 if not given
+--lists M     comparisons of calls on lists, 10000000 if not given
+--threads T   2 if not given
+--only CALL   this call alone
+--from INDEX  its cases from this one on, as after a difference";
 
 /// What the command line says.
 struct Options {
@@ -29,7 +42,7 @@ fn main() -> ExitCode {
         .iter()
         .any(|word| word == "--help" || word == "-h")
     {
-        println!("{USAGE}");
+        println!("{USAGE}\n\n{HELP}");
         return ExitCode::SUCCESS;
     }
     let Options { plan, only } = match options(&arguments) {
@@ -112,20 +125,24 @@ fn options(arguments: &[OsString]) -> Result<Options, String> {
             Some(value) => Ok(value),
             None => Err(format!("{option} wants {wanted} after it")),
         };
-        let mut number = |least: u64| {
-            let wanted = format!("a number from {least} on");
+        let mut number = |range: RangeInclusive<u64>| {
+            let wanted = match *range.end() {
+                u64::MAX => format!("a number from {} on", range.start()),
+                end => format!("a number from {} to {end}", range.start()),
+            };
             let value = value(&wanted)?;
             match value.parse() {
-                Ok(number) if number >= least => Ok(number),
+                Ok(number) if range.contains(&number) => Ok(number),
                 _ => Err(format!("{option} wants {wanted}, not '{value}'")),
             }
         };
+        let any = 0..=u64::MAX;
         match &*option {
-            "--seed" => plan.seed = number(0)?,
-            "--single" => plan.single = number(0)?,
-            "--lists" => plan.lists = number(0)?,
-            "--threads" => plan.threads = number(1)?.min(1024) as usize,
-            "--from" => (plan.from, from) = (number(0)?, true),
+            "--seed" => plan.seed = number(any)?,
+            "--single" => plan.single = number(any)?,
+            "--lists" => plan.lists = number(any)?,
+            "--threads" => plan.threads = number(1..=1024)? as usize,
+            "--from" => (plan.from, from) = (number(any)?, true),
             "--only" => {
                 let name = value("the name of a call")?;
                 let call = CALLS
