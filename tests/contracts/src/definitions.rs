@@ -5,6 +5,7 @@
 use std::cell::RefCell;
 use std::collections::HashMap;
 use std::rc::Rc;
+use std::{mem, slice};
 
 /// A term: words in a row, with groups in parentheses or braces among them.
 type Term = Rc<Vec<Node>>;
@@ -80,7 +81,16 @@ pub struct Tests {
     pub greatest: HashMap<String, u64>,
     /// The ones that a mask must have.
     pub ones: HashMap<String, u64>,
+}
+
+/// The way through a term, along which its tests are noted.
+struct Walk<'a> {
+    definitions: &'a Definitions,
+    /// What is being unfolded, so that no definition is within itself.
+    unfolding: Vec<String>,
+    /// Whether the way leads through the fault of a record.
     in_records: bool,
+    tests: Tests,
 }
 
 pub struct Definitions {
@@ -101,13 +111,18 @@ impl Value {
     }
 }
 
-impl Tests {
-    fn refusal(&mut self, number: u64) {
-        if !self.refusals.contains(&number) && !self.of_records.contains(&number) {
-            match self.in_records {
-                true => self.of_records.push(number),
-                false => self.refusals.push(number),
-            }
+impl Scope {
+    fn of(file: &str) -> Self {
+        Scope {
+            file: file.to_string(),
+            bound: Rc::default(),
+        }
+    }
+
+    fn closure(&self, row: &[Node]) -> Closure {
+        Closure {
+            term: Rc::new(row.to_vec()),
+            scope: self.clone(),
         }
     }
 }
@@ -184,7 +199,7 @@ fn definitions(source: &str) -> HashMap<String, Clauses> {
     let mut name = String::new();
     let mut clause = String::new();
     let mut keep = |name: &str, clause: &mut String| {
-        let text = std::mem::take(clause);
+        let text = mem::take(clause);
         if let Some((left, right)) = text.split_once(" =") {
             let parameters = parsed(left).split_off(1);
             let of_name = found.entry(name.to_string()).or_default();
@@ -234,22 +249,20 @@ impl Definitions {
 
     /// What a term in a file tests, of arguments with these names.
     pub fn tests(&self, file: &str, term: &str, arguments: &[String]) -> Tests {
-        let mut scope = Scope {
-            file: file.to_string(),
-            bound: Rc::default(),
+        let mut scope = Scope::of(file);
+        let mark = |name: &String| {
+            let marked = [Node::Word(format!("@{name}"))];
+            (name.clone(), Scope::of(file).closure(&marked))
         };
-        let mut bound = HashMap::new();
-        for name in arguments {
-            let marked = Closure {
-                term: Rc::new(vec![Node::Word(format!("@{name}"))]),
-                scope: scope.clone(),
-            };
-            bound.insert(name.clone(), marked);
-        }
-        scope.bound = Rc::new(bound);
-        let mut tests = Tests::default();
-        self.walk(&parsed(term), &scope, &mut tests, &mut Vec::new());
-        tests
+        scope.bound = Rc::new(arguments.iter().map(mark).collect());
+        let mut walk = Walk {
+            definitions: self,
+            unfolding: Vec::new(),
+            in_records: false,
+            tests: Tests::default(),
+        };
+        walk.row(&parsed(term), &scope);
+        walk.tests
     }
 
     /// The file and the equations of a definition that a file has or imports.
@@ -260,16 +273,6 @@ impl Definitions {
         };
         let (owner, found) = self.files.get_key_value(owner)?;
         Some((owner, found.definitions.get(name)?))
-    }
-
-    /// The number of a refusal.
-    fn refusal(&self, owner: &str, clauses: &Clauses) -> Option<u64> {
-        match &clauses[..] {
-            [(parameters, body)] if owner == "Refusals" && parameters.is_empty() => {
-                body.first()?.word().parse().ok()
-            }
-            _ => None,
-        }
     }
 
     /// Whether there is a refusal or a test of an argument in what it unfolds to.
@@ -284,7 +287,7 @@ impl Definitions {
         }
         self.leads.borrow_mut().insert(key.clone(), false);
         let leads = NOTED.contains(&name)
-            || self.refusal(owner, clauses).is_some()
+            || refusal(owner, clauses).is_some()
             || clauses.iter().any(|(_, body)| self.mentions(owner, body));
         self.leads.borrow_mut().insert(key, leads);
         leads
@@ -299,176 +302,9 @@ impl Definitions {
         })
     }
 
-    /// Notes the tests of a row, in its order. The chain has the definitions that are
-    /// being unfolded.
-    fn walk(&self, row: &[Node], scope: &Scope, tests: &mut Tests, chain: &mut Vec<String>) {
-        if let Some((rest, scope)) = self.without_let(row, scope) {
-            return self.walk(rest, &scope, tests, chain);
-        }
-        if row.first().map(Node::word) == Some("λ") {
-            let (rest, scope) = applied(row, &[], scope);
-            return self.walk(rest, &scope, tests, chain);
-        }
-        for part in parts(row) {
-            self.application(part, scope, tests, chain);
-        }
-    }
-
-    fn application(
-        &self,
-        part: &[Node],
-        scope: &Scope,
-        tests: &mut Tests,
-        chain: &mut Vec<String>,
-    ) {
-        if let Some(at) = part.iter().position(Node::is_field) {
-            let (object, field) = (&part[..at], &part[at].word()[1..]);
-            let rest = closed(&part[at + 1..], scope);
-            return self.field(
-                self.value(object, scope),
-                object,
-                (field, rest),
-                scope,
-                tests,
-                chain,
-            );
-        }
-        let (head, arguments) = (&part[0], &part[1..]);
-        let each = |this: &Self, order: &[usize], tests: &mut Tests, chain: &mut Vec<String>| {
-            for node in order.iter().filter_map(|&i| arguments.get(i)) {
-                let row = std::slice::from_ref(node);
-                if !this.value(row, scope).has_fault() {
-                    this.walk(row, scope, tests, chain);
-                }
-            }
-        };
-        let all: Vec<usize> = (0..arguments.len()).collect();
-        let name = match head {
-            Node::Word(name) => &name[..],
-            Node::Parentheses(term) | Node::Braces(term) => {
-                self.walk(term, scope, tests, chain);
-                return each(self, &all, tests, chain);
-            }
-            Node::Closed(Closure { term, scope: there }) => {
-                let arguments = closed(arguments, scope);
-                if term.first().map(Node::word) == Some("λ") {
-                    let (rest, inner) = applied(term, &arguments, there);
-                    return self.walk(rest, &inner, tests, chain);
-                }
-                let mut row = term.to_vec();
-                row.extend(arguments);
-                return self.walk(&row, there, tests, chain);
-            }
-        };
-        self.note(name, arguments, scope, tests);
-        if let Some(closure) = scope.bound.get(name) {
-            let mut row = vec![Node::Closed(closure.clone())];
-            row.extend(closed(arguments, scope));
-            return self.application(&row, scope, tests, chain);
-        }
-        match (name, arguments) {
-            ("record", [Node::Braces(fields)]) => {
-                for field in fields.split(|node| node.word() == ";") {
-                    self.walk(field.get(2..).unwrap_or(&[]), scope, tests, chain);
-                }
-                return;
-            }
-            ("choose", [_, _, _]) => return each(self, &[0, 2, 1], tests, chain),
-            // the tests of the list, and the fault of a record
-            ("answer", [_, _, _, _]) => {
-                each(self, &[0], tests, chain);
-                let before = std::mem::replace(&mut tests.in_records, true);
-                each(self, &[2], tests, chain);
-                tests.in_records = before;
-                return;
-            }
-            _ => {}
-        }
-        let (owner, clauses) = match self.find(&scope.file, name) {
-            Some(found) if self.leads_to_refusal(&scope.file, name) => found,
-            _ => return each(self, &all, tests, chain),
-        };
-        if let Some(number) = self.refusal(owner, clauses) {
-            return tests.refusal(number);
-        }
-        if chain.iter().any(|unfolded| unfolded == name) {
-            return each(self, &all, tests, chain);
-        }
-        chain.push(name.to_string());
-        for clause in clauses {
-            match unfolded(owner, clause, arguments, scope) {
-                Some((term, scope)) => self.walk(&term, &scope, tests, chain),
-                None => {
-                    each(self, &all, tests, chain);
-                    let bare = Scope {
-                        file: owner.to_string(),
-                        bound: Rc::default(),
-                    };
-                    self.walk(&clause.1, &bare, tests, chain);
-                }
-            }
-        }
-        chain.pop();
-    }
-
-    /// Notes the tests of a field of what an object comes to.
-    fn field(
-        &self,
-        value: Value,
-        object: &[Node],
-        (field, rest): (&str, Vec<Node>),
-        scope: &Scope,
-        tests: &mut Tests,
-        chain: &mut Vec<String>,
-    ) {
-        let found = match value {
-            Value::Cases(values) => {
-                for value in values {
-                    self.field(value, object, (field, rest.clone()), scope, tests, chain);
-                }
-                return;
-            }
-            Value::Record(fields) => fields.into_iter().find(|(name, _)| name == field),
-            Value::Tuple(parts) => {
-                let place = field
-                    .parse()
-                    .ok()
-                    .and_then(|i: usize| parts.into_iter().nth(i));
-                place.map(|closure| (field.to_string(), closure))
-            }
-            _ => None,
-        };
-        let mut row = match found {
-            Some((_, closure)) => vec![Node::Closed(closure)],
-            None => return self.walk(object, scope, tests, chain),
-        };
-        row.extend(rest);
-        self.application(&row, scope, tests, chain);
-    }
-
-    /// Notes what one of the tests of `Refusals` and `Lists` asks of an argument.
-    fn note(&self, name: &str, arguments: &[Node], scope: &Scope, tests: &mut Tests) {
-        use Value::{Argument, LengthOf, Number, OnesOf};
-        let value = |i: usize| match arguments.get(i) {
-            Some(node) => self.value(std::slice::from_ref(node), scope),
-            None => Value::Other,
-        };
-        match (name, value(0), value(1)) {
-            ("hasLength", Number(bytes), Argument(of)) => drop(tests.lengths.insert(of, bytes)),
-            ("lengthTests", Number(bytes), LengthOf(of)) => tests.list = Some((of, bytes)),
-            ("listTests", _, Number(bytes)) => tests.written = Some(bytes),
-            ("fits", Number(bits), Argument(of)) => drop(tests.bits.insert(of, bits.to_string())),
-            ("fits", Argument(bits), Argument(of)) => drop(tests.bits.insert(of, bits)),
-            ("leb", Number(least), Argument(of)) => drop(tests.least.insert(of, least)),
-            ("leb", Argument(of), Number(most)) => drop(tests.greatest.insert(of, most)),
-            ("eqb", OnesOf(of), Number(ones)) => drop(tests.ones.insert(of, ones)),
-            _ => {}
-        }
-    }
-
     /// What a row comes to.
     fn value(&self, row: &[Node], scope: &Scope) -> Value {
-        if let Some((rest, scope)) = self.without_let(row, scope) {
+        if let Some((rest, scope)) = without_let(row, scope) {
             return self.value(rest, &scope);
         }
         match row {
@@ -477,11 +313,8 @@ impl Definitions {
             _ => {}
         }
         if row.iter().any(|node| node.word() == ",") {
-            let part = |part: &[Node]| Closure {
-                term: Rc::new(part.to_vec()),
-                scope: scope.clone(),
-            };
-            return Value::Tuple(row.split(|node| node.word() == ",").map(part).collect());
+            let parts = row.split(|node| node.word() == ",");
+            return Value::Tuple(parts.map(|part| scope.closure(part)).collect());
         }
         if row.is_empty() || row.iter().any(Node::is_operator) {
             return Value::Other;
@@ -507,17 +340,14 @@ impl Definitions {
         match (name, arguments) {
             ("record", [Node::Braces(fields)]) => {
                 let field = |field: &[Node]| {
-                    let closure = Closure {
-                        term: Rc::new(field.get(2..).unwrap_or(&[]).to_vec()),
-                        scope: scope.clone(),
-                    };
+                    let closure = scope.closure(field.get(2..).unwrap_or(&[]));
                     (field.first().map_or("", Node::word).to_string(), closure)
                 };
                 let fields = fields.split(|node| node.word() == ";");
                 return Value::Record(fields.map(field).collect());
             }
             ("length" | "ones", [node]) => {
-                return match self.value(std::slice::from_ref(node), scope) {
+                return match self.value(slice::from_ref(node), scope) {
                     Value::Argument(of) if name == "ones" => Value::OnesOf(of),
                     Value::Argument(of) => Value::LengthOf(of),
                     _ => Value::Other,
@@ -551,40 +381,206 @@ impl Definitions {
             _ => Value::Other,
         }
     }
+}
 
-    /// What follows a `let`, with its name bound.
-    fn without_let<'a>(&self, row: &'a [Node], scope: &Scope) -> Option<(&'a [Node], Scope)> {
-        if row.first()?.word() != "let" {
-            return None;
+impl Walk<'_> {
+    /// Notes the tests of a row, in its order.
+    fn row(&mut self, row: &[Node], scope: &Scope) {
+        if let Some((rest, scope)) = without_let(row, scope) {
+            return self.row(rest, &scope);
         }
-        let sign = row.iter().position(|node| node.word() == "=")?;
-        let mut open = 0;
-        let end = row.iter().position(|node| {
-            match node.word() {
-                "let" => open += 1,
-                "in" => open -= 1,
-                _ => {}
+        if row.first().map(Node::word) == Some("λ") {
+            let (rest, scope) = applied(row, &[], scope);
+            return self.row(rest, &scope);
+        }
+        for part in parts(row) {
+            match part.iter().position(Node::is_field) {
+                Some(at) => {
+                    let value = self.definitions.value(&part[..at], scope);
+                    self.field(value, part, at, scope);
+                }
+                None => self.application(part, scope),
             }
-            open == 0
-        })?;
-        let closure = Closure {
-            term: Rc::new(row[sign + 1..end].to_vec()),
-            scope: scope.clone(),
-        };
-        let mut scope = scope.clone();
-        Rc::make_mut(&mut scope.bound).insert(row[1].word().to_string(), closure);
-        Some((&row[end + 1..], scope))
+        }
     }
+
+    /// Notes the tests of arguments, in their order.
+    fn each<'b>(&mut self, arguments: impl IntoIterator<Item = &'b Node>, scope: &Scope) {
+        for argument in arguments {
+            let row = slice::from_ref(argument);
+            if !self.definitions.value(row, scope).has_fault() {
+                self.row(row, scope);
+            }
+        }
+    }
+
+    fn application(&mut self, part: &[Node], scope: &Scope) {
+        let (head, arguments) = (&part[0], &part[1..]);
+        let name = match head {
+            Node::Word(name) => &name[..],
+            Node::Closed(closure) => return self.closure(closure, closed(arguments, scope)),
+            Node::Parentheses(term) | Node::Braces(term) => {
+                self.row(term, scope);
+                return self.each(arguments, scope);
+            }
+        };
+        self.note(name, arguments, scope);
+        if let Some(closure) = scope.bound.get(name) {
+            return self.closure(closure, closed(arguments, scope));
+        }
+        match (name, arguments) {
+            ("record", [Node::Braces(fields)]) => {
+                for field in fields.split(|node| node.word() == ";") {
+                    self.row(field.get(2..).unwrap_or(&[]), scope);
+                }
+            }
+            ("choose", [test, this, that]) => self.each([test, that, this], scope),
+            ("answer", [head, _, fault, _]) => {
+                self.each([head], scope);
+                let before = mem::replace(&mut self.in_records, true);
+                self.each([fault], scope);
+                self.in_records = before;
+            }
+            _ => self.definition(name, arguments, scope),
+        }
+    }
+
+    fn closure(&mut self, Closure { term, scope }: &Closure, arguments: Vec<Node>) {
+        if term.first().map(Node::word) == Some("λ") {
+            let (rest, scope) = applied(term, &arguments, scope);
+            return self.row(rest, &scope);
+        }
+        let mut row = term.to_vec();
+        row.extend(arguments);
+        self.row(&row, scope);
+    }
+
+    /// Unfolds a definition that leads to a refusal; of any other only the arguments can.
+    fn definition(&mut self, name: &str, arguments: &[Node], scope: &Scope) {
+        let definitions = self.definitions;
+        let (owner, clauses) = match definitions.find(&scope.file, name) {
+            Some(found) if definitions.leads_to_refusal(&scope.file, name) => found,
+            _ => return self.each(arguments, scope),
+        };
+        if let Some(number) = refusal(owner, clauses) {
+            return self.refusal(number);
+        }
+        if self.unfolding.iter().any(|unfolded| unfolded == name) {
+            return self.each(arguments, scope);
+        }
+        self.unfolding.push(name.to_string());
+        for clause in clauses {
+            match unfolded(owner, clause, arguments, scope) {
+                Some((term, scope)) => self.row(&term, &scope),
+                None => {
+                    self.each(arguments, scope);
+                    self.row(&clause.1, &Scope::of(owner));
+                }
+            }
+        }
+        self.unfolding.pop();
+    }
+
+    /// Notes the tests of a part with a field, which is that of the value before it.
+    fn field(&mut self, value: Value, part: &[Node], at: usize, scope: &Scope) {
+        let field = &part[at].word()[1..];
+        let found = match value {
+            Value::Cases(values) => {
+                for value in values {
+                    self.field(value, part, at, scope);
+                }
+                return;
+            }
+            Value::Record(fields) => fields.into_iter().find(|(name, _)| name == field),
+            Value::Tuple(parts) => {
+                let place: Option<usize> = field.parse().ok();
+                let found = place.and_then(|place| parts.into_iter().nth(place));
+                found.map(|closure| (field.to_string(), closure))
+            }
+            _ => None,
+        };
+        match found {
+            Some((_, closure)) => {
+                let mut row = vec![Node::Closed(closure)];
+                row.extend(closed(&part[at + 1..], scope));
+                self.row(&row, scope);
+            }
+            None => self.row(&part[..at], scope),
+        }
+    }
+
+    fn refusal(&mut self, number: u64) {
+        let Tests {
+            refusals,
+            of_records,
+            ..
+        } = &mut self.tests;
+        if !refusals.contains(&number) && !of_records.contains(&number) {
+            match self.in_records {
+                true => of_records.push(number),
+                false => refusals.push(number),
+            }
+        }
+    }
+
+    /// Notes what one of the tests of `Refusals` and `Lists` asks of an argument.
+    fn note(&mut self, name: &str, arguments: &[Node], scope: &Scope) {
+        use Value::{Argument, LengthOf, Number, OnesOf};
+        let value = |i: usize| match arguments.get(i) {
+            Some(node) => self.definitions.value(slice::from_ref(node), scope),
+            None => Value::Other,
+        };
+        let (first, second, tests) = (value(0), value(1), &mut self.tests);
+        match (name, first, second) {
+            ("hasLength", Number(bytes), Argument(of)) => drop(tests.lengths.insert(of, bytes)),
+            ("lengthTests", Number(bytes), LengthOf(of)) => tests.list = Some((of, bytes)),
+            ("listTests", _, Number(bytes)) => tests.written = Some(bytes),
+            ("fits", Number(bits), Argument(of)) => drop(tests.bits.insert(of, bits.to_string())),
+            ("fits", Argument(bits), Argument(of)) => drop(tests.bits.insert(of, bits)),
+            ("leb", Number(least), Argument(of)) => drop(tests.least.insert(of, least)),
+            ("leb", Argument(of), Number(most)) => drop(tests.greatest.insert(of, most)),
+            ("eqb", OnesOf(of), Number(ones)) => drop(tests.ones.insert(of, ones)),
+            _ => {}
+        }
+    }
+}
+
+/// The number of a refusal.
+fn refusal(owner: &str, clauses: &Clauses) -> Option<u64> {
+    match &clauses[..] {
+        [(parameters, body)] if owner == "Refusals" && parameters.is_empty() => {
+            body.first()?.word().parse().ok()
+        }
+        _ => None,
+    }
+}
+
+/// What follows a `let`, with its name bound.
+fn without_let<'a>(row: &'a [Node], scope: &Scope) -> Option<(&'a [Node], Scope)> {
+    if row.first()?.word() != "let" {
+        return None;
+    }
+    let sign = row.iter().position(|node| node.word() == "=")?;
+    let mut open = 0;
+    let end = row.iter().position(|node| {
+        match node.word() {
+            "let" => open += 1,
+            "in" => open -= 1,
+            _ => {}
+        }
+        open == 0
+    })?;
+    let closure = scope.closure(&row[sign + 1..end]);
+    let mut scope = scope.clone();
+    Rc::make_mut(&mut scope.bound).insert(row[1].word().to_string(), closure);
+    Some((&row[end + 1..], scope))
 }
 
 /// Arguments with the names of where they stand.
 fn closed(arguments: &[Node], scope: &Scope) -> Vec<Node> {
     let close = |node: &Node| match node {
         Node::Closed(_) => node.clone(),
-        node => Node::Closed(Closure {
-            term: Rc::new(vec![node.clone()]),
-            scope: scope.clone(),
-        }),
+        node => Node::Closed(scope.closure(slice::from_ref(node))),
     };
     arguments.iter().map(close).collect()
 }
@@ -593,10 +589,7 @@ fn bind(scope: &mut Scope, names: &[Node], arguments: &[Node]) {
     for (place, name) in names.iter().enumerate() {
         let argument = match arguments.get(place) {
             Some(Node::Closed(closure)) => closure.clone(),
-            _ => Closure {
-                term: Rc::default(),
-                scope: scope.clone(),
-            },
+            _ => scope.closure(&[]),
         };
         let name = name.word().trim_end_matches('.').to_string();
         Rc::make_mut(&mut scope.bound).insert(name, argument);
@@ -626,10 +619,7 @@ fn unfolded(
     if !named || arguments.len() < parameters.len() {
         return None;
     }
-    let mut inner = Scope {
-        file: owner.to_string(),
-        bound: Rc::default(),
-    };
+    let mut inner = Scope::of(owner);
     bind(&mut inner, parameters, &closed(arguments, scope));
     Some((body.clone(), inner))
 }
