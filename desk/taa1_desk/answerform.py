@@ -10,17 +10,20 @@ from .paper import ARGUMENT, RECORD, ROW
 from .records import SEALED
 
 WHAT = "an answer form"
+TEXT = 2 * dict(RECORD)["sealed text"]  # digits
 NOTHING = "this is an answer form, and no box of it is filled in"
 
 
 class Filled(NamedTuple):
-    """What is filled in: the records of the book, the entries whose rows they stand in, the
-    values of the first two generations, and rows of the book that can't be read."""
+    """What is filled in: the records of the book by the numbers of their rows, these numbers,
+    the values of the first two generations, rows of the book that can't be read, and whether
+    versions are decimal."""
 
     book: bytes
     rows: tuple[int, ...]
     keys: KeyFile
     problems: tuple[str, ...]
+    decimal: bool = False
 
     @property
     def is_blank(self) -> bool:
@@ -37,15 +40,43 @@ class _Row(NamedTuple):
     boxes: list[str]
 
     @property
-    def bytes(self) -> Optional[bytes]:
-        """The bytes, if each box has one; a zero in front may be left out of a box."""
+    def entry(self) -> Optional[int]:
+        """The entry whose record it is, if it is one."""
+        return int(self.name.split()[1]) if self.name.startswith("entry ") else None
+
+    def bytes(self, decimal: bool = False) -> Optional[bytes]:
+        """The bytes, if each box has one; a zero in front may be left out of a box, and a
+        version of one word may be decimal."""
         digits = "".join(self.boxes)
+        parts = self._parts() if self.entry is not None else None
         if len(self.boxes) == self.size and all(len(box) < 3 for box in self.boxes):
             digits = "".join(box.rjust(2, "0") for box in self.boxes)
-        elif len(digits) == 2 * self.size - 1 and len(self.boxes[0]) == 1:  # a kind
-            digits = f"0{digits}"
+        elif parts and (decimal or len(parts[1]) == 4):
+            start, version, text = parts
+            if decimal and version.isdecimal() and int(version) < 1 << 16:
+                version = f"{int(version):04x}"
+            digits = start.rjust(8, "0") + version + text
+        elif any(len(box) % 2 for box in self.boxes):
+            return None
         whole = len(digits) == 2 * self.size and re.fullmatch("[0-9a-fA-F]+", digits)
         return bytes.fromhex(digits) if whole else None
+
+    @property
+    def has_decimal(self) -> bool:
+        """Whether its version is one decimal word: two bytes have four digits, and a box that
+        is alone may lack its neighbour."""
+        parts = self._parts() if self.entry is not None else None
+        return bool(parts and parts[1].isdecimal() and len(parts[1]) in (3, 5))
+
+    def _parts(self) -> Optional[tuple[str, str, str]]:
+        """Kind and identity, a version of one word, and the text, if that is how they stand."""
+        start, end, boxes = "", "", list(self.boxes)
+        while boxes and len(start) < 7:
+            start += boxes.pop(0)
+        while boxes and len(end) < TEXT:
+            end = boxes.pop() + end
+        fits = len(boxes) == 1 and len(start) in (7, 8) and len(end) == TEXT
+        return (start, boxes[0], end) if fits else None
 
     @property
     def is_blank(self) -> bool:
@@ -97,9 +128,9 @@ def _rows(text: str) -> list[_Row]:
         if head:
             table = head
             continue
-        if rows and table is not _END and rows[-1].bytes is None and not rows[-1].is_blank:
+        if rows and table is not _END and rows[-1].bytes() is None and not rows[-1].is_blank:
             joined = rows[-1]._replace(boxes=rows[-1].boxes + _boxes(line))
-            if joined.bytes is not None:
+            if joined.bytes() is not None:
                 rows[-1] = joined
                 continue
         value = _VALUE.match(line) if table is _KEYS else None
@@ -114,16 +145,15 @@ def _rows(text: str) -> list[_Row]:
 
 def read(text: str) -> Filled:
     """What is filled in."""
-    book, numbers, problems = b"", [], []
+    rows = [row for row in _rows(text) if not row.is_blank]
+    decimal = any(row.has_decimal for row in rows)
+    records, problems = [], []
     values: dict[str, bytes] = {}
     bad = []
-    for row in _rows(text):
-        made = None if row.is_blank else row.bytes
-        if row.is_blank:
-            continue
-        if row.name.startswith("entry "):
-            book += made or b""
-            numbers += [int(row.name.split()[1])] if made else []
+    for row in rows:
+        made = row.bytes(decimal)
+        if row.entry is not None:
+            records += [(row.entry, made)] if made else []
             problems += [] if made else [row.problem]
         elif not row.size:
             bad.append(f"line {row.line}: the form asks for no value {row.name!r}")
@@ -132,7 +162,14 @@ def read(text: str) -> Filled:
         else:
             values[row.name] = made or b""
             bad += [] if made else [row.problem]
-    return Filled(book, tuple(numbers), KeyFile(values, tuple(bad)), tuple(problems))
+    records.sort(key=lambda record: record[0])
+    return Filled(
+        b"".join(record for _, record in records),
+        tuple(entry for entry, _ in records),
+        KeyFile(values, tuple(bad)),
+        tuple(problems),
+        decimal,
+    )
 
 
 def both(form: KeyFile, file: Optional[KeyFile]) -> KeyFile:

@@ -217,7 +217,7 @@ class Reader:
         filled = answerform.read(text)
         if filled.is_blank:
             return Reading(b"", problem=answerform.NOTHING, hopeless=True)
-        how = answerform.WHAT + code
+        how = answerform.WHAT + code + ", its versions in decimal" * filled.decimal
         return Reading(
             filled.book, how, FORM, problems=filled.problems, keys=filled.keys, rows=filled.rows
         )

@@ -121,6 +121,31 @@ class Forms(unittest.TestCase):
             self.assertEqual(sheet.keys.problems, (f"line {key + 1}, D: {said}",))
             self.assertEqual(sheet.right, 12)
 
+    def test_decimal_versions(self) -> None:
+        """Versions in decimal, as the paper has them, are read where one shows that they are:
+        a word of three digits or five."""
+
+        def decimal(line: str) -> str:
+            found = re.match(r"( +\d+  )0?(\w+)    (\w\w \w\w \w\w)  (\w\w) (\w\w)    (.*)", line)
+            if not found:
+                return line
+            start, kind, identity, high, low, text = found.groups()
+            return f"{start}{kind}    {identity}  {int(high + low, 16)}     {text}"
+
+        text = "\n".join(map(decimal, filled().splitlines()))
+        self.assertRegex(text, r"\n +2  2    .. .. ..  513     ")
+        sheet = mark(text)
+        self.assertEqual(sheet.read_as, "an answer form, its versions in decimal")
+        self.assertTrue(sheet.perfect, sheet_text(sheet))
+
+    def test_order(self) -> None:
+        """Rows have numbers, so their order in the text counts for nothing."""
+        lines = filled().splitlines()
+        at = next(i for i, line in enumerate(lines) if "sealed text" in line) + 1
+        sheet = mark("\n".join([*lines[:at], *lines[at : at + 12][::-1], *lines[at + 12 :]]))
+        self.assertTrue(sheet.perfect)
+        self.assertEqual([entry.moved for entry in sheet.entries], [False] * 12)
+
     def test_broken_rows(self) -> None:
         """Rows that a mail program broke in two are joined."""
         text = "\n".join(re.sub(r"^(.{60}\S*) ", r"\1\n", line) for line in filled().splitlines())
