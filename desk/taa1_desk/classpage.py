@@ -2,18 +2,19 @@
 
 from __future__ import annotations
 
-from collections import Counter
+from collections import Counter, defaultdict
 from typing import Iterable, Optional, Sequence
 
 from .mark import Sheet, Wanted
 from .names import sealing
 from .page import Html, Number, breakable, page, table, tag, text
-from .pages import RESULT, at_step, kind_said
+from .pages import RESULT, kind_said, step_said
 from .pictures import STYLE, Part, bar, decimal, fillings, histogram, legend
 from .records import KINDS
 from .results import COUNTED, WRONG, average, counts, wrong_by_entry
 from .scheme import said as points_said
 from .sheets import Summary, class_numbers, entries_said, opening, plural, reason
+from .slips import clauses_of, in_order
 
 MOST_ENTRIES = 40  # in the picture of the entries
 CHECKS = "Checks of the redundancy, and how many entries fail them"
@@ -73,9 +74,18 @@ def _entries(sheets: Sequence[Sheet], wanted: Wanted) -> Iterable[str]:
 
 def _slips(sheets: Sequence[Sheet], of: Summary) -> Html:
     """The slips, the commonest first."""
-    steps = {slip.name: at_step(slip) for sheet in sheets for slip in sheet.slips}
+    found = [slip for sheet in sheets for slip in sheet.slips]
+    steps = {slip.name: slip.step[0] for slip in found}
+    clauses: dict[str, set[str]] = defaultdict(set)  # those of all candidates who made it
+    for slip in found:
+        clauses[slip.name].update(clauses_of(slip.step[1]))
     rows = [
-        (name, bar([Part(WRONG, count)], of.candidates), count, steps[name])
+        (
+            name,
+            bar([Part(WRONG, count)], of.candidates),
+            count,
+            step_said(steps[name], in_order(clauses[name])),
+        )
         for name, count in of.slips
     ]
     heads = ("slip", "candidates", "number", "step")

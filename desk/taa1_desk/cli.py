@@ -868,7 +868,7 @@ def parser() -> Parser:
     arguing.add_argument("--html", metavar="FILE", help="write a page of HTML")
     _common(arguing, bytes="")
     mark.add_argument(
-        "candidate", nargs="+", metavar="CANDIDATE", help="a sealed book, or a folder of such"
+        "candidate", nargs="+", metavar="CANDIDATE", help="a sealed book, a filled-in answer form, or a folder of such"
     )
     mark.add_argument(
         "--opened",

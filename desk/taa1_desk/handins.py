@@ -149,6 +149,8 @@ class Reader:
         try:
             if text is None:
                 raise ValueError("it is no text")
+            if form == FORM and not answerform.is_form(text[0]):
+                raise ValueError("it has no table of the answer form")
             if form == FORM:
                 return self._form(*text)
             return Reading(FORMS[form].read(text[0]), FORMS[form].what)

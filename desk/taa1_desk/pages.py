@@ -118,7 +118,11 @@ def _slips(sheet: Sheet) -> Html:
 
 def at_step(slip: Explained) -> str:
     """The step at which a slip happens, and where that stands."""
-    step, clause = slip.step
+    return step_said(*slip.step)
+
+
+def step_said(step: str, clause: str) -> str:
+    """A step, and the clause or clauses in which it stands."""
     what = "document" if "." not in clause else "clauses" if " and " in clause else "clause"
     return f"{step} ({what} {clause})" if clause else step
 

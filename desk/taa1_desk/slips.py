@@ -91,7 +91,7 @@ class Slip(NamedTuple):
         if not taking:
             method = next(iter(self.altered), "record")
             clauses = {clause_of(method, each) for each in algorithms} or {STEPS[method][1]}
-            return STEPS[method][0], listed(sorted(clauses, key=_numbers))
+            return STEPS[method][0], in_order(clauses)
         names, taken_in = zip(*(STEPS[method] for method in taking))
         shared = commonprefix([clause.split(".") for clause in taken_in])
         return listed(names), ".".join(shared)
@@ -118,9 +118,14 @@ def listed(words: Sequence[str]) -> str:
     return " and ".join(filter(None, (", ".join(words[:-1]), words[-1])))
 
 
-def _numbers(clause: str) -> list[int]:
-    """A clause's numbers, by which clauses are in order."""
-    return [int(number) for number in clause.split(".")]
+def in_order(clauses: Iterable[str]) -> str:
+    """Clauses in their order, in words."""
+    return listed(sorted(clauses, key=lambda clause: [int(part) for part in clause.split(".")]))
+
+
+def clauses_of(words: str) -> list[str]:
+    """The clauses of such words."""
+    return words.replace(" and ", ", ").split(", ")
 
 
 def _within(step: str, alteration: Alteration, algorithms: tuple[str, ...]) -> Alteration:

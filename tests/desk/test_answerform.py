@@ -177,6 +177,8 @@ class Forms(unittest.TestCase):
         sheet = mark(filled(split(seal(other), SEALED), {}))
         self.assertIn("this looks like another sitting's book", sheet.problem or "")
         self.assertIn("; --as ann.txt=form marks it all the same", sheet.problem or "")
+        said = "it can't be read as form: it has no table of the answer form"
+        self.assertEqual(READER.mark("ann.txt", seal().hex().encode(), "form").problem, said)
         text = filled(split(seal(other), SEALED), {}).encode()
         self.assertEqual(READER.mark("ann.txt", text, "form").problem, None)
         opened = OpenedMarker(DESK, SITTING, ring_for(SITTING), seal(), "handout")

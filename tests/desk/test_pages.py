@@ -11,11 +11,11 @@ from pathlib import Path
 from typing import Optional
 from urllib.parse import unquote_to_bytes
 
-from common import CLASS, DESK, RING, SITTING, Case, seal, taa1
+from common import CLASS, DESK, ENTRIES, RING, SITTING, Case, seal, taa1
 from taa1_desk.beside import differing
 from taa1_desk.page import grouped
 from taa1_desk.records import SEALED, split
-from taa1_desk.slips import RING_SLIPS
+from taa1_desk.slips import RING_SLIPS, SLIPS
 from taa1_desk.working import Steps
 
 CANDIDATES = ("ann", "ben", "cho", "dee", "eve", "fay")
@@ -176,6 +176,23 @@ class Pages(Case):
         pages = self.mark(self.file("gus.book", seal(other)))
         for name in ("gus.book", "index"):
             self.assertIn("TA22 (clause 5.7)", Page(pages / f"{name}.html").texts)
+
+    def test_clauses_of_the_class(self) -> None:
+        """A slip that two candidates made in two algorithms has both clauses on the class's page."""
+        slip = next(slip for slip in SLIPS if slip.name == "number before the key")
+        steps = Steps(DESK, slip.altered)
+        strings = steps.k_strings(RING.c)
+        books = []
+        for kind in (2, 3):
+            records = [
+                steps.sealed(entry, RING, strings) if entry.kind == kind else record
+                for entry, record in zip(ENTRIES, split(seal(), SEALED))
+            ]
+            books.append(self.file(f"kind{kind}.book", b"".join(records)))
+        pages = self.mark(*books)
+        said = "key and number joined (clause{})"
+        for name, clauses in (("kind2.book", " 5.10.1"), ("kind3.book", " 5.14.1"), ("index", "s 5.10.1 and 5.14.1")):
+            self.assertIn(said.format(clauses), Page(pages / f"{name}.html").texts)
 
     def test_keys(self) -> None:
         """The keys that were handed in, wrong ones over those that are wanted, and the points."""
