@@ -2,20 +2,17 @@
 // sealed text of 15.
 mod parts;
 
-use crate::parts::body_part;
 use crate::parts::core_key;
-use crate::parts::identity_of;
-use crate::parts::plain_head;
-use crate::parts::plain_record;
+use crate::parts::head_with;
 use crate::parts::ring_c;
-use crate::parts::sealed_head;
-use crate::parts::sealed_record;
-use crate::parts::text_part;
 use crate::parts::version_of;
-use crate::parts::with_identity;
-use arrays::array18;
-use arrays::array21;
+use arrays::byte_at;
 use arrays::copy;
+use arrays::join_6_12;
+use arrays::join_6_15;
+use arrays::part3;
+use arrays::part12;
+use arrays::part15;
 use identity::IdentityStrings;
 use identity::bc;
 use identity::decrypt_identity;
@@ -102,11 +99,10 @@ fn body_fault(kind: Kind, b: [u8; 12]) -> u32
 pub fn plain_fault(rec: &[u8]) -> u32
     ensures { λ r. ⌜ r ≡ plainFault (now (rec .entry)) ⌝ }
 {
-    let p = array18(rec);
-    let Named::Known(kind) = Kind::from_byte(p[0]) else {
+    let Named::Known(kind) = Kind::from_byte(byte_at(rec, 0)) else {
         return WRONG_KIND;
     };
-    body_fault(kind, body_part(p))
+    body_fault(kind, part12(rec, 6))
 }
 
 // What the inspection of a sealed record finds: its refusal, or 0, and the block cipher runs that it took.
@@ -119,16 +115,15 @@ pub struct Inspection {
 pub fn inspect_sealed(ring: &RingBytes, rec: &[u8]) -> Inspection
     ensures { λ l. ⌜ (l .refusal ≡ openFault (now (ring .entry)) (now (rec .entry))) × (l .runs ≡ inspectionRuns (now (rec .entry))) ⌝ }
 {
-    let t = array21(rec);
-    let Named::Known(kind) = Kind::from_byte(t[0]) else {
+    let Named::Known(kind) = Kind::from_byte(byte_at(rec, 0)) else {
         return Inspection {
             refusal: WRONG_KIND,
             runs: 0,
         };
     };
     let algorithm = kind.algorithm;
-    let key = core_key(kind, ring, version_of(sealed_head(t)));
-    let flag = flag_of(algorithm, key, text_part(t));
+    let key = core_key(kind, ring, version_of(rec));
+    let flag = flag_of(algorithm, key, part15(rec, 6));
     if flag.set {
         return Inspection {
             refusal: FLAG_SET,
@@ -160,30 +155,38 @@ pub struct Task {
     pub input: [u8; 16],
 }
 
-// BL1's key and input for a plain record.
+// The core's key for a record, plain or sealed.
+fn key_of(ring: &RingBytes, rec: &[u8]) -> [u8; 16]
+    ensures { λ k. ⌜ k ≡ coreKey (now (ring .entry)) (now (rec .entry)) ⌝ }
+{
+    core_key(kind_of(byte_at(rec, 0)), ring, version_of(rec))
+}
+
+// BL1's input for a plain record.
+fn plain_input(rec: &[u8]) -> [u8; 16]
+    ensures { λ x. ⌜ x ≡ plainInput (now (rec .entry)) ⌝ }
+{
+    let kind = kind_of(byte_at(rec, 0));
+    let algorithm = kind.algorithm;
+    input_of(algorithm, part12(rec, 6))
+}
+
 pub fn seal_task(ring: &RingBytes, rec: &[u8]) -> Task
     ensures { λ t. ⌜ (t .key ≡ coreKey (now (ring .entry)) (now (rec .entry))) × (t .input ≡ plainInput (now (rec .entry))) ⌝ }
 {
-    let p = array18(rec);
-    let head = plain_head(p);
-    let kind = kind_of(head[0]);
-    let algorithm = kind.algorithm;
     Task {
-        key: core_key(kind, ring, version_of(head)),
-        input: input_of(algorithm, body_part(p)),
+        key: key_of(ring, rec),
+        input: plain_input(rec),
     }
 }
 
-// BL2's key and input for a sealed record.
+// BL2's input for a sealed record is its text.
 pub fn open_task(ring: &RingBytes, rec: &[u8]) -> Task
     ensures { λ t. ⌜ (t .key ≡ coreKey (now (ring .entry)) (now (rec .entry))) × (t .input ≡ with8Of (part 6 15 (now (rec .entry)))) ⌝ }
 {
-    let t = array21(rec);
-    let head = sealed_head(t);
-    let kind = kind_of(head[0]);
     Task {
-        key: core_key(kind, ring, version_of(head)),
-        input: with8(text_part(t)),
+        key: key_of(ring, rec),
+        input: with8(part15(rec, 6)),
     }
 }
 
@@ -192,9 +195,8 @@ pub fn put_sealed(identity_strings: [u8; 8], rec: &[u8], text: [u8; 15], out: &m
     ensures { λ _. ⌜ now (out .exit)
         ≡ take (length (now (out .entry))) (sealedWith «identity_strings» (now (rec .entry)) text) ++ drop sealedSize (now (out .entry)) ⌝ }
 {
-    let head = plain_head(array18(rec));
-    let encrypted = encrypt_identity(identity_strings, identity_of(head));
-    copy(&sealed_record(with_identity(head, encrypted), text), out);
+    let encrypted = encrypt_identity(identity_strings, part3(rec, 1));
+    copy(&join_6_15(head_with(rec, encrypted), text), out);
 }
 
 // The plain record of a sealed one and what BL2 gives for it, into its own part of the output.
@@ -202,12 +204,11 @@ pub fn put_opened(identity_strings: [u8; 8], rec: &[u8], u: [u8; 15], out: &mut 
     ensures { λ _. ⌜ now (out .exit)
         ≡ take (length (now (out .entry))) (openedWith «identity_strings» (now (rec .entry)) u) ++ drop plainSize (now (out .entry)) ⌝ }
 {
-    let head = sealed_head(array21(rec));
-    let kind = kind_of(head[0]);
+    let kind = kind_of(byte_at(rec, 0));
     let algorithm = kind.algorithm;
-    let decrypted = decrypt_identity(identity_strings, identity_of(head));
+    let decrypted = decrypt_identity(identity_strings, part3(rec, 1));
     copy(
-        &plain_record(with_identity(head, decrypted), body_of(algorithm, u)),
+        &join_6_12(head_with(rec, decrypted), body_of(algorithm, u)),
         out,
     );
 }

@@ -11,20 +11,19 @@ returns c =
     let body = made .before in
     let identity = body .before .before in
     let kind = identity .before .before in
-    let head = kind .before in
-    let copied = head .before in
-    let x = copied .before .before .before .args in
-    opened-put (x .identity-strings) (now (x .rec)) (copied .array21 .result) (head .sealed-head .result) (identity .decrypt-identity .result) (body .before .with-identity .result) (now (x .out)) _ (made .plain-record .result)
-    (head .sealed-head .ensures) (body .before .with-identity .ensures) (c .before .before .copy .ensures) (kind .kind-of .result) (x .u) (body .body-of .result) (copied .array21 .ensures) (kind .kind-of .ensures)
-    (identity .decrypt-identity .ensures ∙ rw (identity .before .identity-of .ensures)) (body .body-of .ensures) (made .plain-record .ensures)
+    let first = kind .before in
+    let x = first .before .before .before .args in
+    opened-put (x .identity-strings) (now (x .rec)) (identity .decrypt-identity .result) (body .before .head-with .result) (now (x .out)) _
+    (made .join-6-12 .result)
+    (body .before .head-with .ensures) (c .before .before .copy .ensures) (kind .kind-of .result) (x .u) (body .body-of .result)
+    (kind .kind-of .ensures ∙ rw (first .byte-at .ensures)) (identity .decrypt-identity .ensures ∙ rw (identity .before .part3 .ensures))
+    (body .body-of .ensures) (made .join-6-12 .ensures)
 
 pub put-opened-spec : {M : Type 1} → statement M
 put-opened-spec =
     tie.close
     (tie.spec
     (λ c κs. search needs)
-    (λ c κs. search needs)
-    (λ c. search needs)
     (λ c κs. search needs)
     (λ c κs. search needs)
     (λ c κs. search needs)

@@ -9,19 +9,16 @@ returns : tie.Need-returns
 returns c =
     let made = c .before .before .before .before .before in
     let identity = made .before .before in
-    let head = identity .before .before in
-    let copied = head .before in
-    let x = copied .before .before .before .args in
-    sealed-put (x .identity-strings) (now (x .rec)) (copied .array18 .result) (head .plain-head .result) (identity .encrypt-identity .result) (made .before .with-identity .result) (now (x .out)) _ (made .sealed-record .result)
-    (head .plain-head .ensures) (made .before .with-identity .ensures) (c .before .before .copy .ensures) (x .text) (copied .array18 .ensures)
-    (identity .encrypt-identity .ensures ∙ rw (identity .before .identity-of .ensures)) (made .sealed-record .ensures)
+    let x = identity .before .before .before .before .args in
+    sealed-put (x .identity-strings) (now (x .rec)) (identity .encrypt-identity .result) (made .before .head-with .result) (now (x .out)) _
+    (made .join-6-15 .result)
+    (made .before .head-with .ensures) (c .before .before .copy .ensures) (x .text)
+    (identity .encrypt-identity .ensures ∙ rw (identity .before .part3 .ensures)) (made .join-6-15 .ensures)
 
 pub put-sealed-spec : {M : Type 1} → statement M
 put-sealed-spec =
     tie.close
     (tie.spec
-    (λ c κs. search needs)
-    (λ c κs. search needs)
     (λ c κs. search needs)
     (λ c κs. search needs)
     (λ c κs. search needs)

@@ -6,7 +6,8 @@ use Rattle.records.proofs.parts.core_key.Tie as tie
 returns : tie.Need-returns
 unfolding key10
 returns c =
-    rw (c .before .before .enum-told .given .1, c .key10 .ensures, c .before .first10 .ensures, c .before .before .before .before .ring-key .ensures)
+    let taken = c .before .before .before in
+    rw (taken .enum-told .given .1, c .key10 .ensures, c .before .array10 .ensures, taken .before .before .ring-key .ensures)
 
 returns-2 : tie.Need-returns-2
 unfolding key16
@@ -25,6 +26,7 @@ core-key-spec =
     tie.close
     (tie.spec
     (λ c κs. search needs)
+    (λ c. search needs)
     (λ c. search needs)
     (λ c κs. search needs)
     (λ c κs. search needs)

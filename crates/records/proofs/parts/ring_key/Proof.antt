@@ -3,18 +3,22 @@ use Rattle.records.proofs.parts.ring_key.Statement.{statement}
 use Rattle.records.proofs.parts.ring_key.Tie as tie
 
 returns : tie.Need-returns
-returns c = rw (c .before .enum-told .given .1) (c .ring-d .ensures)
+returns c =
+    let d = c .before .before in
+    rw (d .before .before .enum-told .given .1, c .array16 .ensures, d .part10 .ensures)
 
 returns-2 : tie.Need-returns-2
-returns-2 c = rw (c .before .enum-told2 .given .1) (c .ring-o .ensures)
+returns-2 c = rw (c .before .before .enum-told2 .given .1, c .part16 .ensures)
 
 returns-3 : tie.Need-returns-3
-returns-3 c = rw (c .before .enum-told3 .given .1) (c .ring-g .ensures)
+returns-3 c = rw (c .before .before .enum-told3 .given .1, c .part162 .ensures)
 
 pub ring-key-spec : {M : Type 1} → statement M
 ring-key-spec =
     tie.close
     (tie.spec
+    (λ c. search needs)
+    (λ c κs. search needs)
     (λ c. search needs)
     (λ c κs. search needs)
     (λ c. search needs)

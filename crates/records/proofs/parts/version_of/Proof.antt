@@ -3,7 +3,7 @@ use Rattle.records.proofs.parts.version_of.Statement.{statement}
 use Rattle.records.proofs.parts.version_of.Tie as tie
 
 returns : tie.Need-returns
-returns c = c .pair .ensures .1
+returns c = rw (c .pair .ensures .1, c .before .byte-at2 .ensures, c .before .before .byte-at .ensures)
 
 pub version-of-spec : {M : Type 1} → statement M
-version-of-spec = tie.close (tie.spec (λ c. search needs) (λ c. search needs) (λ c κs. search needs) returns)
+version-of-spec = tie.close (tie.spec (λ c κs. search needs) (λ c κs. search needs) (λ c κs. search needs) returns)
