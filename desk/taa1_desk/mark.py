@@ -375,6 +375,8 @@ class Marker:
         wrong = {d.field for d in differences(opened, self.entries[place])} - {IDENTITY}
         if opened.key and wrong == {"key"}:
             fields["key"] = opened.key
+        if opened.key and wrong == {"version"}:  # the text is sealed with it
+            fields["version"] = record[FIELDS["version"]]
         return fields
 
 

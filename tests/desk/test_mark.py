@@ -196,6 +196,20 @@ class Slips(unittest.TestCase):
             limited = [each for each in steps if each.endswith(" alone") and f" in {others}" in each]
             self.assertEqual(limited, [])
 
+    def test_versions_exchanged(self) -> None:
+        """Two entries' versions exchanged, in the records alone or in sealing, too."""
+        one, two = ENTRIES[4], ENTRIES[7]
+        self.assertNotEqual(one.version, two.version)
+        sealed = list(ENTRIES)
+        sealed[4], sealed[7] = one._replace(version=two.version), two._replace(version=one.version)
+        written = list(MODEL)
+        written[4], written[7] = (
+            MODEL[at][:4] + MODEL[other][4:6] + MODEL[at][6:] for at, other in ((4, 7), (7, 4))
+        )
+        for records in (seal(plain=book(sealed)), b"".join(written)):
+            (slip,) = MARKER.mark("a", records).slips
+            self.assertEqual((slip.name, slip.entries), ("two entries' versions exchanged", (4, 7)))
+
     def test_clauses(self) -> None:
         """A slip's step stands in the clauses of the algorithms in which it shows."""
         slip = next(each for each in SLIPS if each.name == "number before the key")
