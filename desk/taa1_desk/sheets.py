@@ -225,7 +225,7 @@ def others(sheet: Sheet) -> list[str]:
     untold = [i for i in sheet.flags.invented if i not in told] if sheet.flags else []
     if len(untold) >= MANY_FLAGS:
         said.append(
-            "what set these flags can't be told from flags alone; from the fields behind them it can "
+            "what set these flags can't be told from flags alone; from the fields after them it can "
             "(entry I flag kind K identity I version V key HEX number N)"
         )
     if sheet.left:
