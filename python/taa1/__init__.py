@@ -3,13 +3,17 @@
 import sys as _sys
 
 # Under `python3 -m taa1` these lines are the program's first: an interrupt ends it without
-# a word, until main speaks. A host's signals are its own. (Python 3.9 does not tell what it
-# runs; there __main__ is the first to do so.)
+# a word, until main speaks. A host's signals are its own, also of one that is run by -m.
 if _sys.argv[:1] == ["-m"]:
-    if getattr(_sys, "orig_argv", [])[-len(_sys.argv) :][:1] in (["taa1"], ["-mtaa1"]):
-        _signal = __import__("_signal")  # built in: no import is under way before this
-        if _signal.getsignal(_signal.SIGINT) is _signal.default_int_handler:
-            _signal.signal(_signal.SIGINT, _signal.SIG_DFL)
+    _signal = __import__("_signal")  # built in: no import is under way before this
+    if _signal.getsignal(_signal.SIGINT) is _signal.default_int_handler:
+        _signal.signal(_signal.SIGINT, _signal.SIG_DFL)
+        _told = getattr(_sys, "orig_argv", None)  # from Python 3.10 on
+        if _told is None:
+            with open("/proc/self/cmdline", errors="surrogateescape") as _file:
+                _told = _file.read().split("\0")[:-1]
+        if _told[-len(_sys.argv) :][:1] not in (["taa1"], ["-mtaa1"]):
+            _signal.signal(_signal.SIGINT, _signal.default_int_handler)
 
 from .engine import Engine
 from .library import LibraryError

@@ -7,7 +7,6 @@ import signal
 import subprocess
 import sys
 import time
-import unittest
 from types import FrameType
 from typing import Any, Callable, Optional
 
@@ -140,7 +139,6 @@ class Command(Case):
                 self.assertEqual((done.stdout, done.stderr), (b"", b""))
                 self.assertEqual(done.returncode, -signal.SIGINT)
 
-    @unittest.skipIf(sys.version_info < (3, 10), "before Python 3.10 a package can't know that it is run")
     def test_package(self) -> None:
         """python3 -m taa1, at many moments from our first line on."""
         self.file("sitecustomize.py", COUNTING)
