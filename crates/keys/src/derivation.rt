@@ -1,11 +1,13 @@
 // The derivations on typed arrays.
+use arrays::bytes3;
+use arrays::part10;
 use arrays::xor10;
 use cores::bl1;
 use cores::exp2;
 ghost use mathlib.Core.List.{[], _∷_, _++_};
 ghost use mathlib.Core.Path.{_≡_};
 ghost use Prim.Native.Nat.{_+_, _-_};
-ghost use Rattle.standard.specs.Bytes.{_!_, _⊕_, table, part, bytesOf};
+ghost use Rattle.standard.specs.Bytes.{_!_, _⊕_, table, part};
 ghost use Rattle.standard.specs.Derivation.{core as coreOf, ta71 as ta71Of, int as intOf};
 
 // BL1 of the expanded seed.
@@ -63,18 +65,7 @@ fn key_input(a: [u8; 10], b: [u8; 10]) -> [u8; 16]
 fn shr3(o: [u8; 16]) -> [u8; 10]
     ensures { λ r. ⌜ r ≡ part 3 10 o ⌝ }
 {
-    [
-        o[3],
-        o[4],
-        o[5],
-        o[6],
-        o[7],
-        o[8],
-        o[9],
-        o[10],
-        o[11],
-        o[12],
-    ]
+    part10(&o, 3)
 }
 
 // TA71 on typed arrays.
@@ -84,19 +75,16 @@ pub fn ta71_of(a: [u8; 10], b: [u8; 10]) -> [u8; 10]
     shr3(core(key_input(a, b), xor10(a, b)))
 }
 
-// Three copies of the network identity's 24 bits, and a zero byte.
-fn copies(mni: u64) -> [u8; 10]
-    ensures { λ r. ⌜ r ≡ bytesOf 3 mni ++ bytesOf 3 mni ++ bytesOf 3 mni ++ (0 ∷ []) ⌝ }
+// Three copies of the network identity's three bytes, and a zero byte.
+fn copies(x: [u8; 3]) -> [u8; 10]
+    ensures { λ r. ⌜ r ≡ part 0 3 x ++ part 0 3 x ++ part 0 3 x ++ (0 ∷ []) ⌝ }
 {
-    let a = (mni / 65536 % 256) as u8;
-    let b = (mni / 256 % 256) as u8;
-    let c = (mni % 256) as u8;
-    [a, b, c, a, b, c, a, b, c, 0]
+    [x[0], x[1], x[2], x[0], x[1], x[2], x[0], x[1], x[2], 0]
 }
 
 // TA101's INT.
 pub(crate) fn int(gck0: [u8; 10], mni: u64) -> [u8; 10]
     ensures { λ r. ⌜ r ≡ intOf gck0 mni ⌝ }
 {
-    xor10(gck0, copies(mni))
+    xor10(gck0, copies(bytes3(mni)))
 }

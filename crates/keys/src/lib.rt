@@ -155,7 +155,8 @@ pub fn ring(
     response_mask: u16,
     key_mask: u16,
 ) -> RingMade
-    ensures { λ r. ⌜ r ≡ ringCall (now (root .entry)) (now (rs .entry)) (now (rso .entry)) (now (rand1 .entry)) (now (rand2 .entry)) (now (c .entry)) (now («group_key» .entry)) sides «response_mask» «key_mask» ⌝ }
+    ensures { λ r. ⌜ r ≡ ringCall (now (root .entry)) (now (rs .entry)) (now (rso .entry)) (now (rand1 .entry)) (now (rand2 .entry)) (now (c .entry))
+        (now («group_key» .entry)) sides «response_mask» «key_mask» ⌝ }
 {
     let right_lengths = (root.len() == 16)
         & (rs.len() == 10)

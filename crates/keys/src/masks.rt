@@ -1,4 +1,5 @@
 // The two masks of TA12 and TA22: their tests, and the bytes that they choose.
+use arrays::array10;
 use standard::Authentication;
 use standard::SHARED_BIT;
 use standard::WRONG_MASK;
@@ -57,7 +58,7 @@ fn first4(x: [u8; 16]) -> [u8; 4]
 fn first10(x: [u8; 16]) -> [u8; 10]
     ensures { λ r. ⌜ r ≡ part 0 10 x ⌝ }
 {
-    [x[0], x[1], x[2], x[3], x[4], x[5], x[6], x[7], x[8], x[9]]
+    array10(&x)
 }
 
 // The response and the key, each chosen by its mask. The masks are not tested: a caller does that once, for any number of outputs.

@@ -2,22 +2,16 @@
 use crate::derivation::core;
 use crate::derivation::reversed;
 use crate::masks::split;
-use arrays::copy;
+use arrays::join_10_16;
+use arrays::join_26_26;
 use mixing::tb4_of;
 use mixing::tb7_of;
 use standard::Authentication;
-use standard::RING;
-use standard::RingBytes;
 use standard::RingInputs;
 use standard::RingMade;
-ghost use mathlib.Core.List.{_++_};
 ghost use mathlib.Core.Path.{_≡_};
 ghost use lib.Count.{ones};
-ghost use Rattle.standard.specs.Bytes.{part};
 ghost use Rattle.standard.specs.Derivation.{core as coreOf, half as halfOf, ringAnswer};
-
-// The bytes of D and O, and as many of C and G.
-const HALF: usize = 26;
 
 // One half of the recipe: a session key from root and seed, and what it answers to a challenge. A half that does not run answers zero bytes,
 // with no cipher run.
@@ -42,26 +36,6 @@ fn half(
     split(core(core(root, seed), challenge), response_mask, key_mask)
 }
 
-// A key of ten bytes and one of sixteen: half of a ring.
-fn joined(a: [u8; 10], b: [u8; 16]) -> [u8; HALF]
-    ensures { λ r. ⌜ r ≡ part 0 10 a ++ part 0 16 b ⌝ }
-{
-    let mut keys = [0u8; HALF];
-    copy(&a, &mut keys);
-    copy(&b, &mut keys[10..]);
-    keys
-}
-
-// Both halves of a ring: D and O, then C and G.
-fn halves(a: [u8; HALF], b: [u8; HALF]) -> RingBytes
-    ensures { λ r. ⌜ r ≡ part 0 26 a ++ part 0 26 b ⌝ }
-{
-    let mut ring = [0u8; RING];
-    copy(&a, &mut ring);
-    copy(&b, &mut ring[HALF..]);
-    ring
-}
-
 // D, O, C and G, and both responses.
 pub(crate) fn make(x: RingInputs) -> RingMade
     requires { ⌜ (ones (x .«response_mask») ≡ 4) × (ones (x .«key_mask») ≡ 10) ⌝ }
@@ -82,9 +56,11 @@ pub(crate) fn make(x: RingInputs) -> RingMade
     let d = tb4_of(key1, key2);
     let response1 = first.response;
     let response2 = second.response;
+    let front = join_10_16(d, core(root, rso));
+    let back = join_10_16(c, tb7_of(group_key));
     RingMade {
         refusal: 0,
-        ring: halves(joined(d, core(root, rso)), joined(c, tb7_of(group_key))),
+        ring: join_26_26(front, back),
         response1,
         response2,
     }

@@ -12,7 +12,8 @@ returns : tie.Need-returns
 unfolding ringCall
 returns c =
     let x = c .before .before .before .before .before .before .before .before .before .args in
-    let t : haveLengths (now (x .root)) (now (x .rs)) (now (x .rso)) (now (x .rand1)) (now (x .rand2)) (now (x .c)) (now (x .group-key)) ≡ false = not-true _ (c .before .if1 .taken) in
+    let t : haveLengths (now (x .root)) (now (x .rs)) (now (x .rso)) (now (x .rand1)) (now (x .rand2)) (now (x .c)) (now (x .group-key)) ≡ false =
+    not-true _ (c .before .if1 .taken) in
     rw (c .refused-ring .ensures, t)
 
 returns-2 : tie.Need-returns-2
@@ -20,7 +21,16 @@ returns-2 c =
     let c10 = c .before .before in
     let rand1 = c10 .before .before in
     let root = rand1 .before .before .before in
-    rw (c .ring-of .ensures, c .before .array12 .ensures, c10 .array105 .ensures, c10 .before .array104 .ensures, rand1 .array103 .ensures, rand1 .before .array102 .ensures, rand1 .before .before .array10 .ensures, root .array16 .ensures)
+    rw (
+      c .ring-of .ensures,
+      c .before .array12 .ensures,
+      c10 .array105 .ensures,
+      c10 .before .array104 .ensures,
+      rand1 .array103 .ensures,
+      rand1 .before .array102 .ensures,
+      rand1 .before .before .array10 .ensures,
+      root .array16 .ensures,
+    )
     (ring-long _ _ _ _ _ _ _ _ _ _ (not-false _ (root .before .if1 .left)))
 
 pub ring-spec : {M : Type 1} → statement M

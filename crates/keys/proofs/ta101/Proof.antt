@@ -24,7 +24,16 @@ returns-3 c =
     let x = tested .before .before .before .args in
     let t = passed (tested .have-lengths .ensures) (fit .before .if1 .left) in
     let s = both-spelled 16 10 (now (x .ks)) (now (x .gck0)) t in
-    rw (c .core .ensures, c .before .int .ensures, c .before .before .array10 .ensures, c .before .before .before .array16 .ensures, s .0, s .1, t, lt-ltb _ _ (fit .if2 .left))
+    rw (
+      c .core .ensures,
+      c .before .int .ensures,
+      c .before .before .array10 .ensures,
+      c .before .before .before .array16 .ensures,
+      s .0,
+      s .1,
+      t,
+      lt-ltb _ _ (fit .if2 .left),
+    )
 
 pub ta101-spec : {M : Type 1} → statement M
 ta101-spec =

@@ -30,7 +30,17 @@ returns-3 c =
     let t = passed (tested .have-lengths .ensures) (accepted .before .before .if1 .left) in
     let s = both-spelled 16 10 (now (x .session-key)) (now (x .challenge)) t in
     let m : first (maskTests (x .response-mask) (x .key-mask)) ≡ 0 = sym (accepted .before .mask-refusal .ensures) ∙ accepted .if2 .left in
-    rw (c .split .ensures, whole-split (x .response-mask) (x .key-mask) _ (search needs) (search needs) (masks-ones _ _ m), c .before .core .ensures, c .before .before .array10 .ensures, c .before .before .before .array16 .ensures, s .0, s .1, t, m)
+    rw (
+      c .split .ensures,
+      whole-split (x .response-mask) (x .key-mask) _ (search needs) (search needs) (masks-ones _ _ m),
+      c .before .core .ensures,
+      c .before .before .array10 .ensures,
+      c .before .before .before .array16 .ensures,
+      s .0,
+      s .1,
+      t,
+      m,
+    )
 
 pub ta12-spec : {M : Type 1} → statement M
 ta12-spec =

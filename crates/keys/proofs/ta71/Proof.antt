@@ -12,7 +12,12 @@ returns-2 : tie.Need-returns-2
 unfolding ta71Call ta71 ta71Key
 returns-2 c =
     let tested = c .before .before .before in
-    rw (c .ta71-of .ensures, c .before .array102 .ensures, c .before .before .array10 .ensures, passed (tested .before .have-lengths .ensures) (tested .if1 .left))
+    rw (
+      c .ta71-of .ensures,
+      c .before .array102 .ensures,
+      c .before .before .array10 .ensures,
+      passed (tested .before .have-lengths .ensures) (tested .if1 .left),
+    )
 
 pub ta71-spec : {M : Type 1} → statement M
 ta71-spec =

@@ -14,7 +14,13 @@ returns-2 c =
     let start = c .before .before .before in
     let x = start .before .args in
     let t : x .runs ≡ true = not-false _ (start .if1 .left) in
-    rw (c .split .ensures, whole-split (x .response-mask) (x .key-mask) _ (search needs) (search needs) (start .before .pre), c .before .core2 .ensures, c .before .before .core .ensures, t)
+    rw (
+      c .split .ensures,
+      whole-split (x .response-mask) (x .key-mask) _ (search needs) (search needs) (start .before .pre),
+      c .before .core2 .ensures,
+      c .before .before .core .ensures,
+      t,
+    )
 
 pub half-spec : {M : Type 1} → statement M
 half-spec =

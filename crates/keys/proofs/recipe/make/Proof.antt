@@ -16,8 +16,9 @@ returns c =
     let o₂ : second .half2 .result ≡ half2 x = rw (second .half2 .ensures, second .before .before .reversed .ensures) in
     let d : mixed .tb4-of .result ≡ tb4 (half1 x .key) (half2 x .key) = rw (o₁, o₂) at (mixed .tb4-of .ensures) in
     let made =
-    ring-made x (mixed .tb4-of .result) (front .before .core .result) (c .before .before .tb7-of .result) d (front .before .core .ensures) (c .before .before .tb7-of .ensures)
-    _ _ _ (front .joined .ensures) (c .before .joined2 .ensures) (c .halves .ensures) in
+    ring-made x (mixed .tb4-of .result) (front .before .core .result) (c .before .before .tb7-of .result)
+    d (front .before .core .ensures) (c .before .before .tb7-of .ensures) _ _ _ (front .join-10-16 .ensures) (c .before .join-10-162 .ensures)
+    (c .join-26-26 .ensures) in
     rw (made, o₁, o₂)
 
 pub make-spec : {M : Type 1} → statement M
