@@ -58,6 +58,13 @@ def forget() -> None:
     _read.clear()
 
 
+def _remember(handle: int) -> None:
+    """Remembers that a file is read."""
+    found = os.fstat(handle)
+    if stat.S_ISREG(found.st_mode):
+        _read.add((found.st_dev, found.st_ino))
+
+
 def keep(name: str) -> None:
     """Raises Problem if a file was read: it is no place for an output."""
     try:
@@ -74,12 +81,11 @@ def read(name: str) -> bytes:
         if name == STANDARD:
             if sys.stdin is None:
                 raise Problem("standard input: it is closed")
+            _remember(sys.stdin.fileno())
             data = sys.stdin.buffer.read(MOST_BYTES + 1)
         else:
             with open(name, "rb") as file:
-                found = os.fstat(file.fileno())
-                if stat.S_ISREG(found.st_mode):
-                    _read.add((found.st_dev, found.st_ino))
+                _remember(file.fileno())
                 data = file.read(MOST_BYTES + 1)
     except (OSError, ValueError) as error:
         said = reason(error) if isinstance(error, OSError) else str(error)

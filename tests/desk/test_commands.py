@@ -522,6 +522,12 @@ class Bad(Case):
         key = ("call", "encrypt", "--key", "@key", "--block", bytes(8).hex())
         self.fails(2, f"key: {files.READ}", *key, "-o", "key", cwd=self.folder)
         self.assertEqual({path: path.read_bytes() for path in before}, before)
+        self.file("book", PLAIN_BOOK)
+        with open(self.folder / "book", "rb") as book:
+            done = subprocess.run([*COMMAND, "list", "-o", "book"], stdin=book, cwd=self.folder,
+                                  capture_output=True, check=False)  # fmt: skip
+        self.assertEqual((done.returncode, (self.folder / "book").read_bytes()), (2, PLAIN_BOOK))
+        self.assertEqual(done.stderr.decode(), f"taa1: book: {files.READ}\n")
         for options in ((), ("--csv",), ("--json",), ("--dry",), ("--html", "pages")):
             for _ in range(2):  # the second time, what the first one wrote is replaced
                 done = taa1("mark", *INPUTS, "class", "-o", "class/marks", *options, cwd=self.folder)
