@@ -15,7 +15,8 @@ use Rattle.standard.proofs.FirstLaws.{all-pass}
 use Rattle.standard.proofs.LineageLaws.{from-same, value-long, parents-before, value-step}
 use Rattle.standard.specs.Bytes.{part}
 use Rattle.standard.specs.Derivation.{ta11, ta21, ta41, ta71}
-use Rattle.standard.specs.Lineage.{operation, parent1, parent2, derivedLength, keyLength, filled, parentTests, lineageFault, derived, valueFrom, valueOf, lineageCall}
+use Rattle.standard.specs.Lineage.{operation, parent1, parent2, derivedLength, keyLength, filled, parentTests, lineageFault}
+use Rattle.standard.specs.Lineage.{derived, valueFrom, valueOf, lineageCall}
 use Rattle.standard.specs.Lists.{recordAt, joined, listTests, refused}
 use Rattle.standard.specs.Mixing.{tb4}
 use Rattle.standard.specs.Refusals.{wrongFilling, wrongParent, parentLength, first}

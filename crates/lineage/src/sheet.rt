@@ -1,6 +1,6 @@
 // A sheet's records, and the values that are written for them.
-use arrays::array16;
 use arrays::copy;
+use arrays::part16;
 use standard::SHEET_RECORD;
 use standard::SHEET_VALUE;
 use standard::pair;
@@ -30,7 +30,7 @@ pub(crate) fn value_at(values: &[u8], i: usize) -> Value
     ensures { λ r. ⌜ r ≡ recordAt valueSize (now (values .entry)) i ⌝ }
 {
     let a = SHEET_VALUE * i;
-    array16(&values[a..a + SHEET_VALUE])
+    part16(values, a)
 }
 
 // The indexes of a record's parents.

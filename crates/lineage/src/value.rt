@@ -7,11 +7,11 @@ use crate::sheet::second_parent;
 use crate::sheet::value_at;
 use arrays::array10;
 use arrays::array16;
+use arrays::part16;
 use keys::core;
 use keys::reversed;
 use keys::ta71_of;
 use mixing::tb4_of;
-use standard::SHEET_RECORD;
 ghost use mathlib.Core.Path.{_≡_};
 ghost use Prim.Native.Nat.{_+_, _*_, _≤_};
 ghost use lib.ListN.{length};
@@ -23,7 +23,7 @@ ghost use Rattle.lineage.specs.SheetValues.{fromValues};
 fn given(p: Record) -> Value
     ensures { λ r. ⌜ r ≡ part 6 16 p ⌝ }
 {
-    array16(&p[6..SHEET_RECORD])
+    part16(&p, 6)
 }
 
 // TA11, TA21, TA41, TB4 or TA71 of the keys in two values.

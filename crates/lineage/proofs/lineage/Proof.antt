@@ -19,14 +19,18 @@ returns-2 c =
     let lens = found .before .before in
     let x = lens .before .before .before .args in
     rw (c .refused2 .ensures)
-    (record-refused (now (x .sheet)) (now (x .out)) _ (lens .lengths-and-output .ensures) (found .before .if1 .left) _ _ (found .scan .ensures) (c .before .if2 .taken))
+    (record-refused (now (x .sheet)) (now (x .out)) _ (lens .lengths-and-output .ensures) (found .before .if1 .left) _ _ (found .scan .ensures)
+    (c .before .if2 .taken))
 
 write-requires : tie.Need-write-requires
 write-requires c κs =
     let found = c .before .before .before in
     let lens = found .before .before in
-    let x = lens .before .before .before .args in
-    (records-within sheetSize (length (now (x .sheet))), room (now (x .sheet)) (now (x .out)) _ (lens .lengths-and-output .ensures) (found .before .if1 .left), found .scan .ensures .none (c .before .if2 .left))
+    let x = lens .before .before .before .args in (
+      records-within sheetSize (length (now (x .sheet))),
+      room (now (x .sheet)) (now (x .out)) _ (lens .lengths-and-output .ensures) (found .before .if1 .left),
+      found .scan .ensures .none (c .before .if2 .left),
+    )
 
 returns-3 : tie.Need-returns-3
 returns-3 c =
@@ -34,7 +38,8 @@ returns-3 c =
     let found = made .before .before .before .before in
     let lens = found .before .before in
     let x = lens .before .before .before .args in
-    all-written (now (x .sheet)) (now (x .out)) _ (lens .lengths-and-output .ensures) (found .before .if1 .left) (found .scan .ensures .none (made .before .before .if2 .left)) _ (made .write .ensures)
+    all-written (now (x .sheet)) (now (x .out)) _ (lens .lengths-and-output .ensures) (found .before .if1 .left)
+    (found .scan .ensures .none (made .before .before .if2 .left)) _ (made .write .ensures)
 
 pub lineage-spec : {M : Type 1} → statement M
 lineage-spec =

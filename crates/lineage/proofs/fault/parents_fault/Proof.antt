@@ -13,13 +13,15 @@ returns c =
 
 record-at-requires : tie.Need-record-at-requires
 record-at-requires c κs =
-    let q = both-below (c .before .before .first-parent .result) (c .before .second-parent .result) (c .before .before .before .before .args .i) (not-false _ (c .if1 .left)) in
+    let q = both-below (c .before .before .first-parent .result) (c .before .second-parent .result) (c .before .before .before .before .args .i)
+    (not-false _ (c .if1 .left)) in
     omega (arith, q .0)
 
 record-at-requires-2 : tie.Need-record-at-requires-2
 record-at-requires-2 c κs =
     let tested = c .before .before in
-    let q = both-below (tested .before .before .first-parent .result) (tested .before .second-parent .result) (tested .before .before .before .before .args .i) (not-false _ (tested .if1 .left)) in
+    let q = both-below (tested .before .before .first-parent .result) (tested .before .second-parent .result)
+    (tested .before .before .before .before .args .i) (not-false _ (tested .if1 .left)) in
     omega (arith, q .1)
 
 returns-2 : tie.Need-returns-2
@@ -27,16 +29,20 @@ returns-2 c =
     let lengths = c .before in
     let tested = lengths .before .before .before .before .before in
     let x = tested .before .before .before .before .args in
-    other-length (now (x .sheet)) (x .t2) (x .i) _ _ (tested .before .before .first-parent .ensures) (tested .before .second-parent .ensures) (not-false _ (tested .if1 .left)) _ _ _
-    (lengths .before .before .before .key-length .ensures) (lengths .before .before .before .before .record-at .ensures) (lengths .before .key-length2 .ensures) (lengths .before .before .record-at2 .ensures) (lengths .derived-length .ensures) (not-true _ (c .if2 .taken))
+    other-length (now (x .sheet)) (x .t2) (x .i) _ _ (tested .before .before .first-parent .ensures) (tested .before .second-parent .ensures)
+    (not-false _ (tested .if1 .left)) _ _ _
+    (lengths .before .before .before .key-length .ensures) (lengths .before .before .before .before .record-at .ensures)
+    (lengths .before .key-length2 .ensures) (lengths .before .before .record-at2 .ensures) (lengths .derived-length .ensures) (not-true _ (c .if2 .taken))
 
 returns-3 : tie.Need-returns-3
 returns-3 c =
     let lengths = c .before in
     let tested = lengths .before .before .before .before .before in
     let x = tested .before .before .before .before .args in
-    parents-fit (now (x .sheet)) (x .t2) (x .i) _ _ (tested .before .before .first-parent .ensures) (tested .before .second-parent .ensures) (not-false _ (tested .if1 .left)) _ _ _
-    (lengths .before .before .before .key-length .ensures) (lengths .before .before .before .before .record-at .ensures) (lengths .before .key-length2 .ensures) (lengths .before .before .record-at2 .ensures) (lengths .derived-length .ensures) (not-false _ (c .if2 .left))
+    parents-fit (now (x .sheet)) (x .t2) (x .i) _ _ (tested .before .before .first-parent .ensures) (tested .before .second-parent .ensures)
+    (not-false _ (tested .if1 .left)) _ _ _
+    (lengths .before .before .before .key-length .ensures) (lengths .before .before .before .before .record-at .ensures)
+    (lengths .before .key-length2 .ensures) (lengths .before .before .record-at2 .ensures) (lengths .derived-length .ensures) (not-false _ (c .if2 .left))
 
 pub parents-fault-spec : {M : Type 1} → statement M
 parents-fault-spec =

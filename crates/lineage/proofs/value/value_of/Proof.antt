@@ -33,7 +33,8 @@ value-at-requires-2 c κs =
     let made = c .before .before .before .before in
     let start = made .before .before .before in
     let e = made .record-at .ensures in
-    let q = parents-before (now (start .args .sheet)) (start .args .i) (start .pre .2) (λ z. c .before .before .before .if1 .left (ap (λ (p : List ℕ). p ! 0) e ∙ z)) in
+    let q = parents-before (now (start .args .sheet)) (start .args .i) (start .pre .2)
+    (λ z. c .before .before .before .if1 .left (ap (λ (p : List ℕ). p ! 0) e ∙ z)) in
     omega (arith, c .second-parent .ensures ∙ ap parent2 e, q .1)
 
 returns-2 : tie.Need-returns-2

@@ -25,8 +25,11 @@ loop-holds c = (zero-le, prefix-none valueSize _ (value-long _) _)
 
 value-of-requires : tie.Need-value-of-requires Inv-loop μ-loop
 value-of-requires c κs =
-    let turn = c .before in
-    (search needs, omega (arith, turn .before .loop .inv .1 .kept), turn .before .before .before .before .pre .2 (turn .before .loop .i) (turn .loop-test .taken))
+    let turn = c .before in (
+      search needs,
+      omega (arith, turn .before .loop .inv .1 .kept),
+      turn .before .before .before .before .pre .2 (turn .before .loop .i) (turn .loop-test .taken),
+    )
 
 part-copy-start : tie.Need-part-copy-start Inv-loop μ-loop
 part-copy-start c = omega (arith, c .before .before .before .before .loop .inv .1 .kept)
@@ -43,7 +46,8 @@ loop-again c =
     let x = start .args in
     let long : length (made .value-of .result) ≡ valueSize = search needs in (
       omega arith,
-      prefix-more valueSize (valueOf (now (x .sheet))) (value-long (now (x .sheet))) (now (x .out)) (at .i) (at .out) (at .inv .1) (search needs) (made .value-of .result) _
+      prefix-more valueSize (valueOf (now (x .sheet))) (value-long (now (x .sheet))) (now (x .out)) (at .i) (at .out) (at .inv .1) (search needs)
+          (made .value-of .result) _
           (made .value-of .ensures ∙ value-next (now (x .sheet)) (at .out) (at .i) (x .n) (start .pre .2) (turn .loop-test .taken) (now (x .out)) (at .inv .1))
           (rw long at (c .before .before .copy .ensures)),
     )
