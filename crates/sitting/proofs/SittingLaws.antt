@@ -28,12 +28,14 @@ module _ (s : List ℕ) where
   }
 
   sitting-long : length s ≡ sittingSize
-      → ringCall (part 0 16 s) (part 16 10 s) (part 26 10 s) (part 36 10 s) (part 46 10 s) (part 56 10 s) (part 66 12 s) (s ! 78) (256 * s ! 79 + s ! 80) (256 * s ! 81 + s ! 82)
+      → ringCall (part 0 16 s) (part 16 10 s) (part 26 10 s) (part 36 10 s) (part 46 10 s) (part 56 10 s) (part 66 12 s) (s ! 78)
+      (256 * s ! 79 + s ! 80) (256 * s ! 81 + s ! 82)
       ≡ sittingRing s
   unfolding sittingRing
   sitting-long h = rw (eq-eqb _ _ h)
 
   pub sitting-recipe : length s ≡ sittingSize → ringOf inputs ≡ sittingRing s
   sitting-recipe h =
-      ring-long (part 0 16 s) (part 16 10 s) (part 26 10 s) (part 36 10 s) (part 46 10 s) (part 56 10 s) (part 66 12 s) (s ! 78) (256 * s ! 79 + s ! 80) (256 * s ! 81 + s ! 82) refl
+      ring-long (part 0 16 s) (part 16 10 s) (part 26 10 s) (part 36 10 s) (part 46 10 s) (part 56 10 s) (part 66 12 s) (s ! 78)
+      (256 * s ! 79 + s ! 80) (256 * s ! 81 + s ! 82) refl
       ∙ sitting-long h
