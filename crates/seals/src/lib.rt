@@ -4,6 +4,7 @@ use arrays::array12;
 use arrays::array15;
 use arrays::array16;
 use arrays::have_lengths;
+use arrays::join_10_2;
 use standard::Algorithm;
 use standard::Bytes15;
 use standard::KeyNumber;
@@ -25,7 +26,8 @@ ghost use Prim.Native.Nat.{_+_, _*_};
 ghost use Rattle.standard.specs.Bytes.{_!_, part, zeros};
 ghost use Rattle.seals.specs.UnsealedBodies.{unsealedBody, opened16};
 ghost use Rattle.standard.specs.Refusals.{wrongLength, first, answer15};
-ghost use Rattle.standard.specs.Seals.{formOf, sealed as sealedOf, opened as openedOf, number2 as number2Of, ta31Call, ta32Call, ta51Call, ta52Call, ta81Call, ta82Call, ta91Call, ta92Call};
+ghost use Rattle.standard.specs.Seals.{formOf, sealed as sealedOf, opened as openedOf, number2 as number2Of};
+ghost use Rattle.standard.specs.Seals.{ta31Call, ta32Call, ta51Call, ta52Call, ta81Call, ta82Call, ta91Call, ta92Call};
 
 // A sealed text's bytes.
 const TEXT: usize = 15;
@@ -43,26 +45,13 @@ fn refused15(refusal: u32) -> Bytes15
 fn body(k: [u8; 10], x: u8, y: u8) -> [u8; 12]
     ensures { λ r. ⌜ r ≡ part 0 10 k ++ (x ∷ y ∷ []) ⌝ }
 {
-    [
-        k[0],
-        k[1],
-        k[2],
-        k[3],
-        k[4],
-        k[5],
-        k[6],
-        k[7],
-        k[8],
-        k[9],
-        x,
-        y,
-    ]
+    join_10_2(k, [x, y])
 }
 
 fn key_part(b: [u8; 12]) -> [u8; 10]
     ensures { λ r. ⌜ r ≡ part 0 10 b ⌝ }
 {
-    [b[0], b[1], b[2], b[3], b[4], b[5], b[6], b[7], b[8], b[9]]
+    array10(&b)
 }
 
 fn number51(b: [u8; 12]) -> u16

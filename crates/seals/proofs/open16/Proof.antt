@@ -4,7 +4,15 @@ use Rattle.seals.proofs.open16.Statement.{statement}
 use Rattle.seals.proofs.open16.Tie as tie
 
 returns : tie.Need-returns
-returns c = rw (c .open-if .ensures, c .before .array15 .ensures, c .before .before .key16 .ensures, c .before .before .before .array16 .ensures, c .before .before .before .before .have-lengths .ensures, key16-part, opened-part)
+returns c = rw (
+  c .open-if .ensures,
+  c .before .array15 .ensures,
+  c .before .before .key16 .ensures,
+  c .before .before .before .array16 .ensures,
+  c .before .before .before .before .have-lengths .ensures,
+  key16-part,
+  opened-part,
+)
 
 pub open16-spec : {M : Type 1} → statement M
 open16-spec =

@@ -5,7 +5,14 @@ use Rattle.seals.proofs.ta31.Tie as tie
 
 returns : tie.Need-returns
 unfolding ta31Call seal key10
-returns c = rw (c .seal-if .ensures, c .before .body .ensures, c .before .before .array102 .ensures, c .before .before .before .key10 .ensures, c .before .before .before .before .array10 .ensures, c .before .before .before .before .before .have-lengths .ensures)
+returns c = rw (
+  c .seal-if .ensures,
+  c .before .body .ensures,
+  c .before .before .array102 .ensures,
+  c .before .before .before .key10 .ensures,
+  c .before .before .before .before .array10 .ensures,
+  c .before .before .before .before .before .have-lengths .ensures,
+)
 
 pub ta31-spec : {M : Type 1} → statement M
 ta31-spec =

@@ -10,7 +10,14 @@ returns c =
     let o = c .before .before in
     let key = o .before .before in
     rw (c .key-part .ensures)
-    (key-out (o .open-if .result) form31 _ _ (rw (o .before .array15 .ensures, key .key10 .ensures, key .before .array10 .ensures, key .before .before .have-lengths .ensures, key10-part, opened-part) at (o .open-if .ensures)))
+    (key-out (o .open-if .result) form31 _ _ (rw (
+      o .before .array15 .ensures,
+      key .key10 .ensures,
+      key .before .array10 .ensures,
+      key .before .before .have-lengths .ensures,
+      key10-part,
+      opened-part,
+    ) at (o .open-if .ensures)))
 
 pub ta32-spec : {M : Type 1} → statement M
 ta32-spec =

@@ -21,7 +21,15 @@ returns-3 c =
     let key = c .before .before .before .before in
     let fit = key .before .before in
     let tested = fit .before .before in
-    rw (c .seal-if .ensures, c .before .body .ensures, c .before .before .before .array10 .ensures, key .key16 .ensures, key .before .array16 .ensures, passed (tested .before .have-lengths .ensures) (tested .if1 .left), le-leb _ _ (fit .if2 .left))
+    rw (
+      c .seal-if .ensures,
+      c .before .body .ensures,
+      c .before .before .before .array10 .ensures,
+      key .key16 .ensures,
+      key .before .array16 .ensures,
+      passed (tested .before .have-lengths .ensures) (tested .if1 .left),
+      le-leb _ _ (fit .if2 .left),
+    )
 
 pub ta51-spec : {M : Type 1} → statement M
 ta51-spec =

@@ -8,7 +8,14 @@ returns : tie.Need-returns
 unfolding ta81Call seal key16
 returns c =
     let key = c .before .before .before .before .before in
-    rw (c .seal-if .ensures, c .before .body .ensures, c .before .before .array10 .ensures, key .key16 .ensures, key .before .array16 .ensures, key .before .before .have-lengths .ensures) (simp div-one)
+    rw (
+      c .seal-if .ensures,
+      c .before .body .ensures,
+      c .before .before .array10 .ensures,
+      key .key16 .ensures,
+      key .before .array16 .ensures,
+      key .before .before .have-lengths .ensures,
+    ) (simp div-one)
 
 pub ta81-spec : {M : Type 1} → statement M
 ta81-spec =

@@ -5,7 +5,13 @@ use Rattle.seals.proofs.ta91.Tie as tie
 
 returns : tie.Need-returns
 unfolding ta91Call seal key16
-returns c = rw (c .seal-if .ensures, c .before .array12 .ensures, c .before .before .key16 .ensures, c .before .before .before .array16 .ensures, c .before .before .before .before .have-lengths .ensures)
+returns c = rw (
+  c .seal-if .ensures,
+  c .before .array12 .ensures,
+  c .before .before .key16 .ensures,
+  c .before .before .before .array16 .ensures,
+  c .before .before .before .before .have-lengths .ensures,
+)
 
 pub ta91-spec : {M : Type 1} → statement M
 ta91-spec =
