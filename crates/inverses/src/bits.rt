@@ -1,17 +1,12 @@
 // Fields of eight bytes, and the test whether two strings are the same.
 use arrays::array8;
+use arrays::word;
+use arrays::xor8;
 ghost use mathlib.Core.Path.{_≡_};
-ghost use Prim.Native.Nat.{_+_, _*_, _≤_};
+ghost use Prim.Native.Nat.{_+_, _≤_};
 ghost use lib.ListN.{length};
 ghost use Rattle.standard.specs.Bytes.{xors, number as numberOf, same as sameOf};
 ghost use Rattle.standard.specs.Inverses.{field as fieldOf};
-
-// The number that four bytes spell.
-fn word(a: u8, b: u8, c: u8, d: u8) -> u32
-    ensures { λ r. ⌜ r ≡ 16777216 * a + 65536 * b + 256 * c + d ⌝ }
-{
-    16777216 * (a as u32) + 65536 * (b as u32) + 256 * (c as u32) + (d as u32)
-}
 
 // The number that eight bytes spell.
 fn number(b: [u8; 8]) -> u64
@@ -28,21 +23,6 @@ pub(crate) fn field(b: [u8; 8], from: u64, width: u64) -> u32
     ensures { λ r. ⌜ r ≡ fieldOf from width b ⌝ }
 {
     ((number(b) >> (64 - (from + width))) % (1u64 << width)) as u32
-}
-
-fn xor8(a: [u8; 8], b: [u8; 8]) -> [u8; 8]
-    ensures { λ r. ⌜ r ≡ xors 8 a b ⌝ }
-{
-    [
-        a[0] ^ b[0],
-        a[1] ^ b[1],
-        a[2] ^ b[2],
-        a[3] ^ b[3],
-        a[4] ^ b[4],
-        a[5] ^ b[5],
-        a[6] ^ b[6],
-        a[7] ^ b[7],
-    ]
 }
 
 // The first eight bytes of what was mixed into a key.

@@ -35,7 +35,15 @@ returns-3 c =
     let tested = made .before .before .before in
     let x = tested .before .before .before .before .args in
     let t : wide (x .width) ≡ true = passed (tested .before .wide .ensures) (tested .if2 .left) in
-    rw (c .confirmed .ensures, made .tb1 .ensures, made .before .field .ensures, made .before .before .array8 .ensures, tb1-again (part 0 8 (now (x .result))) (x .width) t, eq-eqb _ _ (tested .before .before .if1 .left), t)
+    rw (
+      c .confirmed .ensures,
+      made .tb1 .ensures,
+      made .before .field .ensures,
+      made .before .before .array8 .ensures,
+      tb1-again (part 0 8 (now (x .result))) (x .width) t,
+      eq-eqb _ _ (tested .before .before .if1 .left),
+      t,
+    )
 
 pub tb1-inverse-spec : {M : Type 1} → statement M
 tb1-inverse-spec =

@@ -20,7 +20,11 @@ returns-2 : tie.Need-returns-2
 unfolding tb3⁻¹Call
 returns-2 c =
     let tested = c .before .before .before in
-    rw (c .refused-value2 .ensures, passed (tested .before .have-lengths .ensures) (tested .if1 .left), failed (c .before .before .wide .ensures) (c .before .if2 .taken))
+    rw (
+      c .refused-value2 .ensures,
+      passed (tested .before .have-lengths .ensures) (tested .if1 .left),
+      failed (c .before .before .wide .ensures) (c .before .if2 .taken),
+    )
 
 field-requires : tie.Need-field-requires
 field-requires c κs =
@@ -45,7 +49,15 @@ returns-3 c =
     passed (long-tested .before .have-lengths .ensures) (long-tested .if1 .left) in
     let t : wide (x .width) ≡ true = passed (tested .before .wide .ensures) (tested .if2 .left) in
     let b = xors 8 (now (x .input)) (now (x .result)) in
-    rw (c .confirmed .ensures, made .tb3 .ensures, made .before .field .ensures, made .before .before .unmixed .ensures, tb3-again (now (x .input)) b (x .width) (and-split _ _ l .0) t, l, t)
+    rw (
+      c .confirmed .ensures,
+      made .tb3 .ensures,
+      made .before .field .ensures,
+      made .before .before .unmixed .ensures,
+      tb3-again (now (x .input)) b (x .width) (and-split _ _ l .0) t,
+      l,
+      t,
+    )
 
 pub tb3-inverse-spec : {M : Type 1} → statement M
 tb3-inverse-spec =

@@ -29,7 +29,13 @@ returns-2 c =
     let x = tested .before .before .before .before .args in
     let l : hasLength 10 (now (x .cipher-key)) && hasLength 10 (now (x .result)) ≡ true = passed (tested .before .have-lengths .ensures) (tested .if1 .left) in
     let b = xors 8 (now (x .cipher-key)) (now (x .result)) in
-    let e = rw (made .tb6 .ensures, made .before .field2 .ensures, made .before .before .field .ensures, made .before .before .before .unmixed .ensures, tb6-again (now (x .cipher-key)) b (and-split _ _ l .0)) at (c .before .before .same .ensures) in
+    let e = rw (
+      made .tb6 .ensures,
+      made .before .field2 .ensures,
+      made .before .before .field .ensures,
+      made .before .before .before .unmixed .ensures,
+      tb6-again (now (x .cipher-key)) b (and-split _ _ l .0),
+    ) at (c .before .before .same .ensures) in
     rw (c .refused-pair2 .ensures, l, failed e (c .before .if2 .taken))
 
 returns-3 : tie.Need-returns-3
@@ -40,7 +46,13 @@ returns-3 c =
     let x = tested .before .before .before .before .args in
     let l : hasLength 10 (now (x .cipher-key)) && hasLength 10 (now (x .result)) ≡ true = passed (tested .before .have-lengths .ensures) (tested .if1 .left) in
     let b = xors 8 (now (x .cipher-key)) (now (x .result)) in
-    let e = rw (made .tb6 .ensures, made .before .field2 .ensures, made .before .before .field .ensures, made .before .before .before .unmixed .ensures, tb6-again (now (x .cipher-key)) b (and-split _ _ l .0)) at (c .before .same .ensures) in
+    let e = rw (
+      made .tb6 .ensures,
+      made .before .field2 .ensures,
+      made .before .before .field .ensures,
+      made .before .before .before .unmixed .ensures,
+      tb6-again (now (x .cipher-key)) b (and-split _ _ l .0),
+    ) at (c .before .same .ensures) in
     rw (made .before .field2 .ensures, made .before .before .field .ensures, made .before .before .before .unmixed .ensures, l, passed e (c .if2 .left))
 
 pub tb6-inverse-spec : {M : Type 1} → statement M

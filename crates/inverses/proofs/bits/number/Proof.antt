@@ -9,7 +9,7 @@ returns : tie.Need-returns
 returns c =
     let b = c .before .before .args .t1 in
     let n : length b ≡ 8 = search needs in
-    number8 b n _ _ (c .before .word .ensures) (c .word2 .ensures)
+    number8 b n _ _ (c .before .word .ensures .0) (c .word2 .ensures .0)
 
 pub number-spec : {M : Type 1} → statement M
 number-spec =
