@@ -111,6 +111,9 @@ _ENTRY = re.compile(r"\W*?(\d+)\b(.*)$")
 
 def is_form(text: str) -> bool:
     """Whether a text has the tables of the answer form."""
+    words = text.lower()
+    if "sealed" not in words and "value" not in words:  # as most texts
+        return False
     return any(_KEYS.match(line) or _BOOK.match(line) for line in text.splitlines())
 
 

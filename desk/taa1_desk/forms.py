@@ -7,6 +7,8 @@ import base64
 import re
 from typing import Callable, NamedTuple, Optional
 
+from taa1 import MOST_RECORDS
+
 from .files import MOST_BYTES, from_hex, is_printed
 from .records import SEALED
 
@@ -155,6 +157,8 @@ def fields(text: str) -> bytes:
     hexadecimal; the entry's number may stand in front."""
     found = []
     for number, line in enumerate(text.splitlines(), 1):
+        if line.startswith("#"):
+            continue
         words = re.sub(r"#.*|//.*|\b0[xX]|[,;|]|\b[A-Za-z]+[:=]", " ", line).split()
         numbered = len(words) > 4 and len(words[1]) != 6  # the identity is the third word
         kind, identity, version, *digits = words[numbered:] if len(words) > 3 else ("", "", "")
@@ -182,8 +186,11 @@ class Rows(NamedTuple):
 
 def rows(text: str) -> Rows:
     """The records of lines of digits, of which some have too few or too many, or others."""
-    found, problems = [], []
+    found: list[bytes] = []
+    problems: list[str] = []
     for number, line in enumerate(text.splitlines(), 1):
+        if len(problems) > MOST_RECORDS:  # no book has so many lines
+            return Rows(b"", tuple(problems))
         digits = re.sub(r"\s|#.*|//.*|[-,;:\[\]()'\"]|\\x|\b0[xX]", "", line)
         if digits and not re.fullmatch("[0-9a-fA-F]+", digits):
             problems.append(f"line {number} has other than hexadecimal digits, and is not read")

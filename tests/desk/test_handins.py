@@ -396,11 +396,11 @@ class Forms(unittest.TestCase):
                 data[at : at + draw.randint(0, 3)] = draw.randbytes(draw.randint(0, 3))
             sheet = READER.mark("a", bytes(data))
             self.assertTrue(sheet.problem is None or sheet.problem.isprintable())
-        start = time.monotonic()
+        start = time.process_time()
         for part in (b"/* ", b"{", b"b'", b"0x", b"00000000 01\n", b"*\n", b"01 ", b"b\"\\", b"\1", b"# \r"):
             data = part * (MOST_BYTES // len(part))
             self.assertIsNotNone(READER.mark("a", data).problem, part)
-        self.assertLess(time.monotonic() - start, 60)
+        self.assertLess(time.process_time() - start, 30)
 
     def test_forced(self) -> None:
         """A form that is given is not questioned; what can't be read so is said."""

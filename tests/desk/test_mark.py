@@ -446,7 +446,7 @@ class Command(Case):
         self.assertEqual(done.status, 1)
         lines = done.error.splitlines()
         self.assertEqual(lines[0], f"taa1: {missing}: No such file or directory")
-        words = "this looks like text that is no hexadecimal: an odd number of hexadecimal digits, 3 "
+        words = "this looks like an odd number of hexadecimal digits, 3 "
         words += "(a record is wanted in 42 digits)"
         self.assertEqual(lines[1], f"taa1: {odd}: {words}; --as {odd}=bytes marks it all the same")
         sheets = json.loads(done.out)["sheets"]
