@@ -15,8 +15,8 @@ use Rattle.standard.specs.Lists.{each, listTests, refused}
 use Rattle.standard.specs.Refusals.{wrongLength, first}
 use Rattle.standard.specs.Runs.{firstPass, secondPass, callRuns}
 use Rattle.standard.specs.Sizes.{ringSize}
-use Rattle.books.specs.BothDirections.{sizeOf, toOf, recordOf, wayOf, faultAt, inspectionAt}
-use Rattle.books.specs.declared.walk.Way.{Way}
+use Rattle.books.specs.BothDirections.{sizeOf, outputSizeOf, recordOf, conversionOf, faultAt, inspectionAt}
+use Rattle.books.specs.declared.direction.Direction.{Direction}
 
 -- ---- the cipher runs
 
@@ -35,24 +35,25 @@ module _ (head n : ℕ) (g l : ℕ → ℕ) where
 
 -- ---- the answer, the output and the runs
 
-module _ (r : List ℕ) (w : Way) (xs out : List ℕ) where
+module _ (r : List ℕ) (w : Direction) (xs out : List ℕ) where
   abbrev n : ℕ
   n = length xs / sizeOf w
 
   abbrev bytes : ℕ
-  bytes = toOf w * n
+  bytes = outputSizeOf w * n
 
   abbrev made : List ℕ
   made = each n (sizeOf w) (recordOf r w) xs
 
-  pub ring-refused : (length r ≡ ringSize → ⊥) → counted (refused wrongLength 0, out) 0 ≡ bookCall (wayOf r w) r xs out
+  pub ring-refused : (length r ≡ ringSize → ⊥) → counted (refused wrongLength 0, out) 0 ≡ bookCall (conversionOf r w) r xs out
   unfolding bookCall
   ring-refused h =
       rw (ne-eqb _ _ h)
-      (ap₂ counted (call-refused wrongLength n (faultAt r w xs) bytes made out (λ e. omega arith)) (runs-refused wrongLength n (faultAt r w xs) (inspectionAt w xs) (λ e. omega arith)))
+      (ap₂ counted (call-refused wrongLength n (faultAt r w xs) bytes made out (λ e. omega arith))
+      (runs-refused wrongLength n (faultAt r w xs) (inspectionAt w xs) (λ e. omega arith)))
 
-  module _ (h : length r ≡ ringSize) (refusal : ℕ) (e : refusal ≡ first (listTests (sizeOf w) (toOf w) (length xs) (length out))) where
-    pub lengths-refused : (refusal ≡ 0 → ⊥) → counted (refused refusal 0, out) 0 ≡ bookCall (wayOf r w) r xs out
+  module _ (h : length r ≡ ringSize) (refusal : ℕ) (e : refusal ≡ first (listTests (sizeOf w) (outputSizeOf w) (length xs) (length out))) where
+    pub lengths-refused : (refusal ≡ 0 → ⊥) → counted (refused refusal 0, out) 0 ≡ bookCall (conversionOf r w) r xs out
     unfolding bookCall
     lengths-refused z =
         rw (eq-eqb _ _ h, ← e)
@@ -60,7 +61,7 @@ module _ (r : List ℕ) (w : Way) (xs out : List ℕ) where
 
     module _ (z : refusal ≡ 0) where
       pub record-refused : (k i runs : ℕ) → Stopped n (faultAt r w xs) k i → runs ≡ firstPass n (faultAt r w xs) (inspectionAt w xs) → (k ≡ 0 → ⊥)
-          → counted (refused k i, out) runs ≡ bookCall (wayOf r w) r xs out
+          → counted (refused k i, out) runs ≡ bookCall (conversionOf r w) r xs out
       unfolding bookCall
       record-refused k i runs s p f =
           rw (eq-eqb _ _ h, ← e)
@@ -69,11 +70,12 @@ module _ (r : List ℕ) (w : Way) (xs out : List ℕ) where
 
       pub all-written : Clean (faultAt r w xs) n → (exit : List ℕ) → exit ≡ made ++ drop bytes out
           → (inspections writes : ℕ) → inspections ≡ firstPass n (faultAt r w xs) (inspectionAt w xs) → writes ≡ secondPass n
-          → (record { refusal = 0; index = n; written = bytes; runs = inspections + writes }, exit) ≡ bookCall (wayOf r w) r xs out
+          → (record { refusal = 0; index = n; written = bytes; runs = inspections + writes }, exit) ≡ bookCall (conversionOf r w) r xs out
       unfolding bookCall
       all-written none exit k inspections writes p q =
           rw (eq-eqb _ _ h, ← e)
-          (ap₂ counted (call-done refusal n (faultAt r w xs) bytes made out z none exit k) (ap₂ _+_ p q ∙ runs-done refusal n (faultAt r w xs) (inspectionAt w xs) z none))
+          (ap₂ counted (call-done refusal n (faultAt r w xs) bytes made out z none exit k)
+          (ap₂ _+_ p q ∙ runs-done refusal n (faultAt r w xs) (inspectionAt w xs) z none))
 
       pub room : bytes ≤ length out
-      room = leb-true _ _ (all-pass (listTests (sizeOf w) (toOf w) (length xs) (length out)) refl (sym e ∙ z) 2)
+      room = leb-true _ _ (all-pass (listTests (sizeOf w) (outputSizeOf w) (length xs) (length out)) refl (sym e ∙ z) 2)

@@ -1,2 +1,2 @@
-pub mod WayLaws
+pub mod DirectionLaws
 pub mod BookReturnLaws

@@ -1,51 +1,21 @@
 // The walk over a book's records. A scan hands each record, as a part of the book, to a function that knows one record only; the pass
 // that writes leaves that to `convert`, for one record or for four.
-use crate::convert::convert_four;
 use crate::convert::convert_one;
+use crate::convert::convert_x4;
+use crate::direction::Direction;
+use records::Inspection;
 use records::identity_strings_of;
 use records::inspect_sealed;
 use records::plain_fault;
-use standard::PLAIN_RECORD;
 use standard::RingBytes;
-use standard::SEALED_RECORD;
 ghost use mathlib.Core.List.{_++_};
 ghost use mathlib.Core.Path.{_≡_};
-ghost use Prim.Native.Nat.{_*_, _≤_};
+ghost use Prim.Native.Nat.{_+_, _*_, _≤_};
 ghost use lib.ListN.{length, drop};
 ghost use Rattle.lists.specs.Walks.{Stopped};
-ghost use Rattle.standard.specs.Books.{plainFault};
-ghost use Rattle.standard.specs.Lists.{recordAt, each};
+ghost use Rattle.standard.specs.Lists.{each};
 ghost use Rattle.standard.specs.Runs.{textRuns, firstPass, secondPass};
-ghost use Rattle.standard.specs.Sizes.{plainSize, sealedSize};
-ghost use Rattle.books.specs.BothDirections.{sizeOf, toOf, convertOf, recordOf, faultAt, inspectionAt};
-ghost use Rattle.books.specs.declared.walk.Way.the-variants.{Opening};
-
-pub enum Way {
-    Sealing,
-    Opening,
-}
-
-impl Way {
-    // The bytes of a record that comes in.
-    pub(crate) fn size(self) -> u32
-        ensures { λ r. ⌜ r ≡ sizeOf self ⌝ }
-    {
-        match self {
-            Way::Sealing => PLAIN_RECORD as u32,
-            Way::Opening => SEALED_RECORD as u32,
-        }
-    }
-
-    // The bytes of a record that goes out.
-    pub(crate) fn to(self) -> u32
-        ensures { λ r. ⌜ r ≡ toOf self ⌝ }
-    {
-        match self {
-            Way::Sealing => SEALED_RECORD as u32,
-            Way::Opening => PLAIN_RECORD as u32,
-        }
-    }
-}
+ghost use Rattle.books.specs.BothDirections.{sizeOf, outputSizeOf, faultOf, inspectionOf, convertOf, recordOf, faultAt, inspectionAt};
 
 // Where a scan stopped, at the first record that is refused or behind the last with 0, and the block cipher runs that it took.
 pub struct Stop {
@@ -54,40 +24,37 @@ pub struct Stop {
     pub runs: usize,
 }
 
-pub(crate) fn scan_plain(plain: &[u8], n: usize) -> Stop
-    requires { ⌜ plainSize * n ≤ length (now plain) ⌝ }
-    ensures { λ s. ⌜ Stopped n (λ i. plainFault (recordAt plainSize (now (plain .entry)) i)) (s .refusal) (s .index) × (s .runs ≡ 0) ⌝ }
+// A look at a record: its refusal, or 0, and the block cipher runs that the look took.
+fn inspect(direction: Direction, ring: &RingBytes, rec: &[u8]) -> Inspection
+    ensures { λ l. ⌜ (l .refusal ≡ faultOf (now (ring .entry)) direction (now (rec .entry))) × (l .runs ≡ inspectionOf direction (now (rec .entry))) ⌝ }
 {
-    let mut index = 0;
-    while index < n {
-        let a = PLAIN_RECORD * index;
-        let refusal = plain_fault(&plain[a..a + PLAIN_RECORD]);
-        if refusal != 0 {
-            return Stop {
-                refusal,
-                index,
-                runs: 0,
-            };
-        }
-        index += 1;
-    }
-    Stop {
-        refusal: 0,
-        index: n,
-        runs: 0,
+    match direction {
+        Direction::Sealing => Inspection {
+            refusal: plain_fault(rec),
+            runs: 0,
+        },
+        Direction::Opening => inspect_sealed(ring, rec),
     }
 }
 
-fn scan_sealed(ring: &RingBytes, sealed: &[u8], n: usize) -> Stop
-    requires { ⌜ sealedSize * n ≤ length (now sealed) ⌝ }
-    ensures { λ s. ⌜ Stopped n (faultAt (now (ring .entry)) Opening (now (sealed .entry))) (s .refusal) (s .index)
-        × (s .runs ≡ firstPass n (faultAt (now (ring .entry)) Opening (now (sealed .entry))) (inspectionAt Opening (now (sealed .entry)))) ⌝ }
+fn inspect_at(direction: Direction, ring: &RingBytes, book: &[u8], i: usize) -> Inspection
+    requires { ⌜ sizeOf direction * i + sizeOf direction ≤ length (now book) ⌝ }
+    ensures { λ l. ⌜ (l .refusal ≡ faultAt (now (ring .entry)) direction (now (book .entry)) i) × (l .runs ≡ inspectionAt direction (now (book .entry)) i) ⌝ }
+{
+    let size = direction.size() as usize;
+    let a = size * i;
+    inspect(direction, ring, &book[a..a + size])
+}
+
+pub(crate) fn scan(direction: Direction, ring: &RingBytes, book: &[u8], n: usize) -> Stop
+    requires { ⌜ sizeOf direction * n ≤ length (now book) ⌝ }
+    ensures { λ s. ⌜ Stopped n (faultAt (now (ring .entry)) direction (now (book .entry))) (s .refusal) (s .index)
+        × (s .runs ≡ firstPass n (faultAt (now (ring .entry)) direction (now (book .entry))) (inspectionAt direction (now (book .entry)))) ⌝ }
 {
     let mut runs = 0;
     let mut index = 0;
     while index < n {
-        let a = SEALED_RECORD * index;
-        let inspection = inspect_sealed(ring, &sealed[a..a + SEALED_RECORD]);
+        let inspection = inspect_at(direction, ring, book, index);
         runs += inspection.runs;
         if inspection.refusal != 0 {
             return Stop {
@@ -105,39 +72,30 @@ fn scan_sealed(ring: &RingBytes, sealed: &[u8], n: usize) -> Stop
     }
 }
 
-pub(crate) fn scan(way: Way, ring: &RingBytes, book: &[u8], n: usize) -> Stop
-    requires { ⌜ sizeOf way * n ≤ length (now book) ⌝ }
-    ensures { λ s. ⌜ Stopped n (faultAt (now (ring .entry)) way (now (book .entry))) (s .refusal) (s .index)
-        × (s .runs ≡ firstPass n (faultAt (now (ring .entry)) way (now (book .entry))) (inspectionAt way (now (book .entry)))) ⌝ }
-{
-    match way {
-        Way::Sealing => scan_plain(book, n),
-        Way::Opening => scan_sealed(ring, book, n),
-    }
-}
-
 // The converted records, each at its own place in the output, four at a time and then the rest; the block cipher runs that they took.
 fn write_with(
-    way: Way,
+    direction: Direction,
     ring: &RingBytes,
     identity_strings: [u8; 8],
     book: &[u8],
     n: usize,
     out: &mut [u8],
 ) -> usize
-    requires { ⌜ (sizeOf way * n ≤ length (now book)) × (toOf way * n ≤ length (now out)) ⌝ }
-    ensures { λ r. ⌜ (now (out .exit) ≡ each n (sizeOf way) (convertOf (now (ring .entry)) «identity_strings» way) (now (book .entry)) ++ drop (toOf way * n) (now (out .entry)))
+    requires { ⌜ (sizeOf direction * n ≤ length (now book)) × (outputSizeOf direction * n ≤ length (now out)) ⌝ }
+    ensures { λ r. ⌜ (now (out .exit)
+        ≡ each n (sizeOf direction) (convertOf (now (ring .entry)) «identity_strings» direction) (now (book .entry))
+        ++ drop (outputSizeOf direction * n) (now (out .entry)))
         × (r ≡ textRuns * n) ⌝ }
 {
     let mut runs = 0;
     let mut i = 0;
     while n - i >= 4 {
-        let four = convert_four(way, ring, identity_strings, book, n, i, out);
+        let four = convert_x4(direction, ring, identity_strings, book, i, out);
         runs += four;
         i += 4;
     }
     while i < n {
-        let one = convert_one(way, ring, identity_strings, book, n, i, out);
+        let one = convert_one(direction, ring, identity_strings, book, i, out);
         runs += one;
         i += 1;
     }
@@ -145,9 +103,16 @@ fn write_with(
 }
 
 // The identity strings are made once for a book, and for no empty one.
-pub(crate) fn write(way: Way, ring: &RingBytes, book: &[u8], n: usize, out: &mut [u8]) -> usize
-    requires { ⌜ (sizeOf way * n ≤ length (now book)) × (toOf way * n ≤ length (now out)) ⌝ }
-    ensures { λ r. ⌜ (now (out .exit) ≡ each n (sizeOf way) (recordOf (now (ring .entry)) way) (now (book .entry)) ++ drop (toOf way * n) (now (out .entry)))
+pub(crate) fn write(
+    direction: Direction,
+    ring: &RingBytes,
+    book: &[u8],
+    n: usize,
+    out: &mut [u8],
+) -> usize
+    requires { ⌜ (sizeOf direction * n ≤ length (now book)) × (outputSizeOf direction * n ≤ length (now out)) ⌝ }
+    ensures { λ r. ⌜ (now (out .exit)
+        ≡ each n (sizeOf direction) (recordOf (now (ring .entry)) direction) (now (book .entry)) ++ drop (outputSizeOf direction * n) (now (out .entry)))
         × (r ≡ secondPass n) ⌝ }
 {
     if n == 0 {
@@ -156,6 +121,6 @@ pub(crate) fn write(way: Way, ring: &RingBytes, book: &[u8], n: usize, out: &mut
     let identity_strings = identity_strings_of(ring);
     let b = identity_strings.bytes;
     let made = identity_strings.runs;
-    let wrote = write_with(way, ring, b, book, n, out);
+    let wrote = write_with(direction, ring, b, book, n, out);
     made + wrote
 }

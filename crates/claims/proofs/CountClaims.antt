@@ -8,6 +8,7 @@ use native.Mathlib.Omega.{arith}
 use lib.ListN.{length}
 use borrow.Author.Tests.{le-leb}
 use Rattle.standard.specs.Bytes.{_!_, part, bytesOf, number, Bytes}
+use Rattle.standard.specs.Facts.{sealingSize}
 use Rattle.standard.specs.Seals.{formOf, body31, body51, seal, unseal}
 use Rattle.standard.specs.declared.Algorithm.{Algorithm}
 use Rattle.standard.specs.declared.Algorithm.the-variants.{Ta31, Ta51, Ta81, Ta91}
@@ -15,7 +16,7 @@ use Rattle.standard.specs.declared.Version.{Version}
 use Rattle.standard.proofs.BytesLaws.{spell, bytes-of, bytes-append, bytes-cons, bytes-one, bytes-part, bytes-zero}
 use Rattle.standard.proofs.InverseLaws.{Inverse}
 use Rattle.standard.proofs.SealLaws.{body31-zeros, body51-number, sealing}
-use Rattle.claims.specs.Entries.{Count, Legal, sealingSize, Opens}
+use Rattle.claims.specs.Entries.{Count, Legal, Opens}
 use Rattle.claims.specs.TrueClaims.{howMany, HowMany}
 use Rattle.claims.proofs.NumberLaws.{numbered}
 use Rattle.claims.proofs.OnlyLaws.{inverse-then, inverse-same, counted, counted-then}

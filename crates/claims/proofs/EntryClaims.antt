@@ -13,6 +13,7 @@ use borrow.Author.Tests.{eqb-true, eqb-false, eq-eqb, le-leb}
 use Rattle.standard.specs.Books.{plainFault, sealRecord, openFault, openRecord, bookCall, openBook}
 use Rattle.standard.specs.Bytes.{part, same, Bytes, Passed}
 use Rattle.standard.specs.Demand3.{IsSealedForm}
+use Rattle.standard.specs.Facts.{sealingSize}
 use Rattle.standard.specs.Lists.{answer, written}
 use Rattle.standard.specs.Seals.{formOf, failed, seal}
 use Rattle.standard.specs.Sizes.{ringSize, plainSize, sealedSize}
@@ -24,7 +25,7 @@ use Rattle.standard.proofs.CheckLaws.{clear-same}
 use Rattle.standard.proofs.Demand3Laws.{demand3}
 use Rattle.standard.proofs.RecordLaws.{Plain, Sealed, record-law}
 use Rattle.standard.proofs.SealLaws.{Body, form-law, sealing}
-use Rattle.claims.specs.Entries.{OfOne, Legal, sealingSize, sealCall, Unsealing, unsealCall, Opens}
+use Rattle.claims.specs.Entries.{OfOne, Legal, sealCall, Unsealing, unsealCall, Opens}
 use Rattle.claims.specs.TrueClaims.{ChecksExactly, OneText, OneRecord, OneBook, RecordAlone}
 use Rattle.claims.proofs.OnlyLaws.{of-image, of-one-same}
 use Rattle.claims.proofs.TermLaws.{pair, legal-body, sealing-size, sealed-by, unsealing-size, unsealed-by, opens-clear}

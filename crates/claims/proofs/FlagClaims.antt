@@ -12,6 +12,7 @@ use borrow.Author.Tests.{eqb-true, eq-eqb, le-leb, ltb-true, ltb-false}
 use Rattle.standard.specs.Bytes.{_!_, _⊕_, part, xors, Bytes}
 use Rattle.standard.specs.Cores.{bl2}
 use Rattle.standard.specs.Expansions.{xorOf, exp1Groups, exp3Groups, x16Groups, shr2}
+use Rattle.standard.specs.Facts.{sealingSize}
 use Rattle.standard.specs.Hurdle.{decrypt}
 use Rattle.standard.specs.Seals.{formOf, failed, seal, unseal, fails, opened}
 use Rattle.standard.specs.declared.Algorithm.{Algorithm}
@@ -24,7 +25,7 @@ use Rattle.standard.proofs.CoreLaws.{sealCore, unsealCore, core}
 use Rattle.standard.proofs.ExpansionLaws.{bytes-ungrouped}
 use Rattle.standard.proofs.SealLaws.{form-law, sealing}
 use Rattle.standard.proofs.XorLaws.{xor-cancel-l, xor-byte}
-use Rattle.claims.specs.Entries.{Legal, sealingSize, Unsealing, unsealCall}
+use Rattle.claims.specs.Entries.{Legal, Unsealing, unsealCall}
 use Rattle.claims.specs.TrueClaims.{Another, UnsealsAllTheSame, changed, Carried, Noticed, noticedFrom}
 use Rattle.claims.proofs.ChangeLaws.{changed-elsewhere, changed-xors, xor-changed}
 use Rattle.claims.proofs.TermLaws.{pair, legal-body, sealed-by, unsealing-size, opened-bytes, unsealed-by, failed-by}

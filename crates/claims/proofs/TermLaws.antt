@@ -11,6 +11,7 @@ use lib.ListN.{length}
 use borrow.Author.Tests.{eqb-true, eq-eqb, le-leb, ltb-true}
 use Rattle.standard.specs.Bytes.{_!_, bytesOf, Bytes}
 use Rattle.standard.specs.Expansions.{x16Groups}
+use Rattle.standard.specs.Facts.{sealingSize}
 use Rattle.standard.specs.Refusals.{hasLength, wrongLength, wrongNumber}
 use Rattle.standard.specs.Seals.{formOf, form81, key16, opened, seal, unseal, fails, number2, body31, body51, body81, ta31Call, ta32Call, ta51Call, ta52Call, ta81Call, ta82Call, ta91Call, ta92Call}
 use Rattle.standard.specs.declared.Algorithm.{Algorithm}
@@ -21,7 +22,7 @@ use Rattle.standard.proofs.CoreLaws.{unsealCore, core}
 use Rattle.standard.proofs.ExpansionLaws.{bytes-ungrouped}
 use Rattle.standard.proofs.FirstLaws.{all-pass}
 use Rattle.standard.proofs.SealLaws.{Body, Clear, body31-zeros, body51-number}
-use Rattle.claims.specs.Entries.{Legal, sealingSize, sealCall, Unsealing, unsealCall, Opens}
+use Rattle.claims.specs.Entries.{Legal, sealCall, Unsealing, unsealCall, Opens}
 
 -- a list of literals is a string of bytes, by a test that computes
 pub literal-bytes : (xs : List ℕ) → every (length xs) (λ i. ltb (xs ! i) 256) ≡ true → Bytes (length xs) xs

@@ -46,13 +46,6 @@ pub record Legal (a : Algorithm) (b : List ℕ) : Type 0 where
 
 -- ---- the single calls, over the algorithm
 
--- how many bytes the sealing key has: D's, or O's and G's
-abbrev pub sealingSize : Algorithm → ℕ
-sealingSize Ta31 = 10
-sealingSize Ta51 = 16
-sealingSize Ta81 = 16
-sealingSize Ta91 = 16
-
 -- sealing: the key, and the number where there is one, are taken out of the body
 abbrev pub sealCall : Algorithm → (b : List ℕ) → Version → (s : List ℕ) → Bytes15
 sealCall Ta31 b v s = ta31Call (part 0 10 b) v s

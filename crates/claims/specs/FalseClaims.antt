@@ -8,6 +8,7 @@ use lib.ListN.{length}
 use Rattle.standard.specs.Books.{ringKey, commonKey, WellFormed, sealedForm, openFault, openRecord}
 use Rattle.standard.specs.Bytes.{_!_, part, xors, zeros, bytesOf, Bytes}
 use Rattle.standard.specs.Demand3.{IsSealedForm}
+use Rattle.standard.specs.Facts.{sealingSize}
 use Rattle.standard.specs.Hurdle.{f}
 use Rattle.standard.specs.Lists.{recordAt, each}
 use Rattle.standard.specs.Seals.{repeated, ta52Call, ta82Call, ta92Call}
@@ -16,7 +17,7 @@ use Rattle.standard.specs.declared.Algorithm.{Algorithm}
 use Rattle.standard.specs.declared.Algorithm.the-variants.{Ta81, Ta91}
 use Rattle.standard.specs.declared.RingKey.the-variants.{D, O, G}
 use Rattle.standard.specs.declared.Version.{Version}
-use Rattle.claims.specs.Entries.{sealingSize, sealCall, unsealCall, upward, version7}
+use Rattle.claims.specs.Entries.{sealCall, unsealCall, upward, version7}
 
 -- ---- kinds
 

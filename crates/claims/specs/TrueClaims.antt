@@ -11,6 +11,7 @@ use Rattle.standard.specs.Books.{plainFault, sealRecord, openFault, openRecord,
 use Rattle.standard.specs.Bytes.{_!_, _⊕_, part, table, choose, Bytes}
 use Rattle.standard.specs.Cores.{bl1}
 use Rattle.standard.specs.Demand3.{IsSealedForm}
+use Rattle.standard.specs.Facts.{sealingSize}
 use Rattle.standard.specs.Hurdle.{encryptCall, decryptCall}
 use Rattle.standard.specs.Seals.{formOf, failed, without8, opened, ta51Call, ta52Call}
 use Rattle.standard.specs.Sizes.{ringSize, plainSize, sealedSize}
@@ -18,7 +19,7 @@ use Rattle.standard.specs.declared.Algorithm.{Algorithm}
 use Rattle.standard.specs.declared.Algorithm.the-variants.{Ta31, Ta51, Ta81, Ta91}
 use Rattle.standard.specs.declared.KeyNumber.{KeyNumber}
 use Rattle.standard.specs.declared.Version.{Version}
-use Rattle.claims.specs.Entries.{Only, OfOne, ExactlyOne, Count, Legal, sealingSize, sealCall, unsealCall, Opens}
+use Rattle.claims.specs.Entries.{Only, OfOne, ExactlyOne, Count, Legal, sealCall, unsealCall, Opens}
 use Rattle.claims.specs.Variants.{ta52WithoutBits}
 
 -- 1: "Decryption undoes encryption." And encryption undoes decryption. The lengths are those that the calls take; others are refused

@@ -3,6 +3,7 @@
 use arrays::array10;
 use arrays::array16;
 use arrays::copy;
+use arrays::join_4_10;
 use cores::CoreOutput16;
 use cores::bl1_with;
 use cores::exp2;
@@ -19,125 +20,104 @@ use standard::CHALLENGE;
 use standard::WRONG_LENGTH;
 ghost use mathlib.Core.List.{_++_};
 ghost use mathlib.Core.Path.{_≡_};
-ghost use Prim.Native.Nat.{_+_, _*_, _<_, _≤_};
+ghost use Prim.Native.Nat.{_+_, _*_, _≤_};
 ghost use lib.ListN.{length, drop};
 ghost use Rattle.cores_four.specs.Lanes.{lane16};
-ghost use Rattle.lists.specs.Walks.{putAt, putFour};
-ghost use Rattle.standard.specs.Bytes.{part};
+ghost use Rattle.lists.specs.Walks.{after, replaceAt, replaceX4};
 ghost use Rattle.standard.specs.Classes.{ta12ClassCall};
-ghost use Rattle.standard.specs.Expansions.{exp2 as exp2Of};
 ghost use Rattle.standard.specs.Lists.{recordAt, each};
 ghost use Rattle.standard.specs.Sizes.{challengeSize, authenticationSize};
-ghost use Rattle.classes.specs.ClassRecords.{recordFrom, recordWith};
+ghost use Rattle.classes.specs.ClassRecords.{inputAt, recordFrom, recordWith};
 
-fn joined(response: [u8; 4], key: [u8; 10]) -> [u8; AUTHENTICATION]
-    ensures { λ r. ⌜ r ≡ part 0 4 response ++ part 0 10 key ⌝ }
-{
-    [
-        response[0],
-        response[1],
-        response[2],
-        response[3],
-        key[0],
-        key[1],
-        key[2],
-        key[3],
-        key[4],
-        key[5],
-        key[6],
-        key[7],
-        key[8],
-        key[9],
-    ]
-}
-
-// The record of an output of the core, at place i of n.
-fn put_at(o: CoreOutput16, response_mask: u16, key_mask: u16, n: usize, i: usize, out: &mut [u8])
-    requires { ⌜ (i < n) × (authenticationSize * n ≤ length (now out)) ⌝ }
-    ensures { λ _. ⌜ now (out .exit) ≡ putAt authenticationSize i (recordFrom «response_mask» «key_mask» (o .output)) (now (out .entry)) ⌝ }
+// The record of an output of the core, at place i.
+fn write_at(o: CoreOutput16, response_mask: u16, key_mask: u16, i: usize, out: &mut [u8])
+    requires { ⌜ authenticationSize * i + authenticationSize ≤ length (now out) ⌝ }
+    ensures { λ _. ⌜ now (out .exit) ≡ replaceAt authenticationSize i (recordFrom «response_mask» «key_mask» (o .output)) (now (out .entry)) ⌝ }
 {
     let output = o.output;
     let a = split(output, response_mask, key_mask);
     let response = a.response;
     let key = a.key;
     let b = AUTHENTICATION * i;
-    copy(&joined(response, key), &mut out[b..b + AUTHENTICATION]);
+    copy(
+        &join_4_10(response, key),
+        &mut out[b..b + AUTHENTICATION],
+    );
 }
 
-// Challenge i of n, expanded.
-fn input_at(challenges: &[u8], n: usize, i: usize) -> [u8; 16]
-    requires { ⌜ (i < n) × (challengeSize * n ≤ length (now challenges)) ⌝ }
-    ensures { λ r. ⌜ r ≡ exp2Of (recordAt challengeSize (now (challenges .entry)) i) ⌝ }
+// Challenge i, expanded.
+fn input_at(challenges: &[u8], i: usize) -> [u8; 16]
+    requires { ⌜ challengeSize * i + challengeSize ≤ length (now challenges) ⌝ }
+    ensures { λ r. ⌜ r ≡ inputAt (now (challenges .entry)) i ⌝ }
 {
     let a = CHALLENGE * i;
     exp2(array10(&challenges[a..a + CHALLENGE]))
 }
 
-// The record of challenge i of n, under the session key's round keys.
+// The record of challenge i, under the session key's round keys.
 fn write_one(
     keys: &[u8; 192],
     challenges: &[u8],
     response_mask: u16,
     key_mask: u16,
-    n: usize,
     i: usize,
     out: &mut [u8],
 )
-    requires { ⌜ (i < n) × (challengeSize * n ≤ length (now challenges)) × (authenticationSize * n ≤ length (now out)) ⌝ }
-    ensures { λ _. ⌜ now (out .exit) ≡ putAt authenticationSize i (recordWith (now (keys .entry)) «response_mask» «key_mask» (recordAt challengeSize (now (challenges .entry)) i)) (now (out .entry)) ⌝ }
+    requires { ⌜ (challengeSize * i + challengeSize ≤ length (now challenges)) × (authenticationSize * i + authenticationSize ≤ length (now out)) ⌝ }
+    ensures { λ _. ⌜ now (out .exit)
+        ≡ replaceAt authenticationSize i (recordWith (now (keys .entry)) «response_mask» «key_mask» (recordAt challengeSize (now (challenges .entry)) i))
+        (now (out .entry)) ⌝ }
 {
-    let o = bl1_with(keys, input_at(challenges, n, i));
-    put_at(o, response_mask, key_mask, n, i, out);
+    let o = bl1_with(keys, input_at(challenges, i));
+    write_at(o, response_mask, key_mask, i, out);
 }
 
-fn inputs_at(challenges: &[u8], n: usize, i: usize) -> Strings16
-    requires { ⌜ (i + 4 ≤ n) × (challengeSize * n ≤ length (now challenges)) ⌝ }
-    ensures { λ r. ⌜ (r .a ≡ exp2Of (recordAt challengeSize (now (challenges .entry)) i)) × (r .b ≡ exp2Of (recordAt challengeSize (now (challenges .entry)) (i + 1)))
-        × (r .c ≡ exp2Of (recordAt challengeSize (now (challenges .entry)) (i + 2))) × (r .d ≡ exp2Of (recordAt challengeSize (now (challenges .entry)) (i + 3))) ⌝ }
+fn inputs_at(challenges: &[u8], i: usize) -> Strings16
+    requires { ⌜ challengeSize * (i + 4) ≤ length (now challenges) ⌝ }
+    ensures { λ r. ⌜ (r .a ≡ inputAt (now (challenges .entry)) i) × (r .b ≡ inputAt (now (challenges .entry)) (i + 1))
+        × (r .c ≡ inputAt (now (challenges .entry)) (i + 2)) × (r .d ≡ inputAt (now (challenges .entry)) (i + 3)) ⌝ }
 {
     Strings16 {
-        a: input_at(challenges, n, i),
-        b: input_at(challenges, n, i + 1),
-        c: input_at(challenges, n, i + 2),
-        d: input_at(challenges, n, i + 3),
+        a: input_at(challenges, i),
+        b: input_at(challenges, i + 1),
+        c: input_at(challenges, i + 2),
+        d: input_at(challenges, i + 3),
     }
 }
 
-fn put_four(
+fn write_at_x4(
     o: [CoreOutput16; 4],
     response_mask: u16,
     key_mask: u16,
-    n: usize,
     i: usize,
     out: &mut [u8],
 )
-    requires { ⌜ (i + 4 ≤ n) × (authenticationSize * n ≤ length (now out)) ⌝ }
-    ensures { λ _. ⌜ now (out .exit) ≡ putAt authenticationSize (i + 3) (recordFrom «response_mask» «key_mask» (lane16 o 3 .output))
-        (putAt authenticationSize (i + 2) (recordFrom «response_mask» «key_mask» (lane16 o 2 .output))
-        (putAt authenticationSize (i + 1) (recordFrom «response_mask» «key_mask» (lane16 o 1 .output))
-        (putAt authenticationSize i (recordFrom «response_mask» «key_mask» (lane16 o 0 .output)) (now (out .entry))))) ⌝ }
+    requires { ⌜ authenticationSize * (i + 4) ≤ length (now out) ⌝ }
+    ensures { λ _. ⌜ now (out .exit) ≡ replaceX4 authenticationSize i (λ j. recordFrom «response_mask» «key_mask» (lane16 o j .output)) (now (out .entry)) ⌝ }
 {
-    put_at(o[0], response_mask, key_mask, n, i, out);
-    put_at(o[1], response_mask, key_mask, n, i + 1, out);
-    put_at(o[2], response_mask, key_mask, n, i + 2, out);
-    put_at(o[3], response_mask, key_mask, n, i + 3, out);
+    write_at(o[0], response_mask, key_mask, i, out);
+    write_at(o[1], response_mask, key_mask, i + 1, out);
+    write_at(o[2], response_mask, key_mask, i + 2, out);
+    write_at(o[3], response_mask, key_mask, i + 3, out);
 }
 
 // The records of challenges i to i + 3.
-fn write_four(
+fn write_x4(
     keys: &[u8; 192],
     challenges: &[u8],
     response_mask: u16,
     key_mask: u16,
-    n: usize,
     i: usize,
     out: &mut [u8],
 )
-    requires { ⌜ (i + 4 ≤ n) × (challengeSize * n ≤ length (now challenges)) × (authenticationSize * n ≤ length (now out)) ⌝ }
-    ensures { λ _. ⌜ now (out .exit) ≡ putFour authenticationSize i (λ j. recordWith (now (keys .entry)) «response_mask» «key_mask» (recordAt challengeSize (now (challenges .entry)) j)) (now (out .entry)) ⌝ }
+    requires { ⌜ (challengeSize * (i + 4) ≤ length (now challenges)) × (authenticationSize * (i + 4) ≤ length (now out)) ⌝ }
+    ensures { λ _. ⌜ now (out .exit)
+        ≡ replaceX4 authenticationSize i
+        (λ j. recordWith (now (keys .entry)) «response_mask» «key_mask» (recordAt challengeSize (now (challenges .entry)) (after i j)))
+        (now (out .entry)) ⌝ }
 {
-    let o = bl1_four_with(keys, keys, keys, keys, inputs_at(challenges, n, i));
-    put_four(o, response_mask, key_mask, n, i, out);
+    let o = bl1_four_with(keys, keys, keys, keys, inputs_at(challenges, i));
+    write_at_x4(o, response_mask, key_mask, i, out);
 }
 
 // The records of n challenges, each at its own place in the output, four at a time and then the rest.
@@ -150,15 +130,17 @@ fn write(
     out: &mut [u8],
 )
     requires { ⌜ (challengeSize * n ≤ length (now challenges)) × (authenticationSize * n ≤ length (now out)) ⌝ }
-    ensures { λ _. ⌜ now (out .exit) ≡ each n challengeSize (recordWith (now (keys .entry)) «response_mask» «key_mask») (now (challenges .entry)) ++ drop (authenticationSize * n) (now (out .entry)) ⌝ }
+    ensures { λ _. ⌜ now (out .exit)
+        ≡ each n challengeSize (recordWith (now (keys .entry)) «response_mask» «key_mask») (now (challenges .entry))
+        ++ drop (authenticationSize * n) (now (out .entry)) ⌝ }
 {
     let mut i = 0;
     while n - i >= 4 {
-        write_four(keys, challenges, response_mask, key_mask, n, i, out);
+        write_x4(keys, challenges, response_mask, key_mask, i, out);
         i += 4;
     }
     while i < n {
-        write_one(keys, challenges, response_mask, key_mask, n, i, out);
+        write_one(keys, challenges, response_mask, key_mask, i, out);
         i += 1;
     }
 }
@@ -170,7 +152,8 @@ pub fn ta12_class(
     key_mask: u16,
     out: &mut [u8],
 ) -> BookAnswer
-    ensures { λ r. ⌜ (r, now (out .exit)) ≡ ta12ClassCall (now («session_key» .entry)) (now (challenges .entry)) «response_mask» «key_mask» (now (out .entry)) ⌝ }
+    ensures { λ r. ⌜ (r, now (out .exit))
+        ≡ ta12ClassCall (now («session_key» .entry)) (now (challenges .entry)) «response_mask» «key_mask» (now (out .entry)) ⌝ }
 {
     if session_key.len() != 16 {
         return refused(WRONG_LENGTH, 0);

@@ -13,11 +13,18 @@ use Rattle.standard.proofs.AnswerLaws.{first-fault, first-one}
 use Rattle.standard.proofs.BookLaws.{joined-length, joined-at}
 use Rattle.standard.proofs.BytesLaws.{part-lent, part-left}
 use Rattle.standard.specs.Lists.{recordAt, joined}
-use Rattle.lists.specs.Walks.{Clean, Stopped, putAt, putFour}
+use Rattle.lists.specs.Walks.{Clean, Stopped, replaceAt, after, replaceX4}
 
 -- the end of record i of n
 pub ends : (w i n : ℕ) → i < n → w * i + w ≤ w * n
 ends w i n h = subst (λ (k : ℕ). k ≤ w * n) (mul-suc w i) (mul-le-mul-left w h)
+
+-- it lies within what has room for n, and so do the first i records
+pub end-fits : (w i n most : ℕ) → i < n → w * n ≤ most → w * i + w ≤ most
+end-fits w i n most h room = omega (arith, room, ends w i n h)
+
+pub first-fit : (w i n most : ℕ) → i ≤ n → w * n ≤ most → w * i ≤ most
+first-fit w i n most h room = omega (arith, room, mul-le-mul-left w h)
 
 -- the part that a turn lends, from w * i to w * i + w, is record i
 pub lent : (w i : ℕ) (xs : List ℕ) → w * i + w ≤ length xs → take (w * i + w - w * i) (drop (w * i) xs) ≡ recordAt w xs i
@@ -101,7 +108,9 @@ module _ (v : ℕ) (g : ℕ → List ℕ) (long : (i : ℕ) → length (g i) ≡
 
         bytes : take (v * i) out ++ (exit ++ drop (v * i + v - v * i) (drop (v * i) out)) ≡ joined (i + 1) g ++ drop (v * (i + 1)) out₀
         bytes =
-            rw (h .bytes, take-at (joined i g) (drop (v * i) out₀) (v * i) (length-joined i), drop-at (joined i g) (drop (v * i) out₀) (v * i) (length-joined i), add-sub-cancel-left (v * i) v, drop-drop v (v * i) out₀, next, made, ← append-assoc)
+            rw (h .bytes, take-at (joined i g) (drop (v * i) out₀) (v * i) (length-joined i),
+            drop-at (joined i g) (drop (v * i) out₀) (v * i) (length-joined i),
+            add-sub-cancel-left (v * i) v, drop-drop v (v * i) out₀, next, made, ← append-assoc)
             (ap (λ (n : ℕ). joined n g ++ drop (v * (i + 1)) out₀) (sym (add-one i)))
 
         lengths : length (joined (i + 1) g ++ drop (v * (i + 1)) out₀) ≡ length out₀
@@ -115,30 +124,28 @@ module _ (v : ℕ) (g : ℕ → List ℕ) (long : (i : ℕ) → length (g i) ≡
 -- ---- strings put at their places
 
 -- the part from v * i on, lent and overwritten whole by y, puts y at place i
-pub put-lent : (v i : ℕ) (out y exit : List ℕ) → v * i + v ≤ length out → length y ≡ v
+pub replaced-lent : (v i : ℕ) (out y exit : List ℕ) → v * i + v ≤ length out → length y ≡ v
     → exit ≡ take (length (take (v * i + v - v * i) (drop (v * i) out))) y ++ drop v (take (v * i + v - v * i) (drop (v * i) out))
-    → take (v * i) out ++ (exit ++ drop (v * i + v - v * i) (drop (v * i) out)) ≡ putAt v i y out
-put-lent v i out y exit room l e =
+    → take (v * i) out ++ (exit ++ drop (v * i + v - v * i) (drop (v * i) out)) ≡ replaceAt v i y out
+replaced-lent v i out y exit room l e =
     let whole : exit ≡ y = overwritten v (take (v * i + v - v * i) (drop (v * i) out)) y exit (lent-length v i out room) l e in
     rw (whole, add-sub-cancel-left (v * i) v, drop-drop v (v * i) out)
 
-pub four-put : (v i : ℕ) (g : ℕ → List ℕ) (out : List ℕ) {x₀ x₁ x₂ x₃ : List ℕ} → x₀ ≡ g i → x₁ ≡ g (i + 1) → x₂ ≡ g (i + 2) → x₃ ≡ g (i + 3)
-    → putAt v (i + 3) x₃ (putAt v (i + 2) x₂ (putAt v (i + 1) x₁ (putAt v i x₀ out))) ≡ putFour v i g out
-four-put v i g out e₀ e₁ e₂ e₃ = rw (e₀, e₁, e₂, e₃)
-
 -- string i at its place; then the four from i on at theirs
 module _ (v : ℕ) (g : ℕ → List ℕ) (long : (i : ℕ) → length (g i) ≡ v) (out₀ : List ℕ) where
-  prefix-put : (i j : ℕ) → j ≡ i + 1 → (out : List ℕ) → PrefixWritten v g out₀ i out → v * i + v ≤ length out₀ → PrefixWritten v g out₀ j (putAt v i (g i) out)
-  prefix-put i j e out h room =
+  prefix-replaced : (i j : ℕ) → j ≡ i + 1 → (out : List ℕ) → PrefixWritten v g out₀ i out → v * i + v ≤ length out₀
+      → PrefixWritten v g out₀ j (replaceAt v i (g i) out)
+  prefix-replaced i j e out h room =
       rw e (rw (add-sub-cancel-left (v * i) v, drop-drop v (v * i) out) at (prefix-next v g long out₀ i out h room (g i) refl))
 
-  prefix-four : (i n : ℕ) → i + 4 ≤ n → v * n ≤ length out₀ → (out : List ℕ) → PrefixWritten v g out₀ i out → PrefixWritten v g out₀ (i + 4) (putFour v i g out)
-  prefix-four i n few room out h =
-      let fits : (j : ℕ) → j < n → v * j + v ≤ length out₀ = λ j l. omega (arith, room, ends v j n l) in
-      let one = prefix-put i (i + 1) refl out h (fits i (omega arith)) in
-      let two = prefix-put (i + 1) (i + 2) (omega arith) _ one (fits (i + 1) (omega arith)) in
-      let three = prefix-put (i + 2) (i + 3) (omega arith) _ two (fits (i + 2) (omega arith)) in
-      prefix-put (i + 3) (i + 4) (omega arith) _ three (fits (i + 3) (omega arith))
+  prefix-x4 : (i : ℕ) → v * (i + 4) ≤ length out₀ → (out : List ℕ) → PrefixWritten v g out₀ i out
+      → PrefixWritten v g out₀ (i + 4) (replaceX4 v i (λ j. g (after i j)) out)
+  prefix-x4 i room out h =
+      let fits : (j : ℕ) → j < i + 4 → v * j + v ≤ length out₀ = λ j l. end-fits v j (i + 4) _ l room in
+      let one = prefix-replaced i (i + 1) refl out h (fits i (omega arith)) in
+      let two = prefix-replaced (i + 1) (i + 2) (omega arith) _ one (fits (i + 1) (omega arith)) in
+      let three = prefix-replaced (i + 2) (i + 3) (omega arith) _ two (fits (i + 2) (omega arith)) in
+      prefix-replaced (i + 3) (i + 4) (omega arith) _ three (fits (i + 3) (omega arith))
 
 -- ---- where f makes the records of v bytes from records of w
 
@@ -149,12 +156,12 @@ module _ (w v : ℕ) (f : List ℕ → List ℕ) (long : (x : List ℕ) → leng
   pub wrote-none : Wrote w v f xs out₀ 0 out₀
   wrote-none = prefix-none v (λ j. f (recordAt w xs j)) (λ j. long (recordAt w xs j)) out₀
 
-  -- record i of n at its place; then four of them
-  pub wrote-one : (i n : ℕ) → i < n → v * n ≤ length out₀ → (out : List ℕ) → Wrote w v f xs out₀ i out → {exit : List ℕ} → exit ≡ putAt v i (f (recordAt w xs i)) out
-      → Wrote w v f xs out₀ (i + 1) exit
-  wrote-one i n h room out k e =
-      rw e (prefix-put v (λ j. f (recordAt w xs j)) (λ j. long (recordAt w xs j)) out₀ i (i + 1) refl out k (omega (arith, room, ends v i n h)))
+  -- record i at its place; then four of them
+  pub wrote-one : (i : ℕ) → v * i + v ≤ length out₀ → (out : List ℕ) → Wrote w v f xs out₀ i out
+      → {exit : List ℕ} → exit ≡ replaceAt v i (f (recordAt w xs i)) out → Wrote w v f xs out₀ (i + 1) exit
+  wrote-one i room out k e =
+      rw e (prefix-replaced v (λ j. f (recordAt w xs j)) (λ j. long (recordAt w xs j)) out₀ i (i + 1) refl out k room)
 
-  pub wrote-four : (i n : ℕ) → i + 4 ≤ n → v * n ≤ length out₀ → (out : List ℕ) → Wrote w v f xs out₀ i out → {exit : List ℕ} → exit ≡ putFour v i (λ j. f (recordAt w xs j)) out
-      → Wrote w v f xs out₀ (i + 4) exit
-  wrote-four i n few room out k e = rw e (prefix-four v (λ j. f (recordAt w xs j)) (λ j. long (recordAt w xs j)) out₀ i n few room out k)
+  pub wrote-x4 : (i : ℕ) → v * (i + 4) ≤ length out₀ → (out : List ℕ) → Wrote w v f xs out₀ i out
+      → {exit : List ℕ} → exit ≡ replaceX4 v i (λ j. f (recordAt w xs (after i j))) out → Wrote w v f xs out₀ (i + 4) exit
+  wrote-x4 i room out k e = rw e (prefix-x4 v (λ j. f (recordAt w xs j)) (λ j. long (recordAt w xs j)) out₀ i room out k)

@@ -2,7 +2,7 @@
 -- Assumes nothing.
 use mathlib.Core.List.{List, _++_}
 use mathlib.Core.Path.{_≡_}
-use Prim.Native.Nat.{ℕ, _+_, _*_, _<_, _≤_}
+use Prim.Native.Nat.{ℕ, zero, suc, _+_, _*_, _<_, _≤_}
 use lib.ListN.{take, drop}
 use Rattle.standard.specs.Lists.{firstFault}
 
@@ -18,9 +18,14 @@ pub record Stopped (n : ℕ) (g : ℕ → ℕ) (refusal index : ℕ) : Type 0 wh
   pub some : (refusal ≡ 0 → ⊥) → (index < n) × (refusal ≡ g index)
 
 -- the string x at place i of an output of strings of v bytes
-abbrev pub putAt : (v i : ℕ) → List ℕ → List ℕ → List ℕ
-putAt v i x out = take (v * i) out ++ (x ++ drop (v * i + v) out)
+abbrev pub replaceAt : (v i : ℕ) → List ℕ → List ℕ → List ℕ
+replaceAt v i x out = take (v * i) out ++ (x ++ drop (v * i + v) out)
+
+-- the index j places after i, as code says it: i itself for 0
+abbrev pub after : ℕ → ℕ → ℕ
+after i zero = i
+after i (suc j) = i + suc j
 
 -- four strings, from place i on
-abbrev pub putFour : (v i : ℕ) → (ℕ → List ℕ) → List ℕ → List ℕ
-putFour v i g out = putAt v (i + 3) (g (i + 3)) (putAt v (i + 2) (g (i + 2)) (putAt v (i + 1) (g (i + 1)) (putAt v i (g i) out)))
+abbrev pub replaceX4 : (v i : ℕ) → (ℕ → List ℕ) → List ℕ → List ℕ
+replaceX4 v i g out = replaceAt v (i + 3) (g 3) (replaceAt v (i + 2) (g 2) (replaceAt v (i + 1) (g 1) (replaceAt v i (g 0) out)))

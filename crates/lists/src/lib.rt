@@ -32,15 +32,15 @@ pub fn lengths(size: u32, list: usize) -> u32
     0
 }
 
-// 1, 2 and 12: the output has fewer than `to` bytes for each record; or 0.
-pub fn lengths_and_output(size: u32, to: u32, list: usize, out: usize) -> u32
-    ensures { λ r. ⌜ r ≡ first (listTests size to list out) ⌝ }
+// 1, 2 and 12: the output has fewer than `output_size` bytes for each record; or 0.
+pub fn lengths_and_output(size: u32, output_size: u32, list: usize, out: usize) -> u32
+    ensures { λ r. ⌜ r ≡ first (listTests size «output_size» list out) ⌝ }
 {
     let refusal = lengths(size, list);
     if refusal != 0 {
         return refusal;
     }
-    if out < to as usize * count(size, list) {
+    if out < output_size as usize * count(size, list) {
         return OUTPUT_SHORT;
     }
     0

@@ -27,10 +27,11 @@ use standard::RingBytes;
 use standard::RingKey;
 use standard::WRONG_KIND;
 use standard::WRONG_NUMBER;
+use texts::CoreInput;
 use texts::body_of;
 use texts::flag_of;
 use texts::input_of;
-use texts::with8;
+use texts::opening_of;
 ghost use mathlib.Core.List.{[], _∷_, _++_};
 ghost use mathlib.Core.Path.{_≡_};
 ghost use lib.Dec.{eqb, leb};
@@ -149,12 +150,6 @@ pub fn kind_of(b: u8) -> Kind
     }
 }
 
-// What the core takes of a record.
-pub struct Task {
-    pub key: [u8; 16],
-    pub input: [u8; 16],
-}
-
 // The core's key for a record, plain or sealed.
 fn key_of(ring: &RingBytes, rec: &[u8]) -> [u8; 16]
     ensures { λ k. ⌜ k ≡ coreKey (now (ring .entry)) (now (rec .entry)) ⌝ }
@@ -171,27 +166,24 @@ fn plain_input(rec: &[u8]) -> [u8; 16]
     input_of(algorithm, part12(rec, 6))
 }
 
-pub fn seal_task(ring: &RingBytes, rec: &[u8]) -> Task
+pub fn sealing_input(ring: &RingBytes, rec: &[u8]) -> CoreInput
     ensures { λ t. ⌜ (t .key ≡ coreKey (now (ring .entry)) (now (rec .entry))) × (t .input ≡ plainInput (now (rec .entry))) ⌝ }
 {
-    Task {
+    CoreInput {
         key: key_of(ring, rec),
         input: plain_input(rec),
     }
 }
 
 // BL2's input for a sealed record is its text.
-pub fn open_task(ring: &RingBytes, rec: &[u8]) -> Task
+pub fn opening_input(ring: &RingBytes, rec: &[u8]) -> CoreInput
     ensures { λ t. ⌜ (t .key ≡ coreKey (now (ring .entry)) (now (rec .entry))) × (t .input ≡ with8Of (part 6 15 (now (rec .entry)))) ⌝ }
 {
-    Task {
-        key: key_of(ring, rec),
-        input: with8(part15(rec, 6)),
-    }
+    opening_of(key_of(ring, rec), part15(rec, 6))
 }
 
 // The sealed record of a plain one and its sealed text, into its own part of the output. `identity_strings` are the ring's.
-pub fn put_sealed(identity_strings: [u8; 8], rec: &[u8], text: [u8; 15], out: &mut [u8])
+pub fn write_sealed(identity_strings: [u8; 8], rec: &[u8], text: [u8; 15], out: &mut [u8])
     ensures { λ _. ⌜ now (out .exit)
         ≡ take (length (now (out .entry))) (sealedWith «identity_strings» (now (rec .entry)) text) ++ drop sealedSize (now (out .entry)) ⌝ }
 {
@@ -200,7 +192,7 @@ pub fn put_sealed(identity_strings: [u8; 8], rec: &[u8], text: [u8; 15], out: &m
 }
 
 // The plain record of a sealed one and what BL2 gives for it, into its own part of the output.
-pub fn put_opened(identity_strings: [u8; 8], rec: &[u8], u: [u8; 15], out: &mut [u8])
+pub fn write_opened(identity_strings: [u8; 8], rec: &[u8], u: [u8; 15], out: &mut [u8])
     ensures { λ _. ⌜ now (out .exit)
         ≡ take (length (now (out .entry))) (openedWith «identity_strings» (now (rec .entry)) u) ++ drop plainSize (now (out .entry)) ⌝ }
 {

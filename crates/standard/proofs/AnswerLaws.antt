@@ -11,7 +11,7 @@ use native.Mathlib.Omega.{arith}
 use lib.Dec.{ltb, leb, eqb}
 use lib.ListN.{length, drop}
 use borrow.Author.Tests.{ltb-true, ltb-false, eqb-true, eqb-false, leb-true, eq-eqb, ne-eqb, le-leb}
-use Rattle.standard.specs.Books.{Way, bookCall}
+use Rattle.standard.specs.Books.{Conversion, bookCall}
 use Rattle.standard.specs.Bytes.{_!_, choose, Bytes}
 use Rattle.standard.specs.Lists.{recordAt, each, firstFault, refused, answer, lengthTests, listTests, written}
 use Rattle.standard.specs.Refusals.{wrongLength, hasLength, first}
@@ -181,54 +181,54 @@ module _ (w : ℕ) (fault : List ℕ → ℕ) (xs : List ℕ) where
 
 -- ---- the calls, in one direction
 
-module _ (W : Way) (r xs out : List ℕ) where
+module _ (C : Conversion) (r xs out : List ℕ) where
   abbrev pub n : ℕ
-  n = length xs / W .size
+  n = length xs / C .size
 
   abbrev pub g : ℕ → ℕ
-  g i = W .fault (recordAt (W .size) xs i)
+  g i = C .fault (recordAt (C .size) xs i)
 
   abbrev pub l : ℕ → ℕ
-  l i = W .inspection (recordAt (W .size) xs i)
+  l i = C .inspection (recordAt (C .size) xs i)
 
   abbrev pub tests : List (Bool × ℕ)
-  tests = (hasLength ringSize r, wrongLength) ∷ listTests (W .size) (W .to) (length xs) (length out)
+  tests = (hasLength ringSize r, wrongLength) ∷ listTests (C .size) (C .outputSize) (length xs) (length out)
 
   -- an accepted call had no test that failed, and no record with a fault
-  pub call-tests : bookCall W r xs out .0 .refusal ≡ 0 → ((i : ℕ) → testAt tests i ≡ true) × ((i : ℕ) → i < n → g i ≡ 0)
+  pub call-tests : bookCall C r xs out .0 .refusal ≡ 0 → ((i : ℕ) → testAt tests i ≡ true) × ((i : ℕ) → i < n → g i ≡ 0)
   unfolding bookCall written
-  call-tests e = let a = is-accepted (first tests) n g (W .to * n) e in (all-pass tests refl (a .0), a .1)
+  call-tests e = let a = is-accepted (first tests) n g (C .outputSize * n) e in (all-pass tests refl (a .0), a .1)
 
-  pub call-lengths : bookCall W r xs out .0 .refusal ≡ 0 → (length r ≡ ringSize) × (W .to * n ≤ length out)
+  pub call-lengths : bookCall C r xs out .0 .refusal ≡ 0 → (length r ≡ ringSize) × (C .outputSize * n ≤ length out)
   call-lengths e = let t = call-tests e .0 in (eqb-true _ _ (t 0), leb-true _ _ (t 3))
 
   -- what is written fits the output
-  pub written-fits : bookCall W r xs out .0 .refusal ≡ 0 → bookCall W r xs out .0 .written ≤ length out
+  pub written-fits : bookCall C r xs out .0 .refusal ≡ 0 → bookCall C r xs out .0 .written ≤ length out
   unfolding bookCall written
   written-fits e =
-      let a = is-accepted (first tests) n g (W .to * n) e in
-      rw (accepted (first tests) n g (W .to * n) (a .0) (a .1)) (call-lengths e .1)
+      let a = is-accepted (first tests) n g (C .outputSize * n) e in
+      rw (accepted (first tests) n g (C .outputSize * n) (a .0) (a .1)) (call-lengths e .1)
 
-  pub call-refuses : (bookCall W r xs out .0 .refusal ≡ 0 → ⊥) → (bookCall W r xs out .0 .written ≡ 0) × (bookCall W r xs out .1 ≡ out)
+  pub call-refuses : (bookCall C r xs out .0 .refusal ≡ 0 → ⊥) → (bookCall C r xs out .0 .written ≡ 0) × (bookCall C r xs out .1 ≡ out)
   unfolding bookCall written
   call-refuses e = (refusal-writes _ _ _ _ e, rw (ne-eqb _ 0 e))
 
   module _ (b : (i : ℕ) → xs ! i < 256) where
     abbrev Good : List ℕ → Type 0
-    Good = Book (W .size) (λ x. eqb (W .fault x) 0)
+    Good = Book (C .size) (λ x. eqb (C .fault x) 0)
 
-    pub call-book : bookCall W r xs out .0 .refusal ≡ 0 → Good xs
+    pub call-book : bookCall C r xs out .0 .refusal ≡ 0 → Good xs
     call-book e =
         let t = call-tests e in
-        book-of (W .size) (W .fault) xs b (leb-true _ _ (t .0 1)) (eqb-true _ _ (t .0 2)) (t .1)
+        book-of (C .size) (C .fault) xs b (leb-true _ _ (t .0 1)) (eqb-true _ _ (t .0 2)) (t .1)
 
     -- where an inspection of a record without a fault takes c runs
-    pub call-accepts : (c : ℕ) → ((x : List ℕ) → W .fault x ≡ 0 → W .inspection x ≡ c) → length r ≡ ringSize → W .to * n ≤ length out → Good xs
-        → bookCall W r xs out
-        ≡ (record { refusal = 0; index = n; written = W .to * n; runs = acceptedRuns (c + 2) n }, each n (W .size) (W .convert) xs ++ drop (W .to * n) out)
+    pub call-accepts : (c : ℕ) → ((x : List ℕ) → C .fault x ≡ 0 → C .inspection x ≡ c) → length r ≡ ringSize → C .outputSize * n ≤ length out → Good xs
+        → bookCall C r xs out
+        ≡ (record { refusal = 0; index = n; written = C .outputSize * n; runs = acceptedRuns (c + 2) n }, each n (C .size) (C .convert) xs ++ drop (C .outputSize * n) out)
     unfolding bookCall written
     call-accepts c inspection hr room k =
         let head : first tests ≡ 0 =
-        rw (eq-eqb _ _ hr, le-leb _ _ (few-of (W .size) (W .fault) xs k), eq-eqb _ _ (whole-of (W .size) (W .fault) xs k), le-leb _ _ room) in
-        let good = good-of (W .size) (W .fault) xs k in
-        rw (accepted (first tests) n g (W .to * n) head good, head, eq-eqb _ _ (no-fault n g good), pass-clean g l c n good (λ i h. inspection _ (good i h)), passes c n)
+        rw (eq-eqb _ _ hr, le-leb _ _ (few-of (C .size) (C .fault) xs k), eq-eqb _ _ (whole-of (C .size) (C .fault) xs k), le-leb _ _ room) in
+        let good = good-of (C .size) (C .fault) xs k in
+        rw (accepted (first tests) n g (C .outputSize * n) head good, head, eq-eqb _ _ (no-fault n g good), pass-clean g l c n good (λ i h. inspection _ (good i h)), passes c n)

@@ -17,7 +17,7 @@ use Rattle.standard.specs.Classes.{classRecord, ta12ClassCall}
 use Rattle.standard.specs.Cores.{bl1With, bl1}
 use Rattle.standard.specs.Derivation.{core, ta11, ta21, ta41, chosen, ta12Call, sidesTest, ring, haveLengths, ringCall}
 use Rattle.standard.specs.Expansions.{inserted, expected, exp3Groups}
-use Rattle.standard.specs.Facts.{BothSides, OneSide, IdleChallenge, SingleCalls, OrIsFlag, ChecksBits, groupsOf, checkCount, sealingLength, failedChecks, openedBy, FailedChecks, flagClear, FlagIsNonzero, OrIsZero, flagFault, SameBooks, SameChecks}
+use Rattle.standard.specs.Facts.{BothSides, OneSide, IdleChallenge, SingleCalls, OrIsFlag, ChecksBits, groupsOf, checkCount, sealingSize, failedChecks, openedBy, FailedChecks, flagClear, FlagIsNonzero, OrIsZero, flagFault, SameBooks, SameChecks}
 use Rattle.standard.specs.Lists.{recordAt, each, lengthTests, listTests, written}
 use Rattle.standard.specs.Mixing.{tb4, tb7}
 use Rattle.standard.specs.Refusals.{wrongLength, hasLength, maskTests, first, ringMade}
@@ -200,7 +200,7 @@ check-count Ta91 u = refl
 
 -- the test of an unsealing call
 abbrev passes : Algorithm → (t s : List ℕ) → Bool
-passes a t s = eqb (first ((hasLength 15 t && hasLength (sealingLength a) s, wrongLength) ∷ [])) 0
+passes a t s = eqb (first ((hasLength 15 t && hasLength (sealingSize a) s, wrongLength) ∷ [])) 0
 
 -- an answer's number, and 0 in a refusal
 below-both : (t : Bool) (n k : ℕ) → n < 2 ^ k → choose t n 0 < 2 ^ k
@@ -221,7 +221,7 @@ no-other Ta81 t s v = below-both (passes Ta81 t s) _ 3 (fails-below Ta81 s (byte
 no-other Ta91 t s v = below-both (passes Ta91 t s) _ 3 (fails-below Ta91 s (bytesOf 2 (v .0)) t)
 
 -- where the lengths pass, a call answers the number of its form
-failed-by : (a : Algorithm) (t s : List ℕ) (v : Version) → length t ≡ 15 → length s ≡ sealingLength a → failedChecks a t s v ≡ failed (formOf a) (openedBy a t s v)
+failed-by : (a : Algorithm) (t s : List ℕ) (v : Version) → length t ≡ 15 → length s ≡ sealingSize a → failedChecks a t s v ≡ failed (formOf a) (openedBy a t s v)
 unfolding ta32Call ta52Call ta82Call ta92Call fails
 failed-by Ta31 t s v ht hs = rw (eq-eqb _ _ ht, eq-eqb _ _ hs)
 failed-by Ta51 t s v ht hs = rw (eq-eqb _ _ ht, eq-eqb _ _ hs)
@@ -245,7 +245,7 @@ looks-inserted Ta81 u i h = record { within = h; found = refl; wanted = refl }
 looks-inserted Ta91 u i h = record { within = h; found = refl; wanted = refl }
 
 -- bit i of a call's number, by what its form finds and wants
-bit-of : (a : Algorithm) (t s : List ℕ) (v : Version) → length t ≡ 15 → length s ≡ sealingLength a → (i : ℕ)
+bit-of : (a : Algorithm) (t s : List ℕ) (v : Version) → length t ≡ 15 → length s ≡ sealingSize a → (i : ℕ)
     → let u = openedBy a t s v in
     i < length (formOf a .found u) → (bit i (failedChecks a t s v) ≡ 1) ↔ (formOf a .found u ! i ≡ formOf a .wanted u ! i → ⊥)
 bit-of a t s v ht hs i h =
@@ -282,7 +282,8 @@ same-fault r t = rw (flag-same (recordKind t .algorithm) (opened (form (recordKi
 pub same-books : SameBooks
 unfolding openBook
 same-books r s out =
-    ap (λ (g : List ℕ → ℕ). bookCall (record { size = sealedSize; to = plainSize; fault = g; inspection = inspectionRuns; convert = openRecord r }) r s out)
+    ap (λ (g : List ℕ → ℕ). bookCall (record { size = sealedSize; outputSize = plainSize;
+        fault = g; inspection = inspectionRuns; convert = openRecord r }) r s out)
     (fun-ext (same-fault r))
 
 -- ---- plainlist's checks (01)

@@ -9,7 +9,7 @@ use native.Mathlib.Nat.{add-mul}
 use native.Mathlib.Omega.{arith}
 use lib.Dec.{eqb}
 use borrow.Author.Tests.{eqb-true, eqb-false}
-use Rattle.standard.specs.Books.{Way, sealing, opening, sealingKey, isKnown, recordKind, openFault, inspectionRuns, bookCall, sealBook, openBook}
+use Rattle.standard.specs.Books.{Conversion, sealing, opening, sealingKey, isKnown, recordKind, openFault, inspectionRuns, bookCall, sealBook, openBook}
 use Rattle.standard.specs.Bytes.{_!_, part, choose}
 use Rattle.standard.specs.Lists.{recordAt, firstFault, refused, answer, written}
 use Rattle.standard.specs.Refusals.{wrongKind, flagSet, first}
@@ -99,50 +99,50 @@ inspection-most t = go (isKnown (kindOf (t ! 0)))
 
 -- ---- a call, either way
 
-module _ (W : Way) (r xs out : List ℕ) where
+module _ (C : Conversion) (r xs out : List ℕ) where
   abbrev refusalOf : ℕ
-  refusalOf = bookCall W r xs out .0 .refusal
+  refusalOf = bookCall C r xs out .0 .refusal
 
   abbrev indexOf : ℕ
-  indexOf = bookCall W r xs out .0 .index
+  indexOf = bookCall C r xs out .0 .index
 
   abbrev runsOf : ℕ
-  runsOf = bookCall W r xs out .0 .runs
+  runsOf = bookCall C r xs out .0 .runs
 
   abbrev CallEnds : Type 0
   CallEnds =
-      Shut (first (tests W r xs out)) refusalOf runsOf
-      ⊎ (Stopped (n W r xs out) (g W r xs out) (l W r xs out) refusalOf indexOf runsOf ⊎ Done (n W r xs out) (g W r xs out) (l W r xs out) refusalOf runsOf)
+      Shut (first (tests C r xs out)) refusalOf runsOf
+      ⊎ (Stopped (n C r xs out) (g C r xs out) (l C r xs out) refusalOf indexOf runsOf ⊎ Done (n C r xs out) (g C r xs out) (l C r xs out) refusalOf runsOf)
 
   call-ends : CallEnds
   unfolding bookCall written
-  call-ends = ends (first (tests W r xs out)) (n W r xs out) (g W r xs out) (l W r xs out) (W .to * n W r xs out)
+  call-ends = ends (first (tests C r xs out)) (n C r xs out) (g C r xs out) (l C r xs out) (C .outputSize * n C r xs out)
 
   -- where an inspection of a record without a fault takes c runs
-  module _ (c : ℕ) (inspection : (x : List ℕ) → W .fault x ≡ 0 → W .inspection x ≡ c) where
-    accepted-runs : refusalOf ≡ 0 → runsOf ≡ acceptedRuns (c + 2) (n W r xs out)
+  module _ (c : ℕ) (inspection : (x : List ℕ) → C .fault x ≡ 0 → C .inspection x ≡ c) where
+    accepted-runs : refusalOf ≡ 0 → runsOf ≡ acceptedRuns (c + 2) (n C r xs out)
     accepted-runs e = go call-ends
       where
-        go : CallEnds → runsOf ≡ acceptedRuns (c + 2) (n W r xs out)
+        go : CallEnds → runsOf ≡ acceptedRuns (c + 2) (n C r xs out)
         go (inl h) = absurd (h .some (sym (h .is) ∙ e))
         go (inr (inl h)) = absurd (h .some e)
         go (inr (inr h)) =
-            h .took ∙ ap (λ (k : ℕ). k + secondPass (n W r xs out)) (pass-clean _ _ c _ (h .none) (λ j k. inspection _ (h .none j k))) ∙ passes c (n W r xs out)
+            h .took ∙ ap (λ (k : ℕ). k + secondPass (n C r xs out)) (pass-clean _ _ c _ (h .none) (λ j k. inspection _ (h .none j k))) ∙ passes c (n C r xs out)
 
-    stopped-runs : Stopped (n W r xs out) (g W r xs out) (l W r xs out) refusalOf indexOf runsOf → runsOf ≡ c * indexOf + l W r xs out indexOf
+    stopped-runs : Stopped (n C r xs out) (g C r xs out) (l C r xs out) refusalOf indexOf runsOf → runsOf ≡ c * indexOf + l C r xs out indexOf
     stopped-runs h =
-        h .took ∙ ap (λ (k : ℕ). k + l W r xs out indexOf) (pass-clean _ _ c indexOf (h .below) (λ j k. inspection _ (h .below j k)))
+        h .took ∙ ap (λ (k : ℕ). k + l C r xs out indexOf) (pass-clean _ _ c indexOf (h .below) (λ j k. inspection _ (h .below j k)))
 
   -- where no inspection takes more than c
-  most-runs : (c : ℕ) → ((x : List ℕ) → W .inspection x ≤ c) → runsOf ≤ 1 + (c + 2) * n W r xs out
+  most-runs : (c : ℕ) → ((x : List ℕ) → C .inspection x ≤ c) → runsOf ≤ 1 + (c + 2) * n C r xs out
   unfolding bookCall written
-  most-runs c inspection = go (eqb (first (tests W r xs out)) 0) (eqb (firstFault (n W r xs out) (g W r xs out)) (n W r xs out)) (eqb (n W r xs out) 0)
+  most-runs c inspection = go (eqb (first (tests C r xs out)) 0) (eqb (firstFault (n C r xs out) (g C r xs out)) (n C r xs out)) (eqb (n C r xs out) 0)
     where
-      first-most : firstPass (n W r xs out) (g W r xs out) (l W r xs out) ≤ c * n W r xs out
-      first-most = pass-most (g W r xs out) (l W r xs out) c (n W r xs out) (λ j. inspection _)
+      first-most : firstPass (n C r xs out) (g C r xs out) (l C r xs out) ≤ c * n C r xs out
+      first-most = pass-most (g C r xs out) (l C r xs out) c (n C r xs out) (λ j. inspection _)
 
       go : (s t u : Bool)
-          → choose s (firstPass (n W r xs out) (g W r xs out) (l W r xs out) + choose t (choose u 0 1 + 2 * n W r xs out) 0) 0 ≤ 1 + (c + 2) * n W r xs out
+          → choose s (firstPass (n C r xs out) (g C r xs out) (l C r xs out) + choose t (choose u 0 1 + 2 * n C r xs out) 0) 0 ≤ 1 + (c + 2) * n C r xs out
       go false t u = omega arith
       go true false u = rw add-mul (omega (arith, first-most))
       go true true true = rw add-mul (omega (arith, first-most))

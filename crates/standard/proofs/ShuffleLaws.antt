@@ -10,7 +10,7 @@ use lib.Dec.{eqb, ltb}
 use lib.ListN.{length, drop, length-append}
 use lib.Seq.{getD-append-add}
 use borrow.Author.Tests.{eq-eqb, ltb-true, ltb-false, lt-leb}
-use Rattle.standard.specs.Books.{sealRecord, openRecord, WellFormed, sealedForm, Way, sealing, opening, bookCall, sealBook, openBook}
+use Rattle.standard.specs.Books.{sealRecord, openRecord, WellFormed, sealedForm, Conversion, sealing, opening, bookCall, sealBook, openBook}
 use Rattle.standard.specs.Bytes.{_!_, Bytes}
 use Rattle.standard.specs.Lists.{recordAt, each, answer, written}
 use Rattle.standard.specs.Refusals.{bookTooLong}
@@ -108,15 +108,15 @@ module _ {w m n : ℕ} {ok : List ℕ → Bool} {xs ys : List ℕ} (a : Records 
 
 -- ---- a call on such records, where an inspection of one takes c cipher runs
 
-abbrev Good : Way → ℕ → List ℕ → Type 0
-Good W n xs = Records (W .size) n (λ x. eqb (W .fault x) 0) xs
+abbrev Good : Conversion → ℕ → List ℕ → Type 0
+Good C n xs = Records (C .size) n (λ x. eqb (C .fault x) 0) xs
 
-called : (W : Way) (r : List ℕ) (n c : ℕ) → 0 < W .size → ((x : List ℕ) → W .fault x ≡ 0 → W .inspection x ≡ c) → length r ≡ ringSize
-    → (xs : List ℕ) → Good W n xs → (out : List ℕ) → W .to * n ≤ length out → (made : List ℕ) → each n (W .size) (W .convert) xs ≡ made
-    → bookCall W r xs out ≡ (record { refusal = 0; index = n; written = W .to * n; runs = acceptedRuns (c + 2) n }, made ++ drop (W .to * n) out)
-called W r n c hw inspection hr xs b out room made e =
+called : (C : Conversion) (r : List ℕ) (n c : ℕ) → 0 < C .size → ((x : List ℕ) → C .fault x ≡ 0 → C .inspection x ≡ c) → length r ≡ ringSize
+    → (xs : List ℕ) → Good C n xs → (out : List ℕ) → C .outputSize * n ≤ length out → (made : List ℕ) → each n (C .size) (C .convert) xs ≡ made
+    → bookCall C r xs out ≡ (record { refusal = 0; index = n; written = C .outputSize * n; runs = acceptedRuns (c + 2) n }, made ++ drop (C .outputSize * n) out)
+called C r n c hw inspection hr xs b out room made e =
     let k = count hw b in
-    rw (k, e) at (call-accepts W r xs out (b .bytes .bound) c inspection hr (rw k room) (to-book hw b))
+    rw (k, e) at (call-accepts C r xs out (b .bytes .bound) c inspection hr (rw k room) (to-book hw b))
 
 -- ---- a well-formed book and its sealed form
 
@@ -196,10 +196,10 @@ no-reordering = record {
   left-out = λ n π k h none ρ. none (ρ .inverse k) (ρ .within-back k h) (ρ .forth k h);
 }
 
-too-long : (W : Way) (r xs out : List ℕ) → length r ≡ ringSize → W .size * mostRecords < length xs
-    → bookCall W r xs out ≡ (record { refusal = bookTooLong; index = 0; written = 0; runs = 0 }, out)
+too-long : (C : Conversion) (r xs out : List ℕ) → length r ≡ ringSize → C .size * mostRecords < length xs
+    → bookCall C r xs out ≡ (record { refusal = bookTooLong; index = 0; written = 0; runs = 0 }, out)
 unfolding bookCall written answer
-too-long W r xs out hr h = rw (eq-eqb _ _ hr, lt-leb _ _ h)
+too-long C r xs out hr h = rw (eq-eqb _ _ hr, lt-leb _ _ h)
 
 -- longer than so many records of w bytes
 longer : {w m n : ℕ} {ok : List ℕ → Bool} {xs ys : List ℕ} → 0 < w → Records w m ok xs → Records w n ok ys → mostRecords < m + n → w * mostRecords < length (xs ++ ys)

@@ -90,33 +90,33 @@ pub record WellFormed (p : List ℕ) : Type 0 where
 unfoldable pub sealedForm : List ℕ → List ℕ → List ℕ
 sealedForm r p = each (length p / plainSize) plainSize (sealRecord r) p
 
--- sealing or opening: records of `size` bytes become records of `to`
-pub record Way : Type 0 where
+-- sealing or opening: records of `size` bytes become records of `outputSize`
+pub record Conversion : Type 0 where
   pub size : ℕ
-  pub to : ℕ
+  pub outputSize : ℕ
   pub fault : List ℕ → ℕ
   -- the cipher runs of looking for the fault (02, 8)
   pub inspection : List ℕ → ℕ
   pub convert : List ℕ → List ℕ
 
-abbrev pub sealing : List ℕ → Way
-sealing r = record { size = plainSize; to = sealedSize; fault = plainFault; inspection = λ p. 0; convert = sealRecord r }
+abbrev pub sealing : List ℕ → Conversion
+sealing r = record { size = plainSize; outputSize = sealedSize; fault = plainFault; inspection = λ p. 0; convert = sealRecord r }
 
-abbrev pub opening : List ℕ → Way
-opening r = record { size = sealedSize; to = plainSize; fault = openFault r; inspection = inspectionRuns; convert = openRecord r }
+abbrev pub opening : List ℕ → Conversion
+opening r = record { size = sealedSize; outputSize = plainSize; fault = openFault r; inspection = inspectionRuns; convert = openRecord r }
 
 -- an answer with the cipher runs that it took (02, 8), and the output at exit
 abbrev pub counted : BookAnswer × List ℕ → ℕ → CountedAnswer × List ℕ
 counted a runs = (record { refusal = a .0 .refusal; index = a .0 .index; written = a .0 .written; runs = runs }, a .1)
 
 -- the lengths in the order 11, 1, 2, 12, and then the records; every record is converted
-unfoldable pub bookCall : Way → List ℕ → List ℕ → List ℕ → CountedAnswer × List ℕ
-bookCall W r xs out =
-    let n = length xs / W .size in
-    let head = first ((hasLength ringSize r, wrongLength) ∷ listTests (W .size) (W .to) (length xs) (length out)) in
-    let fault : ℕ → ℕ = λ i. W .fault (recordAt (W .size) xs i) in
-    let inspection : ℕ → ℕ = λ i. W .inspection (recordAt (W .size) xs i) in
-    counted (written (answer head n fault (W .to * n)) (each n (W .size) (W .convert) xs) out) (callRuns head n fault inspection)
+unfoldable pub bookCall : Conversion → List ℕ → List ℕ → List ℕ → CountedAnswer × List ℕ
+bookCall C r xs out =
+    let n = length xs / C .size in
+    let head = first ((hasLength ringSize r, wrongLength) ∷ listTests (C .size) (C .outputSize) (length xs) (length out)) in
+    let fault : ℕ → ℕ = λ i. C .fault (recordAt (C .size) xs i) in
+    let inspection : ℕ → ℕ = λ i. C .inspection (recordAt (C .size) xs i) in
+    counted (written (answer head n fault (C .outputSize * n)) (each n (C .size) (C .convert) xs) out) (callRuns head n fault inspection)
 
 -- ---- the calls
 

@@ -105,12 +105,12 @@ checkCount Ta51 = 5
 checkCount Ta81 = 3
 checkCount Ta91 = 3
 
--- the bytes of an algorithm's sealing key
-abbrev pub sealingLength : Algorithm → ℕ
-sealingLength Ta31 = 10
-sealingLength Ta51 = 16
-sealingLength Ta81 = 16
-sealingLength Ta91 = 16
+-- the bytes of an algorithm's sealing key: D's, or O's and G's
+abbrev pub sealingSize : Algorithm → ℕ
+sealingSize Ta31 = 10
+sealingSize Ta51 = 16
+sealingSize Ta81 = 16
+sealingSize Ta91 = 16
 
 -- what the unsealing call of an algorithm answers in place of the flag
 abbrev pub failedChecks : Algorithm → (t s : List ℕ) → Version → ℕ
@@ -130,7 +130,7 @@ pub record FailedChecks : Type 0 where
   -- .. and no bit is set but theirs, whatever the inputs
   pub no-other : (a : Algorithm) (t s : List ℕ) (v : Version) → failedChecks a t s v < 2 ^ checkCount a
   -- bit i, from 0 at the leftmost inserted byte, is set exactly if inserted byte i is not the ⊕ of its group
-  pub inserted-bit : (a : Algorithm) (t s : List ℕ) (v : Version) → length t ≡ 15 → length s ≡ sealingLength a → (i : ℕ) → i < length (groupsOf a)
+  pub inserted-bit : (a : Algorithm) (t s : List ℕ) (v : Version) → length t ≡ 15 → length s ≡ sealingSize a → (i : ℕ) → i < length (groupsOf a)
       → let u = openedBy a t s v in
       (bit i (failedChecks a t s v) ≡ 1) ↔ (inserted (groupsOf a) 0 u ! i ≡ expected (groupsOf a) 0 u ! i → ⊥)
   -- bit 4 of TA52 is set exactly if the top three bits of the number byte, which stands before the last inserted one, are not zero
@@ -155,7 +155,7 @@ flagFault r t =
 abbrev pub SameBooks : Type 0
 SameBooks = (r s out : List ℕ)
     → openBook r s out
-    ≡ bookCall (record { size = sealedSize; to = plainSize; fault = flagFault r; inspection = inspectionRuns; convert = openRecord r }) r s out
+    ≡ bookCall (record { size = sealedSize; outputSize = plainSize; fault = flagFault r; inspection = inspectionRuns; convert = openRecord r }) r s out
 
 -- ---- plainlist's checks (01)
 

@@ -1,6 +1,7 @@
 // Sealed texts on typed arrays: a body of 12 bytes to a text of 15 under the core's key, and back.
 mod forms;
 mod text;
+mod text_core;
 
 pub use forms::body_of;
 pub use forms::input_of;
@@ -11,5 +12,9 @@ pub use text::key10;
 pub use text::key16;
 pub use text::open_text;
 pub use text::seal_body;
-pub use text::with8;
-pub use text::without8;
+pub use text_core::CoreInput;
+pub use text_core::open_core;
+pub use text_core::open_core_x4;
+pub use text_core::opening_of;
+pub use text_core::seal_core;
+pub use text_core::seal_core_x4;

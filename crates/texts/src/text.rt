@@ -3,10 +3,10 @@ use crate::forms::body_of;
 use crate::forms::failed_of;
 use crate::forms::input_of;
 use crate::forms::or_of;
-use cores::CoreOutput15;
-use cores::CoreOutput16;
-use cores::bl1;
-use cores::bl2;
+use crate::text_core::CoreInput;
+use crate::text_core::open_core;
+use crate::text_core::opening_of;
+use crate::text_core::seal_core;
 use cores::exp4;
 use standard::Algorithm;
 use standard::Version;
@@ -14,7 +14,7 @@ ghost use mathlib.Core.Bool.{not};
 ghost use mathlib.Core.Path.{_≡_};
 ghost use Rattle.standard.specs.Bytes.{bytesOf, xors};
 ghost use Rattle.standard.specs.Runs.{textRuns};
-ghost use Rattle.standard.specs.Seals.{clear, formOf, sealed as sealedOf, opened as openedOf, key10 as key10Of, key16 as key16Of, repeated, without8 as without8Of, with8 as with8Of};
+ghost use Rattle.standard.specs.Seals.{clear, formOf, sealed as sealedOf, opened as openedOf, key10 as key10Of, key16 as key16Of, repeated};
 ghost use Rattle.texts.specs.OpenedTexts.{Opened as OpenedOf};
 
 // The version's two bytes, the high one first.
@@ -79,62 +79,15 @@ pub fn key16(sealing_key: [u8; 16], version: Version) -> [u8; 16]
     mixed16(sealing_key, bytes_of(version))
 }
 
-// BL1's output without its eighth byte: the sealed text.
-pub fn without8(o: CoreOutput16) -> CoreOutput15
-    ensures { λ r. ⌜ r ≡ record { output = without8Of (o .output); runs = o .runs } ⌝ }
-{
-    let x = o.output;
-    CoreOutput15 {
-        output: [
-            x[0],
-            x[1],
-            x[2],
-            x[3],
-            x[4],
-            x[5],
-            x[6],
-            x[8],
-            x[9],
-            x[10],
-            x[11],
-            x[12],
-            x[13],
-            x[14],
-            x[15],
-        ],
-        runs: o.runs,
-    }
-}
-
-// A sealed text with a zero byte in the eighth place, as BL2 takes it.
-pub fn with8(t: [u8; 15]) -> [u8; 16]
-    ensures { λ r. ⌜ r ≡ with8Of t ⌝ }
-{
-    [
-        t[0],
-        t[1],
-        t[2],
-        t[3],
-        t[4],
-        t[5],
-        t[6],
-        0,
-        t[7],
-        t[8],
-        t[9],
-        t[10],
-        t[11],
-        t[12],
-        t[13],
-        t[14],
-    ]
-}
-
 // The sealed text of a body.
 pub fn seal_body(algorithm: Algorithm, key: [u8; 16], body: [u8; 12]) -> [u8; 15]
     ensures { λ r. ⌜ r ≡ sealedOf (formOf algorithm) key body ⌝ }
 {
-    let o = without8(bl1(key, input_of(algorithm, body)));
+    let c = CoreInput {
+        key,
+        input: input_of(algorithm, body),
+    };
+    let o = seal_core(c);
     let text = o.output;
     text
 }
@@ -148,7 +101,7 @@ pub struct Opened {
 pub fn open_text(algorithm: Algorithm, key: [u8; 16], text: [u8; 15]) -> Opened
     ensures { λ r. ⌜ OpenedOf (formOf algorithm) (openedOf key text) (r .body) (r .failed) ⌝ }
 {
-    let o = bl2(key, with8(text));
+    let o = open_core(opening_of(key, text));
     let u = o.output;
     Opened {
         body: body_of(algorithm, u),
@@ -165,7 +118,7 @@ pub struct Flag {
 pub fn flag_of(algorithm: Algorithm, key: [u8; 16], text: [u8; 15]) -> Flag
     ensures { λ f. ⌜ (f .set ≡ not (clear (formOf algorithm) (openedOf key text))) × (f .runs ≡ textRuns) ⌝ }
 {
-    let o = bl2(key, with8(text));
+    let o = open_core(opening_of(key, text));
     let u = o.output;
     Flag {
         set: or_of(algorithm, u) != 0,

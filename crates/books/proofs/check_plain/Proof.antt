@@ -13,14 +13,14 @@ returns-2 : tie.Need-returns-2
 unfolding checkPlain
 returns-2 c =
     let found = c .before .before .before in
-    rw (c .refused2 .ensures, ← found .before .before .lengths .ensures)
-    (answer-stopped _ _ _ _ (found .before .if1 .left) _ _ (found .scan-plain .ensures .0) (c .before .if2 .taken))
+    rw (c .refused2 .ensures, ← found .before .before .before .lengths .ensures)
+    (answer-stopped _ _ _ _ (found .before .before .if1 .left) _ _ (found .scan .ensures .0) (c .before .if2 .taken))
 
 returns-3 : tie.Need-returns-3
 unfolding checkPlain
 returns-3 c =
     let found = c .before .before in
-    rw (← found .before .before .lengths .ensures) (answer-done _ _ _ _ (found .before .if1 .left) (found .scan-plain .ensures .0 .none (c .if2 .left)))
+    rw (← found .before .before .before .lengths .ensures) (answer-done _ _ _ _ (found .before .before .if1 .left) (found .scan .ensures .0 .none (c .if2 .left)))
 
 pub check-plain-spec : {M : Type 1} → statement M
 check-plain-spec =

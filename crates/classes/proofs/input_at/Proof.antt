@@ -13,7 +13,8 @@ use Rattle.classes.proofs.input_at.Tie as tie
 returns : tie.Need-returns
 returns c =
     let x = c .before .before .before .before .args in
-    c .exp2 .ensures ∙ ap exp2 (c .before .array10 .ensures ∙ ap (λ (y : List ℕ). part 0 challengeSize y) (lent challengeSize (x .i) (now (x .challenges)) (search needs)))
+    c .exp2 .ensures
+    ∙ ap exp2 (c .before .array10 .ensures ∙ ap (λ (y : List ℕ). part 0 challengeSize y) (lent challengeSize (x .i) (now (x .challenges)) (search needs)))
 
 pub input-at-spec : {M : Type 1} → statement M
 input-at-spec =

@@ -22,7 +22,8 @@ returns-2 c =
     let lens = c .before .before in
     let x = lens .before .before .before .before .before .args in
     rw (c .refused2 .ensures)
-    (lengths-refused (now (x .session-key)) (now (x .challenges)) (x .response-mask) (x .key-mask) (now (x .out)) (lens .before .if1 .left) _ (lens .lengths-and-output .ensures) (c .before .if2 .taken))
+    (lengths-refused (now (x .session-key)) (now (x .challenges)) (x .response-mask) (x .key-mask) (now (x .out))
+    (lens .before .if1 .left) _ (lens .lengths-and-output .ensures) (c .before .if2 .taken))
 
 returns-3 : tie.Need-returns-3
 returns-3 c =
@@ -30,13 +31,16 @@ returns-3 c =
     let lens = masks .before .before in
     let x = lens .before .before .before .before .before .args in
     rw (c .refused3 .ensures)
-    (masks-refused (now (x .session-key)) (now (x .challenges)) (x .response-mask) (x .key-mask) (now (x .out)) (lens .before .if1 .left) _ (lens .lengths-and-output .ensures) (masks .before .if2 .left) _ (masks .mask-refusal .ensures) (c .before .if3 .taken))
+    (masks-refused (now (x .session-key)) (now (x .challenges)) (x .response-mask) (x .key-mask) (now (x .out))
+    (lens .before .if1 .left) _ (lens .lengths-and-output .ensures) (masks .before .if2 .left) _ (masks .mask-refusal .ensures) (c .before .if3 .taken))
 
 write-requires : tie.Need-write-requires
 write-requires c κs =
     let lens = c .before .before .before .before .before .before .before in
     let x = lens .before .before .before .before .before .args in
-    (records-within challengeSize (length (now (x .challenges))), room (now (x .session-key)) (now (x .challenges)) (x .response-mask) (x .key-mask) (now (x .out)) (lens .before .if1 .left) _ (lens .lengths-and-output .ensures) (c .before .before .before .before .before .before .if2 .left))
+    (records-within challengeSize (length (now (x .challenges))),
+    room (now (x .session-key)) (now (x .challenges)) (x .response-mask) (x .key-mask) (now (x .out))
+    (lens .before .if1 .left) _ (lens .lengths-and-output .ensures) (c .before .before .before .before .before .before .if2 .left))
 
 returns-4 : tie.Need-returns-4
 returns-4 c =
@@ -47,10 +51,13 @@ returns-4 c =
     let h : length (now (x .session-key)) ≡ 16 = lens .before .if1 .left in
     let n = length (now (x .challenges)) / challengeSize in
     let none : masks .mask-refusal .result ≡ 0 = made .before .before .before .before .before .if3 .left in
-    let keys = made .before .before .before .schedule .ensures ∙ ap schedule (made .before .before .before .before .array16 .ensures ∙ spelled 16 (now (x .session-key)) h) in
+    let keys = made .before .before .before .schedule .ensures
+    ∙ ap schedule (made .before .before .before .before .array16 .ensures ∙ spelled 16 (now (x .session-key)) h) in
     let written = rw keys at (made .write .ensures) in
-    all-written (now (x .session-key)) (now (x .challenges)) (x .response-mask) (x .key-mask) (now (x .out)) h _ (lens .lengths-and-output .ensures) (masks .before .if2 .left) _ (masks .mask-refusal .ensures) none _
-    (written ∙ ap (λ (l : List ℕ). l ++ drop (authenticationSize * n) (now (x .out))) (same-records (now (x .session-key)) (now (x .challenges)) (x .response-mask) (x .key-mask) h (sym (masks .mask-refusal .ensures) ∙ none) n))
+    all-written (now (x .session-key)) (now (x .challenges)) (x .response-mask) (x .key-mask) (now (x .out)) h _
+    (lens .lengths-and-output .ensures) (masks .before .if2 .left) _ (masks .mask-refusal .ensures) none _
+    (written ∙ ap (λ (l : List ℕ). l ++ drop (authenticationSize * n) (now (x .out)))
+    (same-records (now (x .session-key)) (now (x .challenges)) (x .response-mask) (x .key-mask) h (sym (masks .mask-refusal .ensures) ∙ none) n))
 
 pub ta12-class-spec : {M : Type 1} → statement M
 ta12-class-spec =

@@ -1,11 +1,11 @@
--- `classes::write` meets its contract: the first i parts of the output are the records of the first i challenges.
+-- The first i parts of the output are the records of the first i challenges.
 -- Assumes nothing.
 use mathlib.Core.List.{List}
 use mathlib.Core.Path.{_≡_}
 use Prim.Native.Nat.{ℕ, _+_, _-_, _≤_, zero-le}
 use native.Mathlib.Omega.{arith}
 use denote.Ref.{now}
-use Rattle.lists.proofs.WalkLaws.{Wrote, wrote-none, wrote-one, wrote-four}
+use Rattle.lists.proofs.WalkLaws.{Wrote, wrote-none, wrote-one, wrote-x4}
 use Rattle.standard.specs.Sizes.{challengeSize, authenticationSize}
 use Rattle.classes.proofs.ClassLaws.{record-length}
 use Rattle.classes.specs.ClassRecords.{recordWith}
@@ -18,10 +18,12 @@ Inv-loop keys challenges rm km n out₀ i₀ out i = (i ≤ n) × Wrote challeng
 abbrev μ-loop : tie.MeasureT-loop
 μ-loop keys challenges rm km n out₀ i₀ out i = n - i
 
--- out₀ is the output where the second loop begins: what the first wrote over an output o stays, and the rest comes behind it
+-- out₀ is the output where the second loop begins: what the first wrote over an output o stays, and the rest comes after it
 abbrev Inv-loop2 : tie.InvT-loop2
 Inv-loop2 keys challenges rm km n out₀ i₀ out i =
-    (i ≤ n) × ((o : List ℕ) → Wrote challengeSize authenticationSize (recordWith keys rm km) challenges o i₀ out₀ → Wrote challengeSize authenticationSize (recordWith keys rm km) challenges o i out)
+    (i ≤ n)
+    × ((o : List ℕ) → Wrote challengeSize authenticationSize (recordWith keys rm km) challenges o i₀ out₀
+    → Wrote challengeSize authenticationSize (recordWith keys rm km) challenges o i out)
 
 abbrev μ-loop2 : tie.MeasureT-loop2
 μ-loop2 keys challenges rm km n out₀ i₀ out i = n - i
@@ -30,16 +32,18 @@ loop-holds : tie.Need-loop-holds Inv-loop μ-loop Inv-loop2 μ-loop2
 loop-holds c =
     let x = c .before .before .args in
     let made = recordWith (now (x .keys)) (x .response-mask) (x .key-mask) in
-    (zero-le, wrote-none challengeSize authenticationSize made (record-length (now (x .keys)) (x .response-mask) (x .key-mask)) (now (x .challenges)) (now (x .out)))
+    let long = record-length (now (x .keys)) (x .response-mask) (x .key-mask) in
+    (zero-le, wrote-none challengeSize authenticationSize made long (now (x .challenges)) (now (x .out)))
 
 sub-loop : tie.Need-sub-loop Inv-loop μ-loop Inv-loop2 μ-loop2
 sub-loop c = omega (arith, c .loop .inv .0)
 
-write-four-requires : tie.Need-write-four-requires Inv-loop μ-loop Inv-loop2 μ-loop2
-write-four-requires c κs =
+write-x4-requires : tie.Need-write-x4-requires Inv-loop μ-loop Inv-loop2 μ-loop2
+write-x4-requires c κs =
     let start = c .before .before .before .before .before in
     let at = c .before .before .loop in
-    (omega (arith, at .inv .0, c .before .loop-test .taken), start .pre .0, omega (arith, start .pre .1, at .inv .1 .kept))
+    let few : at .i + 4 ≤ start .args .n = omega (arith, at .inv .0, c .before .loop-test .taken) in
+    (omega (arith, few, start .pre .0), omega (arith, few, start .pre .1, at .inv .1 .kept))
 
 add-i : tie.Need-add-i Inv-loop μ-loop Inv-loop2 μ-loop2
 add-i c = omega (arith, c .before .before .before .before .before .loop .inv .0, c .before .before .before .before .loop-test .taken)
@@ -54,8 +58,9 @@ loop-again c =
     let x = start .args in
     let few : at .i + 4 ≤ x .n = omega (arith, at .inv .0, c .before .before .before .before .loop-test .taken) in (
       few,
-      wrote-four challengeSize authenticationSize (recordWith (now (x .keys)) (x .response-mask) (x .key-mask)) (record-length (now (x .keys)) (x .response-mask) (x .key-mask))
-          (now (x .challenges)) (now (x .out)) (at .i) (x .n) few (start .pre .1) (at .out) (at .inv .1) (c .before .before .write-four .ensures),
+      wrote-x4 challengeSize authenticationSize (recordWith (now (x .keys)) (x .response-mask) (x .key-mask))
+          (record-length (now (x .keys)) (x .response-mask) (x .key-mask))
+          (now (x .challenges)) (now (x .out)) (at .i) (omega (arith, few, start .pre .1)) (at .out) (at .inv .1) (c .before .before .write-x4 .ensures),
     )
 
 loop2-holds : tie.Need-loop2-holds Inv-loop μ-loop Inv-loop2 μ-loop2
@@ -65,7 +70,8 @@ write-one-requires : tie.Need-write-one-requires Inv-loop μ-loop Inv-loop2 μ-l
 write-one-requires c κs =
     let start = c .before .before .before .before .before .before .before in
     let wrote = c .before .before .loop2 .inv .1 (now (start .args .out)) (c .before .before .before .before .loop .inv .1) in
-    (c .before .loop2-test .taken, start .pre .0, omega (arith, start .pre .1, wrote .kept))
+    let one = c .before .loop2-test .taken in
+    (omega (arith, one, start .pre .0), omega (arith, one, start .pre .1, wrote .kept))
 
 add-i-2 : tie.Need-add-i-2 Inv-loop μ-loop Inv-loop2 μ-loop2
 add-i-2 c = omega (arith, c .before .before .before .before .loop2-test .taken)
@@ -82,8 +88,9 @@ loop2-again c =
     let kept = c .before .before .before .before .before .before .before .loop .inv .1 .kept in (
       omega (arith, one),
       λ o h.
-          wrote-one challengeSize authenticationSize (recordWith (now (x .keys)) (x .response-mask) (x .key-mask)) (record-length (now (x .keys)) (x .response-mask) (x .key-mask))
-          (now (x .challenges)) o (at .i) (x .n) one (omega (arith, start .pre .1, kept, h .kept)) (at .out) (at .inv .1 o h) (c .before .before .write-one .ensures),
+          wrote-one challengeSize authenticationSize (recordWith (now (x .keys)) (x .response-mask) (x .key-mask))
+          (record-length (now (x .keys)) (x .response-mask) (x .key-mask))
+          (now (x .challenges)) o (at .i) (omega (arith, one, start .pre .1, kept, h .kept)) (at .out) (at .inv .1 o h) (c .before .before .write-one .ensures),
     )
 
 same-length : tie.Need-same-length Inv-loop μ-loop Inv-loop2 μ-loop2
@@ -107,7 +114,7 @@ write-spec =
     μ-loop2
     loop-holds
     sub-loop
-    write-four-requires
+    write-x4-requires
     add-i
     loop-less
     loop-again

@@ -4,7 +4,7 @@ use Prim.Native.Nat.{ℕ}
 use denote.Ref.{now}
 use borrow.Author.Needs.{needs}
 use Rattle.cores.specs.declared.CoreOutput16.{CoreOutput16}
-use Rattle.lists.specs.Walks.{putAt}
+use Rattle.lists.specs.Walks.{replaceAt}
 use Rattle.standard.specs.Sizes.{authenticationSize}
 use Rattle.classes.proofs.ClassLaws.{record-by}
 use Rattle.classes.proofs.write_one.Statement.{statement}
@@ -13,9 +13,10 @@ use Rattle.classes.proofs.write_one.Tie as tie
 returns : tie.Need-returns
 returns c =
     let x = c .before .before .before .before .before .before .before .before .args in
-    c .before .before .put-at .ensures
-    ∙ ap (λ (y : List ℕ). putAt authenticationSize (x .i) y (now (x .out)))
-    (record-by (now (x .keys)) (x .response-mask) (x .key-mask) _ (c .before .before .before .before .before .input-at .ensures) (ap (λ (o : CoreOutput16). o .output) (c .before .before .before .before .bl1-with .ensures)))
+    c .before .before .write-at .ensures
+    ∙ ap (λ (y : List ℕ). replaceAt authenticationSize (x .i) y (now (x .out)))
+    (record-by (now (x .keys)) (x .response-mask) (x .key-mask) _ (c .before .before .before .before .before .input-at .ensures)
+    (ap (λ (o : CoreOutput16). o .output) (c .before .before .before .before .bl1-with .ensures)))
 
 pub write-one-spec : {M : Type 1} → statement M
 write-one-spec =

@@ -1,20 +1,18 @@
-use mathlib.Core.Path.{_∙_}
 use borrow.Author.Needs.{needs}
 use Rattle.books.proofs.convert.core.Statement.{statement}
 use Rattle.books.proofs.convert.core.Tie as tie
 
 returns : tie.Need-returns
-returns c = rw (c .before .before .enum-told .given .1) (c .without8 .ensures ∙ rw (c .before .bl1 .ensures))
+returns c = rw (c .before .enum-told .given .1) (c .seal-core .ensures)
 
 returns-2 : tie.Need-returns-2
-returns-2 c = rw (c .before .enum-told2 .given .1) (c .bl2 .ensures)
+returns-2 c = rw (c .before .enum-told2 .given .1) (c .open-core .ensures)
 
 pub core-spec : {M : Type 1} → statement M
 core-spec =
     tie.close
     (tie.spec
     (λ c. search needs)
-    (λ c κs. search needs)
     (λ c κs. search needs)
     (λ c. search needs)
     (λ c κs. search needs)

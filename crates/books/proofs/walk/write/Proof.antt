@@ -7,8 +7,8 @@ use lib.ListN.{drop}
 use denote.Ref.{now}
 use borrow.Author.Needs.{needs}
 use borrow.Author.Tests.{ne-eqb}
-use Rattle.books.proofs.WayLaws.{converted-is, runs-fit}
-use Rattle.books.specs.BothDirections.{sizeOf, toOf, convertOf}
+use Rattle.books.proofs.DirectionLaws.{converted-is, runs-fit}
+use Rattle.books.specs.BothDirections.{sizeOf, outputSizeOf, convertOf}
 use Rattle.identity.specs.declared.IdentityStrings.{IdentityStrings}
 use Rattle.standard.specs.Lists.{each}
 use Rattle.standard.specs.Runs.{identityRuns}
@@ -29,7 +29,8 @@ add-result : tie.Need-add-result
 add-result c =
     let wrote = c .before .before in
     let start = wrote .before .before .before .before .before .before .before in
-    omega (arith, one-run (wrote .before .before .before .identity-strings-of .ensures), wrote .write-with .ensures .1, runs-fit (start .args .way) (start .args .n) _ (start .pre .0), start .good)
+    omega (arith, one-run (wrote .before .before .before .identity-strings-of .ensures), wrote .write-with .ensures .1,
+    runs-fit (start .args .direction) (start .args .n) _ (start .pre .0), start .good)
 
 returns-2 : tie.Need-returns-2
 returns-2 c =
@@ -37,9 +38,10 @@ returns-2 c =
     let made = wrote .before .before .before in
     let x = made .before .before .before .before .args in (
       wrote .write-with .ensures .0
-          ∙ ap (λ (l : List ℕ). l ++ drop (toOf (x .way) * x .n) (now (x .out)))
-          (ap (λ (s : IdentityStrings). each (x .n) (sizeOf (x .way)) (convertOf (now (x .ring)) (s .bytes) (x .way)) (now (x .book))) (made .identity-strings-of .ensures)
-          ∙ converted-is (now (x .ring)) (x .way) (x .n) (now (x .book))),
+          ∙ ap (λ (l : List ℕ). l ++ drop (outputSizeOf (x .direction) * x .n) (now (x .out)))
+          (ap (λ (s : IdentityStrings). each (x .n) (sizeOf (x .direction)) (convertOf (now (x .ring)) (s .bytes) (x .direction)) (now (x .book)))
+          (made .identity-strings-of .ensures)
+          ∙ converted-is (now (x .ring)) (x .direction) (x .n) (now (x .book))),
       rw (ne-eqb _ _ (made .before .if1 .left)) (omega (arith, one-run (made .identity-strings-of .ensures), wrote .write-with .ensures .1)),
     )
 

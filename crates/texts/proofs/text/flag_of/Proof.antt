@@ -10,7 +10,7 @@ returns : tie.Need-returns
 unfolding opened
 returns c =
     let made = c .before .before in
-    rw (c .or-of .ensures, made .bl2 .ensures, made .before .with8 .ensures)
+    rw (c .or-of .ensures, made .open-core .ensures, made .before .opening-of .ensures)
     (ap not (or-clear (made .before .before .args .algorithm) _), refl)
 
 pub flag-of-spec : {M : Type 1} → statement M

@@ -8,8 +8,8 @@ unfolding opened
 returns c =
     let made = c .before .before .before in
     record {
-      is = rw (c .before .body-of .ensures, made .bl2 .ensures, made .before .with8 .ensures);
-      told = rw (c .failed-of .ensures, made .bl2 .ensures, made .before .with8 .ensures);
+      is = rw (c .before .body-of .ensures, made .open-core .ensures, made .before .opening-of .ensures);
+      told = rw (c .failed-of .ensures, made .open-core .ensures, made .before .opening-of .ensures);
     }
 
 pub open-text-spec : {M : Type 1} → statement M

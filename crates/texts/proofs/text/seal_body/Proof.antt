@@ -7,7 +7,7 @@ returns : tie.Need-returns
 unfolding sealed
 returns c =
     let made = c .before in
-    rw (made .without8 .ensures, made .before .bl1 .ensures, made .before .before .input-of .ensures)
+    rw (made .seal-core .ensures, made .before .input-of .ensures)
 
 pub seal-body-spec : {M : Type 1} → statement M
-seal-body-spec = tie.close (tie.spec (λ c κs. search needs) (λ c κs. search needs) (λ c κs. search needs) returns)
+seal-body-spec = tie.close (tie.spec (λ c κs. search needs) (λ c κs. search needs) returns)

@@ -1,0 +1,119 @@
+-- Sealing and opening, in the terms of the definitions.
+-- Assumes nothing.
+use mathlib.Core.Bool.{Bool, true, false}
+use mathlib.Core.List.{List}
+use mathlib.Core.Path.{_≡_, refl, ap, ap₂, _∙_}
+use Prim.Native.Nat.{ℕ, _+_, _*_, _-_, _<_, _≤_}
+use native.Mathlib.Omega.{arith}
+use lib.Dec.{eqb}
+use lib.ListN.{length, take, drop}
+use Rattle.cores.specs.CoreOutputs.{counted15}
+use Rattle.cores.specs.declared.CoreOutput15.{CoreOutput15}
+use Rattle.lists.proofs.WalkLaws.{end-fits, first-fit, lent, Wrote, wrote-none, wrote-one, wrote-x4}
+use Rattle.lists.specs.Walks.{after, replaceAt, replaceX4}
+use Rattle.records.specs.RecordForms.{coreKey, plainInput, sealedWith, openedWith}
+use Rattle.standard.proofs.AnswerLaws.{pass-most}
+use Rattle.standard.proofs.RunLaws.{inspection-most}
+use Rattle.standard.specs.Books.{commonKey, sealRecord, openRecord}
+use Rattle.standard.specs.Bytes.{choose}
+use Rattle.standard.specs.Identity.{bc}
+use Rattle.standard.specs.Lists.{recordAt, each}
+use Rattle.standard.specs.Runs.{firstPass, secondPass}
+use Rattle.standard.specs.Seals.{seal, sealed, unseal, opened}
+use Rattle.texts.specs.OpenedTexts.{lanes, inputLane}
+use Rattle.texts.specs.declared.text_core.CoreInput.{CoreInput}
+use Rattle.books.specs.BothDirections.{sizeOf, outputSizeOf, faultAt, inspectionOf, inspectionAt, recordOf}
+use Rattle.books.specs.BothDirections.{inputOf, inputAt, coreOf, madeOf, convertOf, convertAt}
+use Rattle.books.specs.declared.direction.Direction.{Direction}
+use Rattle.books.specs.declared.direction.Direction.the-variants.{Sealing, Opening}
+
+pub sizes : (d : Direction) → (0 < sizeOf d) × (sizeOf d ≤ 21) × (outputSizeOf d ≤ 21)
+sizes Sealing = omega arith
+sizes Opening = omega arith
+
+-- by a length s that is a record's: record i lies within a list, and the part that is lent there is it
+pub fits : (w i s most : ℕ) → s ≡ w → w * i + w ≤ most → s * i + s ≤ most
+fits w i s most e h = rw e h
+
+pub lent-by : (w i s : ℕ) (xs : List ℕ) → s ≡ w → w * i + w ≤ length xs → take (s * i + s - s * i) (drop (s * i) xs) ≡ recordAt w xs i
+lent-by w i s xs e h = rw e (lent w i xs h)
+
+-- record k of n in both; of four from place i on, the places count
+pub both-ends : (d : Direction) (k n size room : ℕ) → k < n → (sizeOf d * n ≤ size) × (outputSizeOf d * n ≤ room)
+    → (sizeOf d * k + sizeOf d ≤ size) × (outputSizeOf d * k + outputSizeOf d ≤ room)
+both-ends d k n size room h p = (end-fits (sizeOf d) k n size h (p .0), end-fits (outputSizeOf d) k n room h (p .1))
+
+pub places-fit : (d : Direction) (i most : ℕ) → sizeOf d * (i + 4) ≤ most → i + 4 ≤ most
+places-fit Sealing i most h = omega (arith, h)
+places-fit Opening i most h = omega (arith, h)
+
+-- the cipher runs: two for an inspection at most, and none for an inspection of a plain record
+pub inspections-most : (d : Direction) (x : List ℕ) → inspectionOf d x ≤ 2
+inspections-most Sealing x = omega arith
+inspections-most Opening x = inspection-most x
+
+pub inspections-few : (r : List ℕ) (d : Direction) (xs : List ℕ) (n : ℕ) → firstPass n (faultAt r d xs) (inspectionAt d xs) ≤ 2 * n
+inspections-few r d xs n = pass-most (faultAt r d xs) (inspectionAt d xs) 2 n (λ j. inspections-most d _)
+
+-- they fit where a book of n records does
+pub runs-fit : (d : Direction) (n size : ℕ) → sizeOf d * n ≤ size → 4 * n ≤ size
+runs-fit Sealing n size h = omega (arith, h)
+runs-fit Opening n size h = omega (arith, h)
+
+pub both-fit : (r : List ℕ) (d : Direction) (xs : List ℕ) (n size : ℕ) → sizeOf d * n ≤ size
+    → firstPass n (faultAt r d xs) (inspectionAt d xs) + secondPass n ≤ size + 1
+both-fit r d xs n size h = go (eqb n 0)
+  where
+    go : (t : Bool) → firstPass n (faultAt r d xs) (inspectionAt d xs) + (choose t 0 1 + 2 * n) ≤ size + 1
+    go true = omega (arith, inspections-few r d xs n, runs-fit d n size h)
+    go false = omega (arith, inspections-few r d xs n, runs-fit d n size h)
+
+pub made-length : (d : Direction) (b x o : List ℕ) → length (madeOf d b x o) ≡ outputSizeOf d
+unfolding sealedWith openedWith
+made-length Sealing b x o = refl
+made-length Opening b x o = refl
+
+pub same-input : {c : CoreInput} {k x : List ℕ} → c .key ≡ k → c .input ≡ x → c ≡ record { key = k; input = x }
+same-input ek ex = ap₂ input ek ex
+  where
+    input : (k x : List ℕ) → CoreInput
+    input k x = record { key = k; input = x }
+
+-- what the core takes of a record, the core, and what is made of its output; then the cores of four
+pub converted-by : (d : Direction) (r b x : List ℕ) {c : CoreInput} {o : CoreOutput15} → c ≡ inputOf r d x → o ≡ counted15 (coreOf d c)
+    → madeOf d b x (o .output) ≡ convertOf r b d x
+converted-by d r b x ec eo =
+    ap (λ (o : CoreOutput15). madeOf d b x (o .output)) (eo ∙ ap (λ (c : CoreInput). counted15 (coreOf d c)) ec)
+
+pub cores-by : (d : Direction) (r xs : List ℕ) (i : ℕ) {c : List CoreInput} {o : List CoreOutput15} → c ≡ lanes (λ j. inputAt r d xs (after i j))
+    → o ≡ lanes (λ j. counted15 (coreOf d (inputLane c j))) → o ≡ lanes (λ j. counted15 (coreOf d (inputAt r d xs (after i j))))
+cores-by d r xs i ec eo = eo ∙ ap (λ (c : List CoreInput). lanes (λ j. counted15 (coreOf d (inputLane c j)))) ec
+
+pub converted-length : (r b : List ℕ) (d : Direction) (x : List ℕ) → length (convertOf r b d x) ≡ outputSizeOf d
+converted-length r b d x = made-length d b x _
+
+-- from the cipher run of the ring's common key they are the records of the definitions
+pub converted-is : (r : List ℕ) (d : Direction) (n : ℕ) (xs : List ℕ)
+    → each n (sizeOf d) (convertOf r (bc (commonKey r)) d) xs ≡ each n (sizeOf d) (recordOf r d) xs
+unfolding coreKey plainInput sealedWith openedWith sealRecord openRecord seal sealed unseal opened
+converted-is r Sealing n xs = refl
+converted-is r Opening n xs = refl
+
+-- ---- the pass that writes: the first i records of xs stand converted in an output that was o
+
+module _ (r b : List ℕ) (d : Direction) (xs o : List ℕ) where
+  abbrev pub Converted : ℕ → List ℕ → Type 0
+  Converted i out = Wrote (sizeOf d) (outputSizeOf d) (convertOf r b d) xs o i out
+
+  pub converted-none : Converted 0 o
+  converted-none = wrote-none (sizeOf d) (outputSizeOf d) (convertOf r b d) (converted-length r b d) xs o
+
+  pub converted-one : (i n : ℕ) → i < n → outputSizeOf d * n ≤ length o → (out : List ℕ) → Converted i out
+      → {exit : List ℕ} → exit ≡ replaceAt (outputSizeOf d) i (convertAt r b d xs i) out → Converted (i + 1) exit
+  converted-one i n h room out k e =
+      wrote-one (sizeOf d) (outputSizeOf d) (convertOf r b d) (converted-length r b d) xs o i (end-fits (outputSizeOf d) i n _ h room) out k e
+
+  pub converted-x4 : (i n : ℕ) → i + 4 ≤ n → outputSizeOf d * n ≤ length o → (out : List ℕ) → Converted i out
+      → {exit : List ℕ} → exit ≡ replaceX4 (outputSizeOf d) i (λ j. convertAt r b d xs (after i j)) out → Converted (i + 4) exit
+  converted-x4 i n h room out k e =
+      wrote-x4 (sizeOf d) (outputSizeOf d) (convertOf r b d) (converted-length r b d) xs o i (first-fit (outputSizeOf d) (i + 4) n _ h room) out k e

@@ -1,0 +1,16 @@
+use borrow.Author.Needs.{needs}
+use Rattle.books.proofs.convert.runs_of.Statement.{statement}
+use Rattle.books.proofs.convert.runs_of.Tie as tie
+
+pub runs-of-spec : {M : Type 1} → statement M
+runs-of-spec =
+    tie.close
+    (tie.spec
+    (λ c. search needs)
+    (λ c. search needs)
+    (λ c. search needs)
+    (λ c. search needs)
+    (λ c. search needs)
+    (λ c. search needs)
+    (λ c. search needs)
+    (λ c. search needs))

@@ -1,0 +1,21 @@
+use borrow.Author.Needs.{needs}
+use Rattle.classes.specs.ClassRecords.{recordWith}
+use Rattle.classes.proofs.write_x4.Statement.{statement}
+use Rattle.classes.proofs.write_x4.Tie as tie
+
+returns : tie.Need-returns
+unfolding recordWith
+returns c =
+    let cores = c .before .before .before .before in
+    let y = cores .before .inputs-at .ensures in
+    rw (c .before .before .write-at-x4 .ensures, cores .bl1-four-with .ensures, y .0, y .1, y .2, y .3)
+
+pub write-x4-spec : {M : Type 1} → statement M
+write-x4-spec =
+    tie.close
+    (tie.spec
+    (λ c κs. search needs)
+    (λ c κs. search needs)
+    (λ c κs. search needs)
+    (λ c. search needs)
+    returns)

@@ -1,0 +1,36 @@
+use mathlib.Core.Path.{_∙_}
+use denote.Ref.{now}
+use borrow.Author.Needs.{needs}
+use Rattle.records.proofs.RecordFormLaws.{opened-put}
+use Rattle.records.proofs.write_opened.Statement.{statement}
+use Rattle.records.proofs.write_opened.Tie as tie
+
+returns : tie.Need-returns
+returns c =
+    let made = c .before .before .before .before .before in
+    let body = made .before in
+    let identity = body .before .before in
+    let kind = identity .before .before in
+    let first = kind .before in
+    let x = first .before .before .before .args in
+    opened-put (x .identity-strings) (now (x .rec)) (identity .decrypt-identity .result) (body .before .head-with .result) (now (x .out)) _
+    (made .join-6-12 .result)
+    (body .before .head-with .ensures) (c .before .before .copy .ensures) (kind .kind-of .result) (x .u) (body .body-of .result)
+    (kind .kind-of .ensures ∙ rw (first .byte-at .ensures)) (identity .decrypt-identity .ensures ∙ rw (identity .before .part3 .ensures))
+    (body .body-of .ensures) (made .join-6-12 .ensures)
+
+pub write-opened-spec : {M : Type 1} → statement M
+write-opened-spec =
+    tie.close
+    (tie.spec
+    (λ c κs. search needs)
+    (λ c κs. search needs)
+    (λ c κs. search needs)
+    (λ c κs. search needs)
+    (λ c κs. search needs)
+    (λ c κs. search needs)
+    (λ c κs. search needs)
+    (λ c. search needs)
+    (λ c κs. search needs)
+    (λ c. search needs)
+    returns)

@@ -1,0 +1,147 @@
+// The core of a sealed text: BL1, without its eighth byte, seals, and BL2 opens. For one text, and for four whose cores run side by side.
+use cores::CoreOutput15;
+use cores::CoreOutput16;
+use cores::bl1;
+use cores::bl2;
+use cores_four::Strings16;
+use cores_four::bl1_four;
+use cores_four::bl2_four;
+ghost use mathlib.Core.Path.{_≡_};
+ghost use Rattle.cores.specs.CoreOutputs.{counted15};
+ghost use Rattle.cores_four.specs.Lanes.{lane16};
+ghost use Rattle.standard.specs.Seals.{without8 as without8Of, with8 as with8Of};
+ghost use Rattle.texts.specs.OpenedTexts.{lanes, inputLane, shortened, sealCore, openCore};
+
+// A core's key, and its input.
+pub struct CoreInput {
+    pub key: [u8; 16],
+    pub input: [u8; 16],
+}
+
+// BL1's output without its eighth byte: the sealed text.
+fn without8(o: CoreOutput16) -> CoreOutput15
+    ensures { λ r. ⌜ r ≡ shortened o ⌝ }
+{
+    let x = o.output;
+    CoreOutput15 {
+        output: [
+            x[0],
+            x[1],
+            x[2],
+            x[3],
+            x[4],
+            x[5],
+            x[6],
+            x[8],
+            x[9],
+            x[10],
+            x[11],
+            x[12],
+            x[13],
+            x[14],
+            x[15],
+        ],
+        runs: o.runs,
+    }
+}
+
+// A sealed text with a zero byte in the eighth place, as BL2 takes it.
+fn with8(t: [u8; 15]) -> [u8; 16]
+    ensures { λ r. ⌜ r ≡ with8Of t ⌝ }
+{
+    [
+        t[0],
+        t[1],
+        t[2],
+        t[3],
+        t[4],
+        t[5],
+        t[6],
+        0,
+        t[7],
+        t[8],
+        t[9],
+        t[10],
+        t[11],
+        t[12],
+        t[13],
+        t[14],
+    ]
+}
+
+// What BL2 takes to open a text.
+pub fn opening_of(key: [u8; 16], text: [u8; 15]) -> CoreInput
+    ensures { λ c. ⌜ c ≡ record { key = key; input = with8Of text } ⌝ }
+{
+    CoreInput {
+        key,
+        input: with8(text),
+    }
+}
+
+pub fn seal_core(c: CoreInput) -> CoreOutput15
+    ensures { λ o. ⌜ o ≡ counted15 (sealCore c) ⌝ }
+{
+    let key = c.key;
+    let input = c.input;
+    without8(bl1(key, input))
+}
+
+pub fn open_core(c: CoreInput) -> CoreOutput15
+    ensures { λ o. ⌜ o ≡ counted15 (openCore c) ⌝ }
+{
+    let key = c.key;
+    let input = c.input;
+    bl2(key, input)
+}
+
+fn keys(c: [CoreInput; 4]) -> Strings16
+    ensures { λ k. ⌜ k ≡ record { a = inputLane c 0 .key; b = inputLane c 1 .key; c = inputLane c 2 .key; d = inputLane c 3 .key } ⌝ }
+{
+    let c0 = c[0];
+    let c1 = c[1];
+    let c2 = c[2];
+    let c3 = c[3];
+    let a = c0.key;
+    let b = c1.key;
+    let c = c2.key;
+    let d = c3.key;
+    Strings16 { a, b, c, d }
+}
+
+fn inputs(c: [CoreInput; 4]) -> Strings16
+    ensures { λ x. ⌜ x ≡ record { a = inputLane c 0 .input; b = inputLane c 1 .input; c = inputLane c 2 .input; d = inputLane c 3 .input } ⌝ }
+{
+    let c0 = c[0];
+    let c1 = c[1];
+    let c2 = c[2];
+    let c3 = c[3];
+    let a = c0.input;
+    let b = c1.input;
+    let c = c2.input;
+    let d = c3.input;
+    Strings16 { a, b, c, d }
+}
+
+fn without8_x4(o: [CoreOutput16; 4]) -> [CoreOutput15; 4]
+    ensures { λ r. ⌜ r ≡ lanes (λ j. shortened (lane16 o j)) ⌝ }
+{
+    [
+        without8(o[0]),
+        without8(o[1]),
+        without8(o[2]),
+        without8(o[3]),
+    ]
+}
+
+pub fn seal_core_x4(c: [CoreInput; 4]) -> [CoreOutput15; 4]
+    ensures { λ o. ⌜ o ≡ lanes (λ j. counted15 (sealCore (inputLane c j))) ⌝ }
+{
+    without8_x4(bl1_four(keys(c), inputs(c)))
+}
+
+pub fn open_core_x4(c: [CoreInput; 4]) -> [CoreOutput15; 4]
+    ensures { λ o. ⌜ o ≡ lanes (λ j. counted15 (openCore (inputLane c j))) ⌝ }
+{
+    bl2_four(keys(c), inputs(c))
+}
