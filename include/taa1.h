@@ -9,8 +9,8 @@
  * stands first. A length in brackets, in the comments below, is the one that
  * the call accepts.
  *
- * Every answer is a struct by value whose first field is 0 or the number of a
- * refusal. On a refusal all its other fields are zero, but for the index in a
+ * Every answer, but for that of taa1_release, is a struct by value whose first field
+ * is 0 or the number of a refusal. On a refusal all its other fields are zero, but for the index in a
  * book's answer and the runs of a refused opening. Compare fields and not whole
  * structs: padding is no part of an answer.
  *
@@ -35,6 +35,13 @@
 #ifdef __cplusplus
 extern "C" {
 #endif
+
+/* ---- The release: that of this header, and taa1_release answers that of the library ---- */
+
+#define TAA1_VERSION "1.0.0"
+#define TAA1_VERSION_MAJOR 1
+#define TAA1_VERSION_MINOR 0
+#define TAA1_VERSION_PATCH 0
 
 /* ---- Constants ---- */
 
@@ -263,6 +270,20 @@ typedef struct {
     uint32_t least;
     uint32_t greatest;
 } taa1_tally;
+
+/* The three numbers of a release. The one answer without a refusal. */
+typedef struct {
+    uint32_t major;
+    uint32_t minor;
+    uint32_t patch;
+} taa1_release_numbers;
+
+/*
+ * The release of the library. With another major than TAA1_VERSION_MAJOR it is not
+ * that of this header: a call, a parameter or an answer may be another. Refuses
+ * nothing.
+ */
+taa1_release_numbers taa1_release(void);
 
 /* ---- HURDLE-II: a block [8] under a key [16] ---- */
 

@@ -572,10 +572,11 @@ class Values(unittest.TestCase):
     """What the calls take."""
 
     def test_every_call(self) -> None:
-        """ACCEPTED, which the tests below go by, has each call, and each accepts it."""
+        """ACCEPTED, which the tests below go by, has each call that takes something, and each
+        accepts it."""
         public = {name for name in vars(taa1.Engine) if not name.startswith("_")}
-        self.assertEqual(set(ACCEPTED), public)
-        self.assertEqual(len(public), 45)
+        self.assertEqual(set(ACCEPTED) | {"release"}, public)
+        self.assertEqual(len(public), 46)
         for name, values in ACCEPTED.items():
             with self.subTest(name):
                 call(name, *values)
@@ -637,6 +638,11 @@ class Values(unittest.TestCase):
 
     def test_libraries(self) -> None:
         self.assertRaises(OSError, taa1.Engine, "/no/such/library")
+
+    def test_release(self) -> None:
+        """The library is of this package's release."""
+        self.assertEqual(".".join(map(str, ENGINE.release())), taa1.__version__)
+        self.assertEqual(ENGINE.release().major, 1)
 
 
 if __name__ == "__main__":

@@ -121,3 +121,8 @@ FIELD(taa1_tally, flips, 4, 4);
 FIELD(taa1_tally, total, 8, 4);
 FIELD(taa1_tally, least, 12, 4);
 FIELD(taa1_tally, greatest, 16, 4);
+
+STRUCT(taa1_release_numbers, 12, 4);
+FIELD(taa1_release_numbers, major, 0, 4);
+FIELD(taa1_release_numbers, minor, 4, 4);
+FIELD(taa1_release_numbers, patch, 8, 4);

@@ -456,6 +456,16 @@ static void texts(void)
     CHECK(strcmp(taa1_refusal_text(UINT32_MAX), "not in the list") == 0);
 }
 
+static void release(void)
+{
+    taa1_release_numbers numbers = taa1_release();
+    char text[64];
+    CHECK(numbers.major == TAA1_VERSION_MAJOR && numbers.minor == TAA1_VERSION_MINOR);
+    CHECK(numbers.patch == TAA1_VERSION_PATCH);
+    snprintf(text, sizeof text, "%u.%u.%u", numbers.major, numbers.minor, numbers.patch);
+    CHECK(strcmp(text, TAA1_VERSION) == 0);
+}
+
 int main(void)
 {
     static const size_t records[] = {0, 1, 2, 3, 4, 5, 17, TAA1_MOST_RECORDS - 1, TAA1_MOST_RECORDS};
@@ -477,6 +487,7 @@ int main(void)
     }
     nulls();
     texts();
+    release();
     printf("%zu checks between guard pages, %zu failed\n", checks, failures);
     return failures != 0;
 }

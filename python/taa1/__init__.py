@@ -16,6 +16,7 @@ if _sys.argv[:1] == ["-m"]:
             _signal.signal(_signal.SIGINT, _signal.default_int_handler)
 
 from .engine import Engine
+from .library import VERSION as __version__
 from .library import LibraryError
 from .refusals import NAMES, Refusal, Refused
 from .values import (
@@ -43,6 +44,7 @@ from .values import (
     FailedChecks,
     KeyNumber,
     Kind,
+    Release,
     RingMade,
     Sitting,
     Tally,
@@ -50,8 +52,6 @@ from .values import (
     UnsealedNumbered,
     Version,
 )
-
-__version__ = "0.0.0"
 
 __all__ = [
     "AUTHENTICATION_BYTES",
@@ -83,6 +83,7 @@ __all__ = [
     "LibraryError",
     "Refusal",
     "Refused",
+    "Release",
     "RingMade",
     "Sitting",
     "Tally",

@@ -7,9 +7,9 @@ from ctypes import c_char, c_char_p, c_size_t, c_uint8, c_uint16, c_uint32, c_ui
 from typing import Any, Callable, NamedTuple, Optional, Sequence
 
 from .calls import ANSWERS, CALLS, Field
-from .library import LibraryError
+from .library import VERSION, LibraryError
 from .refusals import Refused
-from .values import MOST_RECORDS, KeyNumber, Version, expect, fit
+from .values import MOST_RECORDS, KeyNumber, Release, Version, expect, fit
 
 
 class _Number(ctypes.Structure):
@@ -69,24 +69,42 @@ def _struct(fields: Sequence[Field]) -> type[ctypes.Structure]:
 _STRUCTS = {name: _struct(fields) for name, fields in ANSWERS.items()}
 
 
+class _Release(ctypes.Structure):
+    """What taa1_release answers."""
+
+    _fields_ = [(name, c_uint32) for name in Release._fields]
+
+
+def _bound(library: ctypes.CDLL, name: str, answer: Any, types: Sequence[Any]) -> Any:
+    """A call of a library. Raises LibraryError if it has none of that name."""
+    try:
+        bound = library[f"taa1_{name}"]
+    except AttributeError:
+        raise LibraryError(f"{library._name} has no call taa1_{name}") from None
+    bound.restype = answer
+    bound.argtypes = types
+    return bound
+
+
 class Binding:
     """The calls of a shared object."""
 
     def __init__(self, path: str) -> None:
-        """Raises LibraryError where there is no library at the path, or it lacks a call."""
+        """Raises LibraryError if there is no library at the path, it lacks a call, or the
+        first number of its release is not that of this package."""
         try:
             library = ctypes.CDLL(path)
         except OSError as error:
             raise LibraryError(f"{path} cannot be loaded: {error}") from None
+        answer = _bound(library, "release", _Release, ())()
+        self.release = Release(answer.major, answer.minor, answer.patch)
+        if str(self.release.major) != VERSION.partition(".")[0]:
+            said = ".".join(map(str, self.release))
+            raise LibraryError(f"{path} is of release {said}, which this package, {VERSION}, cannot use")
         self._calls: dict[str, Any] = {}
         for name, call in CALLS.items():
-            try:
-                bound = library[f"taa1_{name}"]
-            except AttributeError:
-                raise LibraryError(f"{path} has no call taa1_{name}") from None
-            bound.restype = _STRUCTS[call.answer]
-            bound.argtypes = [each for p in call.parameters for each in _KINDS[p.kind].types]
-            self._calls[name] = bound
+            types = [each for p in call.parameters for each in _KINDS[p.kind].types]
+            self._calls[name] = _bound(library, name, _STRUCTS[call.answer], types)
 
     def answer(self, name: str, *values: Any, room: Optional[int] = None) -> dict[str, Any]:
         """The fields of a call's answer after the refusal, bytes and numbers.

@@ -1,4 +1,4 @@
-"""The engine's calls in one table: names, parameters, lengths and answers.
+"""The engine's calls in one table, but for `release`: names, parameters, lengths and answers.
 
 What ctypes is told, what the typed methods test and the desk's options and help come
 from it. tests/desk compares it with include/taa1.h, name by name, its lengths with what

@@ -22,6 +22,7 @@ from .values import (
     CountedBook,
     FailedChecks,
     KeyNumber,
+    Release,
     RingMade,
     Sitting,
     Tally,
@@ -89,7 +90,8 @@ class Engine:
     def __init__(self, path: str | None = None) -> None:
         """Loads the shared object at `path`, or the one that `library.find` finds.
 
-        Raises LibraryError where there is none, or it lacks a call.
+        Raises LibraryError if there is none, it lacks a call, or the first number of its
+        release is not that of this package.
         """
         self.path = find() if path is None else path
         self.binding = Binding(self.path)
@@ -98,6 +100,10 @@ class Engine:
         """The result of a call."""
         answer = self.binding.answer(name, *values)
         return _RESULTS[CALLS[name].answer](*answer.values())
+
+    def release(self) -> Release:
+        """The release of the shared object; `__version__` is that of this package."""
+        return self.binding.release
 
     def encrypt(self, key: Bytes, block: Bytes) -> bytes:
         """HURDLE-II: a block of 8 bytes, encrypted under a key of 16."""

@@ -1,4 +1,4 @@
-"""Where the engine's shared object is, and how the repository makes it."""
+"""Where the engine's shared object is, of which release, and how the repository makes it."""
 
 from __future__ import annotations
 
@@ -9,13 +9,14 @@ import sys
 import time
 from pathlib import Path
 
+VERSION = "1.0.0"
 VARIABLE = "TAA1_LIBRARY"
 NAME = "libtaa1.so"
 PACKAGE = Path(__file__).resolve().parent
 
 
 class LibraryError(OSError):
-    """The engine's shared object is missing, cannot be loaded or lacks a call."""
+    """The engine's shared object is missing, cannot be loaded, lacks a call or is of another release."""
 
 
 def repository() -> Path | None:

@@ -174,6 +174,14 @@ class CountedBook(NamedTuple):
     runs: int
 
 
+class Release(NamedTuple):
+    """The three numbers of a release. With another major, calls may take or answer other things."""
+
+    major: int
+    minor: int
+    patch: int
+
+
 class Tally(NamedTuple):
     """The flips tried, the total of bits changed, the least and greatest change of a flip."""
 

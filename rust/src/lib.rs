@@ -10,7 +10,11 @@ mod refusal;
 use std::array::from_fn;
 
 pub use checks::FailedChecks;
+pub use raw::Release;
 pub use refusal::{BookRefusal, CountedRefusal, Refusal};
+
+/// The release of this crate: `major.minor.patch`.
+pub const VERSION: &str = env!("CARGO_PKG_VERSION");
 
 pub const RING_BYTES: usize = 52;
 pub const PLAIN_RECORD_BYTES: usize = 18;
@@ -176,6 +180,12 @@ macro_rules! call {
             )*)
         }
     };
+}
+
+/// The release of the archive; [`VERSION`] is that of this crate.
+pub fn release() -> Release {
+    // SAFETY: the call takes nothing.
+    unsafe { raw::release() }
 }
 
 /// HURDLE-II: a block of 8 bytes, encrypted under a key of 16.

@@ -111,8 +111,16 @@ pub struct Tally {
     pub greatest: u32,
 }
 
-/// Hands the declarations of all calls to a macro: `[name]` is a byte string and
-/// `{name}` an output, which are a pointer and a length each.
+#[repr(C)]
+#[derive(Clone, Copy, Debug, PartialEq, Eq)]
+pub struct Release {
+    pub major: u32,
+    pub minor: u32,
+    pub patch: u32,
+}
+
+/// Hands the declarations of all calls that take something to a macro: `[name]` is a
+/// byte string and `{name}` an output, which are a pointer and a length each.
 #[macro_export]
 macro_rules! calls {
     ($macro:ident) => {
@@ -189,3 +197,9 @@ macro_rules! declare {
 }
 
 calls!(declare);
+
+extern "C" {
+    /// It takes nothing and refuses nothing.
+    #[link_name = "taa1_release"]
+    pub fn release() -> Release;
+}

@@ -5,9 +5,9 @@ use std::thread;
 
 use taa1::{
     Authentication, Book, BookRefusal, Card, CarrierIdentity, Cell, CountedBook, CountedRefusal,
-    FailedChecks, KeyNumber, Kind, Refusal, RingMade, Sitting, Tally, Unsealed, UnsealedNumbered,
-    Version, CHALLENGE_BYTES, MOST_RECORDS, PLAIN_RECORD_BYTES, RING_BYTES, SEALED_RECORD_BYTES,
-    SHEET_RECORD_BYTES, SHEET_VALUE_BYTES, TALLY_RECORD_BYTES,
+    FailedChecks, KeyNumber, Kind, Refusal, Release, RingMade, Sitting, Tally, Unsealed,
+    UnsealedNumbered, Version, CHALLENGE_BYTES, MOST_RECORDS, PLAIN_RECORD_BYTES, RING_BYTES,
+    SEALED_RECORD_BYTES, SHEET_RECORD_BYTES, SHEET_VALUE_BYTES, TALLY_RECORD_BYTES,
 };
 
 const ROOT: [u8; 16] = *b"a root or key...";
@@ -81,6 +81,18 @@ fn derived(operation: u8, first: u16, second: u16) -> [u8; SHEET_RECORD_BYTES] {
 /// A key with zeros behind it.
 fn value(key: &[u8]) -> [u8; SHEET_VALUE_BYTES] {
     from_fn(|i| key.get(i).copied().unwrap_or(0))
+}
+
+/// The archive is of this crate's release.
+#[test]
+fn the_release_is_told() {
+    let Release {
+        major,
+        minor,
+        patch,
+    } = taa1::release();
+    assert_eq!(format!("{major}.{minor}.{patch}"), taa1::VERSION);
+    assert_eq!(major, 1);
 }
 
 #[test]

@@ -8,7 +8,7 @@ import unittest
 from typing import Any, get_type_hints
 
 from common import DESK, ROOT, Case, taa1
-from taa1 import NAMES, Bytes, Engine, KeyNumber, Refused, Sitting, Version
+from taa1 import NAMES, Bytes, Engine, KeyNumber, Refused, Release, Sitting, Version
 from taa1.calls import ANSWERS, CALLS, Call, Field, Parameter
 
 HEADER = re.sub(r"/\*.*?\*/", " ", (ROOT / "include" / "taa1.h").read_text(), flags=re.S)
@@ -67,6 +67,7 @@ class Table(unittest.TestCase):
             for answer, name, inputs in re.findall(r"\btaa1_(\w+) taa1_(\w+)\(([^)]*)\);", HEADER)
         }
         wanted = {call.name: (call.answer, parameters(call)) for call in CALLS.values()}
+        wanted["release"] = ("release_numbers", "void")  # takes nothing and refuses nothing
         self.assertEqual(wanted, declared)
 
     def test_answers(self) -> None:
@@ -75,8 +76,10 @@ class Table(unittest.TestCase):
             for constant, number in CONSTANTS.items():
                 body = re.sub(rf"\b{constant}\b", str(number), body)
             declared[name] = [" ".join(line.split()) for line in body.split(";") if line.strip()]
-        numbers = {"version", "key_number"}
+        numbers = {"version", "key_number", "release_numbers"}
         self.assertEqual(set(declared), set(ANSWERS) | numbers)
+        wanted = [f"uint32_t {name}" for name in Release._fields]
+        self.assertEqual(wanted, declared["release_numbers"])
         for name, fields in ANSWERS.items():
             with self.subTest(name):
                 wanted = ["uint32_t refusal", *map(member, fields)]
@@ -86,7 +89,7 @@ class Table(unittest.TestCase):
         """The typed methods take what the table has, under the same names."""
         kinds = {"bytes": Bytes, "version": Version, "number": KeyNumber}
         methods = {name: call for name, call in vars(Engine).items() if not name.startswith("_")}
-        self.assertEqual(set(methods), set(CALLS))
+        self.assertEqual(set(methods), set(CALLS) | {"release"})
         for call in CALLS.values():
             with self.subTest(call.name):
                 method = Sitting if call.name == "ring" else methods[call.name]

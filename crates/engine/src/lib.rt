@@ -35,6 +35,25 @@ ghost use Rattle.standard.specs.Register.{registerCall};
 ghost use Rattle.standard.specs.Seals.{ta31Call, ta32Call, ta51Call, ta52Call, ta81Call, ta82Call, ta91Call, ta92Call};
 ghost use Rattle.standard.specs.Sizes.{plainSize, sealedSize};
 
+// The release, by which a host can tell whether the archive is that of its header.
+#[repr(C)]
+pub struct Release {
+    pub major: u32,
+    pub minor: u32,
+    pub patch: u32,
+}
+
+#[no_mangle]
+pub extern "C" fn taa1_release() -> Release
+    ensures { λ r. ⌜ r ≡ record { major = 1; minor = 0; patch = 0 } ⌝ }
+{
+    Release {
+        major: 1,
+        minor: 0,
+        patch: 0,
+    }
+}
+
 #[no_mangle]
 pub extern "C" fn taa1_encrypt(key: &[u8], block: &[u8]) -> Bytes8
     ensures { λ r. ⌜ r ≡ encryptCall (now (key .entry)) (now (block .entry)) ⌝ }

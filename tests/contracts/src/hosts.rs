@@ -145,6 +145,17 @@ pub fn table(
     );
     let mut faults = Vec::new();
     for call in declared(header) {
+        if call.arguments.is_empty() {
+            // What takes nothing tests nothing.
+            let (name, answer) = (call.name, call.answer);
+            text.push_str(&format!("| `{name}` | - | - | `{answer}` | - |\n"));
+            if !call.comment.contains("Refuses nothing.") {
+                faults.push(format!(
+                    "include/taa1.h: {name}: its comment has no \"Refuses nothing.\""
+                ));
+            }
+            continue;
+        }
         let term = contract(call.name).unwrap_or_default();
         let names: Vec<String> = call
             .arguments
@@ -184,6 +195,9 @@ taa1_value taa1_one(const uint8_t *key, size_t key_length,
 
 /* Many. Refuses 1, 11. */
 taa1_book_answer taa1_two(const uint8_t *key, size_t key_length, uint8_t *out, size_t out_length);
+
+/* Three. Refuses 1. */
+taa1_numbers taa1_three(void);
 ";
     const REFUSALS: &str = "\
 abbrev pub wrongLength : ℕ
@@ -200,7 +214,7 @@ twoCall k out = value (first ((wrongLength) ∷ []))
 ";
 
     /// A row for each call. The second has a wrong comment, and a string whose length no
-    /// test asks for.
+    /// test asks for; the third takes nothing, and has a wrong comment.
     #[test]
     fn rows_and_faults() {
         let engine = "ghost use Rattle.standard.specs.Refusals.{oneCall, twoCall};";
@@ -217,7 +231,8 @@ twoCall k out = value (first ((wrongLength) ∷ []))
             rows,
             [
                 "| `taa1_one` | `key` [16], `steps` (0 to 31) | 11 | `taa1_value` | - |",
-                second
+                second,
+                "| `taa1_three` | - | - | `taa1_numbers` | - |",
             ]
         );
         assert_eq!(
@@ -225,6 +240,7 @@ twoCall k out = value (first ((wrongLength) ∷ []))
             [
                 format!("include/taa1.h: taa1_two: its definition is not understood: {second}"),
                 "include/taa1.h: taa1_two: its comment has no \"Refuses 11.\"".to_string(),
+                "include/taa1.h: taa1_three: its comment has no \"Refuses nothing.\"".to_string(),
             ]
         );
     }

@@ -3,15 +3,19 @@
 //! definitions of `standard` alone, and docs/READING.md has the table of the public
 //! ones, that of what they cite outside `standard`, and that of the must-fail edits.
 //! The claims of docs/ARGUMENT.md are those of the crate `claims`. docs/hosts.md has the
-//! table of the calls, and include/taa1.h names the refusals of each.
+//! table of the calls, and include/taa1.h names the refusals of each. Every copy of the
+//! release is that of the file VERSION, and every link of a guide leads somewhere.
 //!
-//!     contracts          checks; the last line: N passed, M failed
-//!     contracts table    prints the tables
+//!     contracts            checks; the last line: N passed, M failed
+//!     contracts table      prints the tables
+//!     contracts version    writes the copies of the release
 
 mod claims;
 mod definitions;
 mod edits;
 mod hosts;
+mod links;
+mod version;
 
 use definitions::Definitions;
 use std::fs;
@@ -304,17 +308,31 @@ fn unquoted<'a>(guide: &'a str, heading: &str, files: &[String]) -> Vec<&'a str>
         .collect()
 }
 
+fn write_version(root: &Path) -> ExitCode {
+    match version::write(root) {
+        Ok(version) => {
+            println!("{version} is written; CHANGELOG.md wants a heading of its own");
+            ExitCode::SUCCESS
+        }
+        Err(fault) => {
+            eprintln!("contracts: {fault}");
+            ExitCode::FAILURE
+        }
+    }
+}
+
 fn main() -> ExitCode {
     let arguments: Vec<_> = std::env::args_os().skip(1).collect();
+    let root = Path::new(env!("CARGO_MANIFEST_DIR")).join("../..");
     let print = match &arguments[..] {
         [] => false,
         [word] if word == "table" => true,
+        [word] if word == "version" => return write_version(&root),
         _ => {
-            eprintln!("usage: contracts [table]");
+            eprintln!("usage: contracts [table | version]");
             return ExitCode::from(2);
         }
     };
-    let root = Path::new(env!("CARGO_MANIFEST_DIR")).join("../..");
     let mut all = Vec::new();
     let mut odd = Vec::new();
     let mut refused = Vec::new();
@@ -386,8 +404,15 @@ fn main() -> ExitCode {
     for fault in &faults {
         println!("docs/ARGUMENT.md: {fault}");
     }
+    let (linked, astray) = links::check(&root);
+    let copies = version::check(&root);
+    for fault in astray.iter().chain(&copies) {
+        println!("{fault}");
+    }
     let passed = passed + tables.len() - missing + claimed + usize::from(untold.is_empty());
+    let passed = passed + linked + usize::from(copies.is_empty());
     let failed = failed + odd.len() + missing + faults.len() + untold.len();
+    let failed = failed + astray.len() + copies.len();
     println!("{passed} passed, {failed} failed");
     ExitCode::from(u8::from(failed != 0))
 }

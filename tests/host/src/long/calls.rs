@@ -223,9 +223,12 @@ mod tests {
 
     const HEADER: &str = include_str!(concat!(env!("CARGO_MANIFEST_DIR"), "/../../include/taa1.h"));
 
-    /// The calls that the header declares. A function that it defines is in no archive.
+    /// The calls that the header declares, but for the release, which takes nothing. A
+    /// function that it defines is in no archive.
     fn declared() -> HashSet<&'static str> {
-        let code = HEADER.lines().filter(|line| !line.starts_with("static "));
+        let code = HEADER
+            .lines()
+            .filter(|line| !line.starts_with("static ") && !line.contains("taa1_release(void)"));
         code.filter_map(|line| {
             let (_, rest) = line.split_once(" taa1_")?;
             let (name, _) = rest.split_once('(')?;

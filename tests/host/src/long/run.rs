@@ -300,7 +300,7 @@ mod tests {
         }
     }
 
-    /// The refusals of each call, by the table for hosts.
+    /// The refusals of each call that takes something, by the table for hosts.
     fn tabled() -> HashMap<&'static str, Vec<usize>> {
         let guide = include_str!(concat!(env!("CARGO_MANIFEST_DIR"), "/../../docs/hosts.md"));
         let row = |line: &'static str| {
@@ -309,7 +309,7 @@ mod tests {
             let words = cells.get(3)?.split([' ', ',', ';']);
             let mut refusals: Vec<usize> = words.filter_map(|word| word.parse().ok()).collect();
             refusals.sort_unstable();
-            Some((name, refusals))
+            (name != "release").then_some((name, refusals))
         };
         guide.lines().filter_map(row).collect()
     }
