@@ -8,7 +8,6 @@ use crate::walk::scan;
 use crate::walk::write;
 use lists::lengths;
 use lists::lengths_and_output;
-use lists::refused;
 use records::ring_bytes;
 use standard::BookAnswer;
 use standard::CountedAnswer;
@@ -20,36 +19,24 @@ ghost use mathlib.Core.Path.{_≡_};
 ghost use Rattle.standard.specs.Books.{bookCall, sealBook, openBook, checkPlain};
 ghost use Rattle.books.specs.BothDirections.{conversionOf};
 
-// What a refused book answers, with the block cipher runs by then.
-fn refused_after(refusal: u32, index: usize, runs: usize) -> CountedAnswer
-    ensures { λ r. ⌜ r ≡ record { refusal = refusal; index = index; written = 0; runs = runs } ⌝ }
-{
-    CountedAnswer {
-        refusal,
-        index,
-        written: 0,
-        runs,
-    }
-}
-
 // Two passes: the first looks for a refusal, the second writes.
 fn book_call(direction: Direction, ring: &[u8], book: &[u8], out: &mut [u8]) -> CountedAnswer
     ensures { λ r. ⌜ (r, now (out .exit)) ≡ bookCall (conversionOf (now (ring .entry)) direction) (now (ring .entry)) (now (book .entry)) (now (out .entry)) ⌝ }
 {
     if ring.len() != RING {
-        return refused_after(WRONG_LENGTH, 0, 0);
+        return CountedAnswer::refused(WRONG_LENGTH, 0, 0);
     }
     let size = direction.size();
     let output_size = direction.output_size();
     let refusal = lengths_and_output(size, output_size, book.len(), out.len());
     if refusal != 0 {
-        return refused_after(refusal, 0, 0);
+        return CountedAnswer::refused(refusal, 0, 0);
     }
     let keys = ring_bytes(ring);
     let n = book.len() / size as usize;
     let stop = scan(direction, &keys, book, n);
     if stop.refusal != 0 {
-        return refused_after(stop.refusal, stop.index, stop.runs);
+        return CountedAnswer::refused(stop.refusal, stop.index, stop.runs);
     }
     let runs = write(direction, &keys, book, n, out);
     CountedAnswer {
@@ -78,13 +65,13 @@ pub fn check_plain(plain: &[u8]) -> BookAnswer
 {
     let refusal = lengths(PLAIN_RECORD as u32, plain.len());
     if refusal != 0 {
-        return refused(refusal, 0);
+        return BookAnswer::refused(refusal, 0);
     }
     let n = plain.len() / PLAIN_RECORD;
     let no_ring: RingBytes = [0; RING];
     let found = scan(Direction::Sealing, &no_ring, plain, n);
     if found.refusal != 0 {
-        return refused(found.refusal, found.index);
+        return BookAnswer::refused(found.refusal, found.index);
     }
     BookAnswer {
         refusal: 0,

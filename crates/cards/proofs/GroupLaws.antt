@@ -31,7 +31,10 @@ module _ (a : ℕ) where
       → g₄ ≡ m / 2 ^ (15 - (a + 3)) % 2 → g₁ + g₂ + g₃ + g₄ ≡ erasures m a
   four-erasures m g₁ g₂ g₃ g₄ e₁ e₂ e₃ e₄ =
       let at : (i j : ℕ) → i ≡ j → bit (15 - i) m ≡ bit (15 - j) m = λ i j q. ap (λ (n : ℕ). bit (15 - n) m) q in
-      omega (arith, gap-bit m a e₁, gap-bit m (a + 1) e₂ ∙ at (a + 1) (suc a) one, gap-bit m (a + 2) e₃ ∙ at (a + 2) (suc (suc a)) two, gap-bit m (a + 3) e₄ ∙ at (a + 3) (suc (suc (suc a))) three)
+      let second = gap-bit m (a + 1) e₂ ∙ at (a + 1) (suc a) one in
+      let third = gap-bit m (a + 2) e₃ ∙ at (a + 2) (suc (suc a)) two in
+      let fourth = gap-bit m (a + 3) e₄ ∙ at (a + 3) (suc (suc (suc a))) three in
+      omega (arith, gap-bit m a e₁, second, third, fourth)
 
   pub four-parity : (r : List ℕ) → r ! a ⊕ r ! (a + 1) ⊕ r ! (a + 2) ⊕ r ! (a + 3) ≡ groupParity r a
   four-parity r = rw (one, two, three)

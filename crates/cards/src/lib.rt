@@ -7,8 +7,9 @@ use standard::WRONG_LENGTH;
 ghost use mathlib.Core.Path.{_≡_};
 ghost use Prim.Native.Nat.{_-_, _/_, _%_, _^_, _<_, _≤_};
 ghost use lib.Dec.{eqb};
-ghost use Rattle.standard.specs.Bytes.{choose, zeros};
-ghost use Rattle.standard.specs.Cards.{readable as readableOf, erasures as erasuresOf, groupParity, atMostOne, agrees as agreesOf, everyGroup, restored as restoredOf, keyOf, restoreCall};
+ghost use Rattle.standard.specs.Bytes.{choose};
+ghost use Rattle.standard.specs.Cards.{readable as readableOf, erasures as erasuresOf, groupParity, atMostOne, agrees as agreesOf};
+ghost use Rattle.standard.specs.Cards.{everyGroup, restored as restoredOf, keyOf, restoreCall};
 
 // The mask's bit of the byte at index i from the left: 1 where that is unreadable.
 fn erased(unreadable: u16, i: usize) -> u16
@@ -117,28 +118,18 @@ fn key_of(card: [u8; 16]) -> [u8; 12]
     ]
 }
 
-fn refused_card(refusal: u32) -> Card
-    ensures { λ r. ⌜ r ≡ record { refusal = refusal; key = zeros 12; card = zeros 16 } ⌝ }
-{
-    Card {
-        refusal,
-        key: [0; 12],
-        card: [0; 16],
-    }
-}
-
 pub fn restore_card(card: &[u8], unreadable: u16) -> Card
     ensures { λ r. ⌜ r ≡ restoreCall (now (card .entry)) unreadable ⌝ }
 {
     if card.len() != 16 {
-        return refused_card(WRONG_LENGTH);
+        return Card::refused(WRONG_LENGTH);
     }
     if !at_most_one(unreadable) {
-        return refused_card(GROUP_UNREADABLE);
+        return Card::refused(GROUP_UNREADABLE);
     }
     let read = readable(array16(card), unreadable);
     if !agree(read, unreadable) {
-        return refused_card(GROUP_DISAGREES);
+        return Card::refused(GROUP_DISAGREES);
     }
     let whole = restored(read, unreadable);
     let key = key_of(whole);

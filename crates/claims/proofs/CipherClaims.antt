@@ -37,7 +37,9 @@ pub f-collides : FCollides
 f-collides = record {
   same = same-image;
   not-undone = λ g h.
-      let e : half₁ ≡ half₂ = sym (h half₁ (zeros 12) (literal-bytes half₁ refl) (literal-bytes (zeros 12) refl)) ∙ ap (λ (z : List ℕ). g z (zeros 12)) same-image ∙ h half₂ (zeros 12) (literal-bytes half₂ refl) (literal-bytes (zeros 12) refl) in
+      let back₁ = h half₁ (zeros 12) (literal-bytes half₁ refl) (literal-bytes (zeros 12) refl) in
+      let back₂ = h half₂ (zeros 12) (literal-bytes half₂ refl) (literal-bytes (zeros 12) refl) in
+      let e : half₁ ≡ half₂ = sym back₁ ∙ ap (λ (z : List ℕ). g z (zeros 12)) same-image ∙ back₂ in
       let z : _≡_ {A = ℕ} 0x01 0xc1 = ap (λ (l : List ℕ). l ! 2) e in
       omega arith;
 }

@@ -43,9 +43,11 @@ pub ring-bytes : (expand turn : List ℕ → List ℕ) → ((b : List ℕ) → B
 unfolding ringWith
 ring-bytes expand turn he ht x h =
     let core : (k b : List ℕ) → Bytes 10 b → Bytes 16 (bl1 k (expand b)) = λ k b hb. bl1-inverse k .to (expand b) (he b hb) in
+    let half₁ = core (bl1 (x .root) (expand (x .rs))) (x .rand1) (h .rand1) in
+    let half₂ = core (bl1 (x .root) (expand (reversed (x .rs)))) (turn (x .rand2)) (ht (x .rand2) (h .rand2)) in
     bytes-append (bytes-append (bytes-append
     (bytes-xors 10
-    (half-bytes (not (eqb (x .sides) 2)) (x .«response_mask») (x .«key_mask») _ (core (bl1 (x .root) (expand (x .rs))) (x .rand1) (h .rand1)))
-    (half-bytes (not (eqb (x .sides) 1)) (x .«response_mask») (x .«key_mask») _ (core (bl1 (x .root) (expand (reversed (x .rs)))) (turn (x .rand2)) (ht (x .rand2) (h .rand2)))))
+    (half-bytes (not (eqb (x .sides) 2)) (x .«response_mask») (x .«key_mask») _ half₁)
+    (half-bytes (not (eqb (x .sides) 1)) (x .«response_mask») (x .«key_mask») _ half₂))
     (bytes-part 0 16 (core (x .root) (x .rso) (h .rso)))) (bytes-part 0 10 (h .c)))
     (bytes-grouped (h .group-key) (3 ∷ 3 ∷ 3 ∷ 3 ∷ []) 0)

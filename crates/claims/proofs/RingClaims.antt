@@ -73,8 +73,10 @@ module _ (r p x : List ℕ) (hr : Bytes ringSize r) (w : WellFormed p) (hx : Byt
   other-ring : Bytes ringSize (otherRing x r)
   other-ring =
       let repeat : (k : ℕ) → Bytes k (repeated k x) = λ k. bytes-table k (λ i. x ! (i % 2)) (λ i. hx .bound (i % 2)) in
-      bytes-append (bytes-append (bytes-append (bytes-xors 10 (repeat 10) (bytes-part 0 10 hr)) (bytes-xors 16 (repeat 16) (bytes-part 10 16 hr))) (bytes-part 26 10 hr))
-      (bytes-xors 16 (repeat 16) (bytes-part 36 16 hr))
+      let d = bytes-xors 10 (repeat 10) (bytes-part 0 10 hr) in
+      let o = bytes-xors 16 (repeat 16) (bytes-part 10 16 hr) in
+      let g = bytes-xors 16 (repeat 16) (bytes-part 36 16 hr) in
+      bytes-append (bytes-append (bytes-append d o) (bytes-part 26 10 hr)) g
 
   other-bytes : (i : ℕ) → i < n → Bytes plainSize (otherVersion plainSize x (recordAt plainSize p i))
   other-bytes i h =
@@ -99,8 +101,13 @@ module _ (r p x : List ℕ) (hr : Bytes ringSize r) (w : WellFormed p) (hx : Byt
   s-count : length (sealedForm r p) / sealedSize ≡ n
   s-count = omega (arith, s-length)
 
-  s′-at : (i : ℕ) → i < n → recordAt sealedSize (otherVersions sealedSize x (sealedForm r p)) i ≡ otherVersion sealedSize x (recordAt sealedSize (sealedForm r p) i)
-  s′-at i h = joined-at sealedSize (λ i. otherVersion sealedSize x (recordAt sealedSize (sealedForm r p) i)) (length (sealedForm r p) / sealedSize) (λ i l. refl) i (omega (arith, s-count))
+  s′-at : (i : ℕ) → i < n
+      → let s = sealedForm r p in
+      recordAt sealedSize (otherVersions sealedSize x s) i ≡ otherVersion sealedSize x (recordAt sealedSize s i)
+  s′-at i h =
+      let s : List ℕ = sealedForm r p in
+      let made : ℕ → List ℕ = λ i. otherVersion sealedSize x (recordAt sealedSize s i) in
+      joined-at sealedSize made (length s / sealedSize) (λ i l. refl) i (omega (arith, s-count))
 
   p′-count : length p′ / plainSize ≡ n
   p′-count = omega (arith, p′-bytes .len)

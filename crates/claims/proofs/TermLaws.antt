@@ -13,7 +13,8 @@ use Rattle.standard.specs.Bytes.{_!_, bytesOf, Bytes}
 use Rattle.standard.specs.Expansions.{x16Groups}
 use Rattle.standard.specs.Facts.{sealingSize}
 use Rattle.standard.specs.Refusals.{hasLength, wrongLength, wrongNumber}
-use Rattle.standard.specs.Seals.{formOf, form81, key16, opened, seal, unseal, fails, number2, body31, body51, body81, ta31Call, ta32Call, ta51Call, ta52Call, ta81Call, ta82Call, ta91Call, ta92Call}
+use Rattle.standard.specs.Seals.{formOf, form81, key16, opened, seal, unseal, fails, number2, body31, body51, body81}
+use Rattle.standard.specs.Seals.{ta31Call, ta32Call, ta51Call, ta52Call, ta81Call, ta82Call, ta91Call, ta92Call}
 use Rattle.standard.specs.declared.Algorithm.{Algorithm}
 use Rattle.standard.specs.declared.Algorithm.the-variants.{Ta31, Ta51, Ta81, Ta91}
 use Rattle.standard.specs.declared.Version.{Version}

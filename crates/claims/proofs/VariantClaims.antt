@@ -23,7 +23,8 @@ use Rattle.standard.proofs.ExpansionLaws.{bytes-grouped}
 use Rattle.standard.proofs.XorLaws.{xor-byte}
 use Rattle.claims.specs.Entries.{upward, version7}
 use Rattle.claims.specs.FalseClaims.{text}
-use Rattle.claims.specs.Variants.{openedAtEnd, ta82AtEnd, sealedText, ZeroAtEnd, reversed, ChallengeReversed, exp2ByXor, ta41ByXor, LastByteXored, ringWith, StillHolds}
+use Rattle.claims.specs.Variants.{openedAtEnd, ta82AtEnd, sealedText, reversed, exp2ByXor, ta41ByXor, ringWith}
+use Rattle.claims.specs.Variants.{ZeroAtEnd, ChallengeReversed, LastByteXored, StillHolds}
 use Rattle.claims.proofs.BlockLaws.{bl1-back, bl1-inverse}
 use Rattle.claims.proofs.ExampleClaims.{two-rings}
 use Rattle.claims.proofs.RecipeLaws.{reversed-bytes, ring-bytes}

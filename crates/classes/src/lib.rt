@@ -13,7 +13,6 @@ use hurdle::schedule;
 use keys::mask_refusal;
 use keys::split;
 use lists::lengths_and_output;
-use lists::refused;
 use standard::AUTHENTICATION;
 use standard::BookAnswer;
 use standard::CHALLENGE;
@@ -156,7 +155,7 @@ pub fn ta12_class(
         ≡ ta12ClassCall (now («session_key» .entry)) (now (challenges .entry)) «response_mask» «key_mask» (now (out .entry)) ⌝ }
 {
     if session_key.len() != 16 {
-        return refused(WRONG_LENGTH, 0);
+        return BookAnswer::refused(WRONG_LENGTH, 0);
     }
     let refusal = lengths_and_output(
         CHALLENGE as u32,
@@ -165,11 +164,11 @@ pub fn ta12_class(
         out.len(),
     );
     if refusal != 0 {
-        return refused(refusal, 0);
+        return BookAnswer::refused(refusal, 0);
     }
     let masks = mask_refusal(response_mask, key_mask);
     if masks != 0 {
-        return refused(masks, 0);
+        return BookAnswer::refused(masks, 0);
     }
     let keys = schedule(array16(session_key));
     let n = challenges.len() / CHALLENGE;

@@ -1,6 +1,5 @@
 // Books filed by column: byte 0 of each record, in the records' order, then byte 1 of each, up to the last byte; and back.
 use lists::lengths_and_output;
-use lists::refused;
 use standard::BookAnswer;
 use standard::PLAIN_RECORD;
 use standard::SEALED_RECORD;
@@ -55,7 +54,7 @@ fn rearrange(book: &[u8], size: u32, back: bool, out: &mut [u8]) -> BookAnswer
 {
     let refusal = lengths_and_output(size, size, book.len(), out.len());
     if refusal != 0 {
-        return refused(refusal, 0);
+        return BookAnswer::refused(refusal, 0);
     }
     let w = size as usize;
     let n = book.len() / w;

@@ -149,7 +149,8 @@ pub extern "C" fn taa1_ta12_class(
     key_mask: u16,
     out: &mut [u8],
 ) -> BookAnswer
-    ensures { λ r. ⌜ (r, now (out .exit)) ≡ ta12ClassCall (now («session_key» .entry)) (now (challenges .entry)) «response_mask» «key_mask» (now (out .entry)) ⌝ }
+    ensures { λ r. ⌜ (r, now (out .exit))
+        ≡ ta12ClassCall (now («session_key» .entry)) (now (challenges .entry)) «response_mask» «key_mask» (now (out .entry)) ⌝ }
 {
     classes::ta12_class(session_key, challenges, response_mask, key_mask, out)
 }
@@ -343,7 +344,9 @@ pub extern "C" fn taa1_ring(
     response_mask: u16,
     key_mask: u16,
 ) -> RingMade
-    ensures { λ r. ⌜ r ≡ ringCall (now (root .entry)) (now (rs .entry)) (now (rso .entry)) (now (rand1 .entry)) (now (rand2 .entry)) (now (c .entry)) (now («group_key» .entry)) sides «response_mask» «key_mask» ⌝ }
+    ensures { λ r. ⌜ r
+        ≡ ringCall (now (root .entry)) (now (rs .entry)) (now (rso .entry)) (now (rand1 .entry)) (now (rand2 .entry)) (now (c .entry))
+        (now («group_key» .entry)) sides «response_mask» «key_mask» ⌝ }
 {
     keys::ring(
         root,

@@ -21,7 +21,7 @@ use standard::Bytes8;
 use standard::WRONG_LENGTH;
 pub use tables::S;
 ghost use mathlib.Core.Path.{_≡_};
-ghost use Rattle.standard.specs.Bytes.{_!_, table, zeros};
+ghost use Rattle.standard.specs.Bytes.{_!_, table};
 ghost use Rattle.hurdle.specs.RoundSteps.{cryptCall};
 ghost use Rattle.standard.specs.Hurdle.{S as sOf, S⁻¹ as sInverseOf, schedule as scheduleOf, encryptWith, decryptWith, encrypt as encryptOf, decrypt as decryptOf, encryptCall, decryptCall};
 
@@ -112,21 +112,12 @@ pub fn substitute_back(x: [u8; 3]) -> [u8; 3]
     [a, b, c]
 }
 
-pub fn refused8(refusal: u32) -> Bytes8
-    ensures { λ r. ⌜ r ≡ record { refusal = refusal; bytes = zeros 8 } ⌝ }
-{
-    Bytes8 {
-        refusal,
-        bytes: [0; 8],
-    }
-}
-
 // A call in either direction, over strings of any length.
 fn crypted(key: &[u8], block: &[u8], back: bool) -> Bytes8
     ensures { λ r. ⌜ r ≡ cryptCall (now (key .entry)) (now (block .entry)) back ⌝ }
 {
     if !have_lengths(key, 16, block, 8) {
-        return refused8(WRONG_LENGTH);
+        return Bytes8::refused(WRONG_LENGTH);
     }
     let keys = lay_out_round_keys(array16(key));
     Bytes8 {

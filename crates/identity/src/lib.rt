@@ -14,7 +14,8 @@ ghost use mathlib.Core.List.{[], _∷_};
 ghost use mathlib.Core.Path.{_≡_};
 ghost use Prim.Native.Nat.{_+_, _-_, _*_, _%_};
 ghost use Rattle.standard.specs.Bytes.{_!_, _⊕_, table, xors, bytesOf, number3 as number3Of};
-ghost use Rattle.standard.specs.Identity.{mix as mixOf, unmix as unmixOf, P, P⁻¹, bc as bcOf, K1, K2, K3, encryptIdentity, decryptIdentity, ta61Call, ta61⁻¹Call};
+ghost use Rattle.standard.specs.Identity.{mix as mixOf, unmix as unmixOf, P, P⁻¹, bc as bcOf, K1, K2, K3};
+ghost use Rattle.standard.specs.Identity.{encryptIdentity, decryptIdentity, ta61Call, ta61⁻¹Call};
 ghost use Rattle.standard.specs.Runs.{identityRuns};
 
 fn difference(a: u8, b: u8) -> u8
@@ -163,23 +164,14 @@ fn number3(b: [u8; 3]) -> u32
     number(b[0], b[1], b[2])
 }
 
-fn refused_identity(refusal: u32) -> Identity
-    ensures { λ r. ⌜ r ≡ record { refusal = refusal; identity = 0 } ⌝ }
-{
-    Identity {
-        refusal,
-        identity: 0,
-    }
-}
-
 pub fn ta61(common_key: &[u8], identity: u64) -> Identity
     ensures { λ r. ⌜ r ≡ ta61Call (now («common_key» .entry)) identity ⌝ }
 {
     if common_key.len() != 10 {
-        return refused_identity(WRONG_LENGTH);
+        return Identity::refused(WRONG_LENGTH);
     }
     if identity >= 16777216 {
-        return refused_identity(VALUE_WIDE);
+        return Identity::refused(VALUE_WIDE);
     }
     let identity_strings = bc(array10(common_key));
     let b = identity_strings.bytes;
@@ -193,10 +185,10 @@ pub fn ta61_inverse(common_key: &[u8], encrypted_identity: u64) -> Identity
     ensures { λ r. ⌜ r ≡ ta61⁻¹Call (now («common_key» .entry)) «encrypted_identity» ⌝ }
 {
     if common_key.len() != 10 {
-        return refused_identity(WRONG_LENGTH);
+        return Identity::refused(WRONG_LENGTH);
     }
     if encrypted_identity >= 16777216 {
-        return refused_identity(VALUE_WIDE);
+        return Identity::refused(VALUE_WIDE);
     }
     let identity_strings = bc(array10(common_key));
     let b = identity_strings.bytes;

@@ -25,40 +25,13 @@ ghost use Rattle.standard.specs.Bytes.{same as sameOf};
 ghost use Rattle.standard.specs.Inverses.{tb1⁻¹Call, tb3⁻¹Call, tb5⁻¹Call, tb6⁻¹Call};
 ghost use Rattle.standard.specs.Refusals.{noInput, first, value as valueOf};
 
-fn refused_value(refusal: u32) -> Value
-    ensures { λ r. ⌜ r ≡ record { refusal = refusal; value = 0 } ⌝ }
-{
-    Value { refusal, value: 0 }
-}
-
-fn refused_cell(refusal: u32) -> Cell
-    ensures { λ r. ⌜ r ≡ record { refusal = refusal; «location_area» = 0; carrier = 0; «colour_code» = 0 } ⌝ }
-{
-    Cell {
-        refusal,
-        location_area: 0,
-        carrier: 0,
-        colour_code: 0,
-    }
-}
-
-fn refused_pair(refusal: u32) -> CarrierIdentity
-    ensures { λ r. ⌜ r ≡ record { refusal = refusal; carrier = 0; identity = 0 } ⌝ }
-{
-    CarrierIdentity {
-        refusal,
-        carrier: 0,
-        identity: 0,
-    }
-}
-
 // The value, if what was made of it is the result.
 fn confirmed(value: u32, made: [u8; 16], result: &[u8]) -> Value
     requires { ⌜ length (now result) ≡ 16 ⌝ }
     ensures { λ r. ⌜ r ≡ valueOf (first ((sameOf made (now (result .entry)), noInput) ∷ [])) value ⌝ }
 {
     if !same(&made, result) {
-        return refused_value(NO_INPUT);
+        return Value::refused(NO_INPUT);
     }
     Value { refusal: 0, value }
 }
@@ -67,10 +40,10 @@ pub fn tb1_inverse(result: &[u8], width: u64) -> Value
     ensures { λ r. ⌜ r ≡ tb1⁻¹Call (now (result .entry)) width ⌝ }
 {
     if result.len() != 16 {
-        return refused_value(WRONG_LENGTH);
+        return Value::refused(WRONG_LENGTH);
     }
     if !wide(width) {
-        return refused_value(WRONG_WIDTH);
+        return Value::refused(WRONG_WIDTH);
     }
     let value = field(array8(result), 0, width);
     let made = tb1(value as u64, width);
@@ -82,10 +55,10 @@ pub fn tb3_inverse(input: &[u8], result: &[u8], width: u64) -> Value
     ensures { λ r. ⌜ r ≡ tb3⁻¹Call (now (input .entry)) (now (result .entry)) width ⌝ }
 {
     if !have_lengths(input, 16, result, 16) {
-        return refused_value(WRONG_LENGTH);
+        return Value::refused(WRONG_LENGTH);
     }
     if !wide(width) {
-        return refused_value(WRONG_WIDTH);
+        return Value::refused(WRONG_WIDTH);
     }
     let value = field(unmixed(input, result), 0, width);
     let made = tb3(input, value as u64, width);
@@ -97,7 +70,7 @@ pub fn tb5_inverse(cipher_key: &[u8], result: &[u8]) -> Cell
     ensures { λ r. ⌜ r ≡ tb5⁻¹Call (now («cipher_key» .entry)) (now (result .entry)) ⌝ }
 {
     if !have_lengths(cipher_key, 10, result, 10) {
-        return refused_cell(WRONG_LENGTH);
+        return Cell::refused(WRONG_LENGTH);
     }
     let front = unmixed(cipher_key, result);
     let location_area = field(front, 0, 14);
@@ -111,7 +84,7 @@ pub fn tb5_inverse(cipher_key: &[u8], result: &[u8]) -> Cell
     );
     let bytes = made.bytes;
     if !same(&bytes, result) {
-        return refused_cell(NO_INPUT);
+        return Cell::refused(NO_INPUT);
     }
     Cell {
         refusal: 0,
@@ -125,7 +98,7 @@ pub fn tb6_inverse(cipher_key: &[u8], result: &[u8]) -> CarrierIdentity
     ensures { λ r. ⌜ r ≡ tb6⁻¹Call (now («cipher_key» .entry)) (now (result .entry)) ⌝ }
 {
     if !have_lengths(cipher_key, 10, result, 10) {
-        return refused_pair(WRONG_LENGTH);
+        return CarrierIdentity::refused(WRONG_LENGTH);
     }
     let front = unmixed(cipher_key, result);
     let carrier = field(front, 0, 12);
@@ -133,7 +106,7 @@ pub fn tb6_inverse(cipher_key: &[u8], result: &[u8]) -> CarrierIdentity
     let made = tb6(cipher_key, carrier as u64, identity as u64);
     let bytes = made.bytes;
     if !same(&bytes, result) {
-        return refused_pair(NO_INPUT);
+        return CarrierIdentity::refused(NO_INPUT);
     }
     CarrierIdentity {
         refusal: 0,

@@ -4,7 +4,6 @@ mod masks;
 mod recipe;
 
 use crate::derivation::int;
-use crate::masks::refused_split;
 use crate::recipe::make;
 use arrays::array10;
 use arrays::array12;
@@ -23,13 +22,9 @@ use standard::RingMade;
 use standard::VALUE_WIDE;
 use standard::WRONG_LENGTH;
 use standard::WRONG_SIDES;
-use standard::refused_ring;
-use standard::refused10;
-use standard::refused16;
 ghost use mathlib.Core.Bool.{_&&_};
 ghost use mathlib.Core.List.{[], _∷_};
 ghost use mathlib.Core.Path.{_≡_};
-ghost use Rattle.standard.specs.Bytes.{zeros};
 ghost use Rattle.standard.specs.Derivation.{core as coreOf, ta11Call, ta21Call, ta41Call, ta12Call, ta22Call, ta71Call, ta101Call, ringOf, ringCall};
 ghost use Rattle.standard.specs.Refusals.{wrongLength, hasLength, first, answer16};
 
@@ -39,7 +34,7 @@ fn under_root(root: &[u8], seed: [u8; 10], seed_has_length: bool) -> Bytes16
 {
     let both = (root.len() == 16) & seed_has_length;
     if !both {
-        return refused16(WRONG_LENGTH);
+        return Bytes16::refused(WRONG_LENGTH);
     }
     Bytes16 {
         refusal: 0,
@@ -76,11 +71,11 @@ pub fn ta12(
     ensures { λ r. ⌜ r ≡ ta12Call (now («session_key» .entry)) (now (challenge .entry)) «response_mask» «key_mask» ⌝ }
 {
     if !have_lengths(session_key, 16, challenge, 10) {
-        return refused_split(WRONG_LENGTH);
+        return Authentication::refused(WRONG_LENGTH);
     }
     let refusal = mask_refusal(response_mask, key_mask);
     if refusal != 0 {
-        return refused_split(refusal);
+        return Authentication::refused(refusal);
     }
     split(
         core(array16(session_key), array10(challenge)),
@@ -105,7 +100,7 @@ pub fn ta71(key1: &[u8], key2: &[u8]) -> Bytes10
     ensures { λ r. ⌜ r ≡ ta71Call (now (key1 .entry)) (now (key2 .entry)) ⌝ }
 {
     if !have_lengths(key1, 10, key2, 10) {
-        return refused10(WRONG_LENGTH);
+        return Bytes10::refused(WRONG_LENGTH);
     }
     Bytes10 {
         refusal: 0,
@@ -117,10 +112,10 @@ pub fn ta101(ks: &[u8], gck0: &[u8], mni: u64) -> Bytes16
     ensures { λ r. ⌜ r ≡ ta101Call (now (ks .entry)) (now (gck0 .entry)) mni ⌝ }
 {
     if !have_lengths(ks, 16, gck0, 10) {
-        return refused16(WRONG_LENGTH);
+        return Bytes16::refused(WRONG_LENGTH);
     }
     if mni >= 16777216 {
-        return refused16(VALUE_WIDE);
+        return Bytes16::refused(VALUE_WIDE);
     }
     Bytes16 {
         refusal: 0,
@@ -134,11 +129,11 @@ pub fn ring_of(x: RingInputs) -> RingMade
 {
     let known = (x.sides >= 1) & (x.sides <= 3);
     if !known {
-        return refused_ring(WRONG_SIDES);
+        return RingMade::refused(WRONG_SIDES);
     }
     let refusal = mask_refusal(x.response_mask, x.key_mask);
     if refusal != 0 {
-        return refused_ring(refusal);
+        return RingMade::refused(refusal);
     }
     make(x)
 }
@@ -166,7 +161,7 @@ pub fn ring(
         & (c.len() == 10)
         & (group_key.len() == 12);
     if !right_lengths {
-        return refused_ring(WRONG_LENGTH);
+        return RingMade::refused(WRONG_LENGTH);
     }
     ring_of(RingInputs {
         root: array16(root),

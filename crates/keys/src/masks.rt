@@ -4,19 +4,9 @@ use standard::Authentication;
 use standard::SHARED_BIT;
 use standard::WRONG_MASK;
 ghost use mathlib.Core.Path.{_≡_};
-ghost use Rattle.standard.specs.Bytes.{part, zeros};
+ghost use Rattle.standard.specs.Bytes.{part};
 ghost use Rattle.standard.specs.Derivation.{chosen};
 ghost use Rattle.standard.specs.Refusals.{maskTests, first};
-
-pub(crate) fn refused_split(refusal: u32) -> Authentication
-    ensures { λ r. ⌜ r ≡ record { refusal = refusal; response = zeros 4; key = zeros 10 } ⌝ }
-{
-    Authentication {
-        refusal,
-        response: [0; 4],
-        key: [0; 10],
-    }
-}
 
 // The number of the first test that the masks fail; 0 if none.
 pub fn mask_refusal(response_mask: u16, key_mask: u16) -> u32

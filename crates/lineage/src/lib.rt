@@ -7,7 +7,6 @@ mod walk;
 use crate::walk::scan;
 use crate::walk::write;
 use lists::lengths_and_output;
-use lists::refused;
 use standard::BookAnswer;
 use standard::SHEET_RECORD;
 use standard::SHEET_VALUE;
@@ -24,12 +23,12 @@ pub fn lineage(sheet: &[u8], out: &mut [u8]) -> BookAnswer
         out.len(),
     );
     if refusal != 0 {
-        return refused(refusal, 0);
+        return BookAnswer::refused(refusal, 0);
     }
     let n = sheet.len() / SHEET_RECORD;
     let stop = scan(sheet, n);
     if stop.refusal != 0 {
-        return refused(stop.refusal, stop.index);
+        return BookAnswer::refused(stop.refusal, stop.index);
     }
     write(sheet, n, out);
     BookAnswer {

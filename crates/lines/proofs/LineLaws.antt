@@ -2,13 +2,14 @@
 -- Assumes nothing.
 use mathlib.Core.List.{List, [], _∷_, _++_, append-nil}
 use mathlib.Core.Path.{_≡_, refl, sym, ap, ap₂, _∙_}
-use Prim.Native.Nat.{ℕ, zero, suc, _+_, _-_, _<_, _≤_}
+use Prim.Native.Nat.{ℕ, zero, suc, _+_, _*_, _-_, _<_, _≤_}
 use native.Mathlib.Numerals.{add-one}
 use native.Mathlib.Omega.{arith}
 use lib.ListN.{length, take, drop, set, length-append, length-take, length-drop, length-set, drop-of-length-le}
 use lib.Seq.{take-all, take-suc, take-suc-set, take-nil, drop-nil, append-snoc}
 use borrow.Author.Tests.{lt-ltb, le-ltb}
 use Rattle.standard.specs.Bytes.{_!_}
+use Rattle.standard.specs.Lists.{joined}
 use Rattle.standard.specs.Text.{textCall}
 use Rattle.lines.specs.Lines.{room, shown, emptyLine, push, _▸_, front, over, putCall}
 use Rattle.lines.specs.declared.Line.{Line}
@@ -119,6 +120,25 @@ put-next v w out₀ {at} {n} {out} {exit} p q =
     let total : at + n ≡ length (v ++ w) = ap₂ _+_ a (put-length at w out q) ∙ sym (length-append v w) in
     let bytes : exit ≡ front (v ++ w) out₀ = put-over at w out q ∙ ap₂ (λ (k : ℕ) (o : List ℕ). over k w o) a (put-over 0 v out₀ p) ∙ front-next v w out₀ in
     rw (total, bytes)
+
+-- ---- the lines g 0, g 1, .. one after the other
+
+pub joined-most : (g : ℕ → List ℕ) → ((j : ℕ) → length (g j) ≤ room) → (n : ℕ) → length (joined n g) ≤ room * n
+joined-most g h zero = omega arith
+joined-most g h (suc n) = simp length-append (omega (arith, joined-most g h n, h n))
+
+-- a turn of a loop that puts line i after those before it
+module _ (g : ℕ → List ℕ) (i : ℕ) (out₀ : List ℕ) {at n : ℕ} {line out exit : List ℕ} (e : line ≡ g i)
+    (f : (at, out) ≡ putCall 0 (joined i g) out₀) (q : (n, exit) ≡ putCall at line out) where
+  pub lines-next : (at + n, exit) ≡ putCall 0 (joined (i + 1) g) out₀
+  lines-next =
+      put-next (joined i g) line out₀ f q
+      ∙ ap (λ (w : List ℕ). putCall 0 (joined i g ++ w) out₀) e
+      ∙ ap (λ (k : ℕ). putCall 0 (joined k g) out₀) (sym (add-one i))
+
+  -- their length
+  pub lines-most : ((j : ℕ) → length (g j) ≤ room) → at + n ≤ room * i + room
+  lines-most h = omega (arith, put-length 0 (joined i g) out₀ f, joined-most g h i, put-length at line out q, ap length e, h i)
 
 -- ---- the call for a text
 

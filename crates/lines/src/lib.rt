@@ -123,10 +123,7 @@ impl Line {
         ensures { λ r. ⌜ (r, now (out .exit)) ≡ textCall (shown self) (now (out .entry)) ⌝ }
     {
         if out.len() < self.size() {
-            return TextAnswer {
-                refusal: OUTPUT_SHORT,
-                written: 0,
-            };
+            return TextAnswer::refused(OUTPUT_SHORT);
         }
         let written = self.put(out, 0);
         TextAnswer {

@@ -1,12 +1,11 @@
-// Lists of records: the tests of their lengths, over the bytes of a record, and what a refused list answers.
+// Lists of records: the tests of their lengths, over the bytes of a record.
 use standard::BOOK_NOT_WHOLE;
 use standard::BOOK_TOO_LONG;
-use standard::BookAnswer;
 use standard::MOST_RECORDS;
 use standard::OUTPUT_SHORT;
 ghost use mathlib.Core.Path.{_≡_};
 ghost use Prim.Native.Nat.{_/_};
-ghost use Rattle.standard.specs.Lists.{lengthTests, listTests, refused as refusedOf};
+ghost use Rattle.standard.specs.Lists.{lengthTests, listTests};
 ghost use Rattle.standard.specs.Refusals.{first};
 
 // How many whole records of `size` bytes; of records without a byte, none.
@@ -44,15 +43,4 @@ pub fn lengths_and_output(size: u32, output_size: u32, list: usize, out: usize) 
         return OUTPUT_SHORT;
     }
     0
-}
-
-// What a refused list answers: the number, the offending record's index, nothing written.
-pub fn refused(refusal: u32, index: usize) -> BookAnswer
-    ensures { λ r. ⌜ r ≡ refusedOf refusal index ⌝ }
-{
-    BookAnswer {
-        refusal,
-        index,
-        written: 0,
-    }
 }

@@ -38,14 +38,6 @@ fn write_made(made: RingMade) -> bool {
         && write_output(b"makering", &response2, 4)
 }
 
-fn answer(refusal: u32, written: usize) -> BookAnswer {
-    BookAnswer {
-        refusal,
-        index: 0,
-        written,
-    }
-}
-
 // One byte more than a sitting, so that a longer file is seen to be longer.
 fn main() {
     let mut sitting = [0u8; SITTING + 1];
@@ -63,10 +55,14 @@ fn main() {
     }
     let made = sitting_ring(&sitting[..n]);
     if made.refusal != 0 {
-        report_answer(answer(made.refusal, 0));
+        report_answer(BookAnswer::refused(made.refusal, 0));
         return;
     }
     if write_made(made) {
-        report_answer(answer(0, RING + 8));
+        report_answer(BookAnswer {
+            refusal: 0,
+            index: 0,
+            written: RING + 8,
+        });
     }
 }

@@ -17,8 +17,6 @@ use standard::Bytes16;
 use standard::VALUE_WIDE;
 use standard::WRONG_LENGTH;
 use standard::WRONG_WIDTH;
-use standard::refused10;
-use standard::refused16;
 ghost use mathlib.Core.Path.{_≡_};
 ghost use Rattle.standard.specs.Mixing.{tb4 as tb4Of, tb7 as tb7Of, tb1Call, tb2Call, tb3Call, tb4Call, tb5Call, tb6Call, tb7Call};
 
@@ -58,10 +56,10 @@ pub fn tb1(value: u64, width: u64) -> Bytes16
     ensures { λ r. ⌜ r ≡ tb1Call value width ⌝ }
 {
     if !wide(width) {
-        return refused16(WRONG_WIDTH);
+        return Bytes16::refused(WRONG_WIDTH);
     }
     if !fits_in(value, width) {
-        return refused16(VALUE_WIDE);
+        return Bytes16::refused(VALUE_WIDE);
     }
     Bytes16 {
         refusal: 0,
@@ -73,7 +71,7 @@ pub fn tb2(input: &[u8]) -> Bytes16
     ensures { λ r. ⌜ r ≡ tb2Call (now (input .entry)) ⌝ }
 {
     if input.len() != 16 {
-        return refused16(WRONG_LENGTH);
+        return Bytes16::refused(WRONG_LENGTH);
     }
     Bytes16 {
         refusal: 0,
@@ -85,13 +83,13 @@ pub fn tb3(input: &[u8], value: u64, width: u64) -> Bytes16
     ensures { λ r. ⌜ r ≡ tb3Call (now (input .entry)) value width ⌝ }
 {
     if input.len() != 16 {
-        return refused16(WRONG_LENGTH);
+        return Bytes16::refused(WRONG_LENGTH);
     }
     if !wide(width) {
-        return refused16(WRONG_WIDTH);
+        return Bytes16::refused(WRONG_WIDTH);
     }
     if !fits_in(value, width) {
-        return refused16(VALUE_WIDE);
+        return Bytes16::refused(VALUE_WIDE);
     }
     Bytes16 {
         refusal: 0,
@@ -103,7 +101,7 @@ pub fn tb4(input1: &[u8], input2: &[u8]) -> Bytes10
     ensures { λ r. ⌜ r ≡ tb4Call (now (input1 .entry)) (now (input2 .entry)) ⌝ }
 {
     if !have_lengths(input1, 10, input2, 10) {
-        return refused10(WRONG_LENGTH);
+        return Bytes10::refused(WRONG_LENGTH);
     }
     Bytes10 {
         refusal: 0,
@@ -115,11 +113,11 @@ pub fn tb5(cipher_key: &[u8], location_area: u64, carrier: u64, colour_code: u64
     ensures { λ r. ⌜ r ≡ tb5Call (now («cipher_key» .entry)) «location_area» carrier «colour_code» ⌝ }
 {
     if cipher_key.len() != 10 {
-        return refused10(WRONG_LENGTH);
+        return Bytes10::refused(WRONG_LENGTH);
     }
     let fit = fits_in(location_area, 14) & fits_in(carrier, 12) & fits_in(colour_code, 6);
     if !fit {
-        return refused10(VALUE_WIDE);
+        return Bytes10::refused(VALUE_WIDE);
     }
     Bytes10 {
         refusal: 0,
@@ -131,11 +129,11 @@ pub fn tb6(cipher_key: &[u8], carrier: u64, identity: u64) -> Bytes10
     ensures { λ r. ⌜ r ≡ tb6Call (now («cipher_key» .entry)) carrier identity ⌝ }
 {
     if cipher_key.len() != 10 {
-        return refused10(WRONG_LENGTH);
+        return Bytes10::refused(WRONG_LENGTH);
     }
     let fit = fits_in(carrier, 12) & fits_in(identity, 24);
     if !fit {
-        return refused10(VALUE_WIDE);
+        return Bytes10::refused(VALUE_WIDE);
     }
     Bytes10 {
         refusal: 0,
@@ -147,7 +145,7 @@ pub fn tb7(group_key: &[u8]) -> Bytes16
     ensures { λ r. ⌜ r ≡ tb7Call (now («group_key» .entry)) ⌝ }
 {
     if group_key.len() != 12 {
-        return refused16(WRONG_LENGTH);
+        return Bytes16::refused(WRONG_LENGTH);
     }
     Bytes16 {
         refusal: 0,

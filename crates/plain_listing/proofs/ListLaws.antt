@@ -3,8 +3,7 @@
 use mathlib.Core.Bool.{Bool, true, false}
 use mathlib.Core.List.{List, _++_}
 use mathlib.Core.Path.{_≡_, refl, ap, _∙_}
-use Prim.Native.Nat.{ℕ, zero, suc, _+_, _*_, _/_, _≤_}
-use native.Mathlib.Numerals.{add-one}
+use Prim.Native.Nat.{ℕ, _+_, _*_, _/_, _≤_}
 use native.Mathlib.Omega.{arith}
 use lib.Dec.{eqb}
 use lib.ListN.{length, length-append}
@@ -22,7 +21,7 @@ use Rattle.standard.specs.Text.{hex}
 use Rattle.standard.specs.declared.BookAnswer.{BookAnswer}
 use Rattle.standard.specs.declared.Algorithm.the-variants.{Ta31, Ta51, Ta81, Ta91}
 use Rattle.standard.specs.declared.Algorithm.{Algorithm}
-use Rattle.lines.proofs.LineLaws.{put-none, put-next}
+use Rattle.lines.proofs.LineLaws.{put-next, joined-most}
 use Rattle.lines.proofs.TextLaws.{digits-few, hex-twice}
 use Rattle.lines.specs.Lines.{room, putCall}
 
@@ -47,8 +46,9 @@ pub entry-short : (i : ℕ) (p : List ℕ) → length (entryLine i p) ≤ room
 unfolding entryLine
 entry-short i p =
     let k = recordKind p .algorithm in
+    let key : length (hex (part 6 (keyLength k) p)) ≤ 24 = omega (arith, hex-part 6 (keyLength k) p, key-short k) in
     simp length-append
-    (omega (arith, digits-few 20 i, digits-few 20 (p ! 0), digits-few 20 (256 * p ! 4 + p ! 5), hex-part 1 3 p, hex-part 6 (keyLength k) p, key-short k, number-short k p))
+    (omega (arith, digits-few 20 i, digits-few 20 (p ! 0), digits-few 20 (256 * p ! 4 + p ! 5), hex-part 1 3 p, key, number-short k p))
 
 pub entries-short : (n : ℕ) → length (entriesLine n) ≤ room
 unfolding entriesLine
@@ -65,22 +65,11 @@ refused-short refusal index = simp length-append (omega (arith, digits-few 20 re
 
 pub lines-short : (n : ℕ) (p : List ℕ) → length (entryLines n p) ≤ room * n
 unfolding entryLines
-lines-short zero p = omega arith
-lines-short (suc n) p = simp length-append (omega (arith, lines-short n p, entry-short n (recordAt 18 p n)))
+lines-short n p = joined-most (λ i. entryLine i (recordAt 18 p i)) (λ i. entry-short i (recordAt 18 p i)) n
 
 -- those of 1,024 records and the last line have room in the output
 pub entries-most : (n : ℕ) (p : List ℕ) → n ≤ 1024 → length (entryLines n p ++ entriesLine n) ≤ listingRoom
 entries-most n p h = simp length-append (omega (arith, h, lines-short n p, entries-short n))
-
-pub lines-none : (p out : List ℕ) → (0, out) ≡ putCall 0 (entryLines 0 p) out
-unfolding entryLines
-lines-none p out = put-none out
-
--- one record's line more
-pub lines-next : (i : ℕ) (p out₀ : List ℕ) {at n : ℕ} {line out exit : List ℕ} → line ≡ entryLine i (recordAt 18 p i)
-    → (at, out) ≡ putCall 0 (entryLines i p) out₀ → (n, exit) ≡ putCall at line out → (at + n, exit) ≡ putCall 0 (entryLines (i + 1) p) out₀
-unfolding entryLines
-lines-next i p out₀ e f g = rw (add-one, ← e) (put-next (entryLines i p) _ out₀ f g)
 
 -- the last line behind those of the records
 pub entries-put : (n : ℕ) (p out₀ : List ℕ) {at k : ℕ} {line out exit : List ℕ} → line ≡ entriesLine n

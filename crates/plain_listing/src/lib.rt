@@ -37,7 +37,10 @@ fn pair(high: u8, low: u8) -> u64
 // The line of plain record p as far as the version.
 fn front(index: usize, p: &[u8]) -> Line
     requires { ⌜ length (now p) ≡ 18 ⌝ }
-    ensures { λ r. ⌜ r ≡ emptyLine ▸ ascii "entry " ▸ decimal index ▸ ascii " kind " ▸ decimal (now (p .entry) ! 0) ▸ ascii " identity " ▸ hex (take 3 (drop 1 (now (p .entry)))) ▸ ascii " version " ▸ decimal (256 * now (p .entry) ! 4 + now (p .entry) ! 5) ⌝ }
+    ensures { λ r. ⌜ r
+        ≡ emptyLine ▸ ascii "entry " ▸ decimal index ▸ ascii " kind " ▸ decimal (now (p .entry) ! 0)
+        ▸ ascii " identity " ▸ hex (take 3 (drop 1 (now (p .entry))))
+        ▸ ascii " version " ▸ decimal (256 * now (p .entry) ! 4 + now (p .entry) ! 5) ⌝ }
 {
     let kind = wide(p[0]);
     let version = pair(p[4], p[5]);
@@ -68,7 +71,9 @@ fn number(l: Line, algorithm: Algorithm, p: &[u8]) -> Line
 // The rest of the line.
 fn back(l: Line, kind: Kind, p: &[u8]) -> Line
     requires { ⌜ length (now p) ≡ 18 ⌝ }
-    ensures { λ r. ⌜ r ≡ l ▸ ascii " key " ▸ hex (take (6 + keyLength (kind .algorithm) - 6) (drop 6 (now (p .entry)))) ▸ ascii " number " ▸ numberText (kind .algorithm) (now (p .entry)) ▸ ascii "\n" ⌝ }
+    ensures { λ r. ⌜ r
+        ≡ l ▸ ascii " key " ▸ hex (take (6 + keyLength (kind .algorithm) - 6) (drop 6 (now (p .entry))))
+        ▸ ascii " number " ▸ numberText (kind .algorithm) (now (p .entry)) ▸ ascii "\n" ⌝ }
 {
     let algorithm = kind.algorithm;
     let end = 6 + kind.key_length();

@@ -3,7 +3,6 @@
 use mathlib.Core.List.{List, [], _∷_, _++_}
 use mathlib.Core.Path.{_≡_, refl, sym, ap, _∙_}
 use Prim.Native.Nat.{ℕ, zero, suc, _+_, _*_, _<_, _≤_}
-use native.Mathlib.Numerals.{add-one}
 use native.Mathlib.Omega.{arith}
 use lib.ListN.{length}
 use Rattle.standard.proofs.TableLaws.{inverse-made, line-length, text-length}
@@ -11,7 +10,7 @@ use Rattle.standard.specs.Bytes.{_!_, part}
 use Rattle.standard.specs.Hurdle.{S, S⁻¹}
 use Rattle.standard.specs.Tables.{inverse, rotations, spaced, tableLine, tableLines, tablesText, tablesCall}
 use Rattle.standard.specs.Text.{ascii, hexByte, textCall}
-use Rattle.lines.proofs.LineLaws.{append, put-over, put-none, put-next, uncut, write-short, write-whole}
+use Rattle.lines.proofs.LineLaws.{append, put-over, put-next, uncut, write-short, write-whole}
 use Rattle.lines.specs.Lines.{room, shown, emptyLine, _▸_, putCall}
 use Rattle.lines.specs.declared.Line.{Line}
 
@@ -28,16 +27,6 @@ line-shown t s {l} e f =
     uncut (tableLine t) {l = l}
     (f ∙ ap (λ (w : List ℕ). emptyLine ▸ spaced w ▸ hexByte (t ! 15) ▸ ascii "\n") e ∙ simp append refl)
     (omega (arith, line-length t))
-
-pub lines-none : (t out : List ℕ) → (0, out) ≡ putCall 0 (tableLines 0 t) out
-unfolding tableLines
-lines-none t out = put-none out
-
--- one line more
-pub lines-next : (i : ℕ) (t out₀ : List ℕ) {at n : ℕ} {line out exit : List ℕ} → line ≡ tableLine (part (16 * i) 16 t)
-    → (at, out) ≡ putCall 0 (tableLines i t) out₀ → (n, exit) ≡ putCall at line out → (at + n, exit) ≡ putCall 0 (tableLines (i + 1) t) out₀
-unfolding tableLines
-lines-next i t out₀ e f g = rw (add-one, ← e) (put-next (tableLines i t) _ out₀ f g)
 
 -- ---- the call
 

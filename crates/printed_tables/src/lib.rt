@@ -81,10 +81,7 @@ pub fn print_tables(out: &mut [u8]) -> TextAnswer
     ensures { λ r. ⌜ (r, now (out .exit)) ≡ tablesCall (now (out .entry)) ⌝ }
 {
     if out.len() < TABLES_TEXT {
-        return TextAnswer {
-            refusal: OUTPUT_SHORT,
-            written: 0,
-        };
+        return TextAnswer::refused(OUTPUT_SHORT);
     }
     let inverse = inverse();
     let rotations = rotations();

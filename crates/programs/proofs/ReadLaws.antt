@@ -41,4 +41,5 @@ copied r bytes buf exit h k l e z = record {
 pub further : (n m : ℕ) (buf₀ buf ys : List ℕ) → n ≤ length buf → drop n buf ≡ drop n buf₀ → drop m ys ≡ drop m (take (length buf - n) (drop n buf))
     → drop (n + m) (take n buf ++ (ys ++ drop (length buf - n) (drop n buf))) ≡ drop (n + m) buf₀
 further n m buf₀ buf ys h e f =
-    rw (lent-none n buf, append-nil, ← drop-drop, drop-at (take n buf) ys n (length-take-le n buf h)) (f ∙ ap (drop m) (lent-rest n buf ∙ e) ∙ drop-drop m n buf₀)
+    rw (lent-none n buf, append-nil, ← drop-drop, drop-at (take n buf) ys n (length-take-le n buf h))
+    (f ∙ ap (drop m) (lent-rest n buf ∙ e) ∙ drop-drop m n buf₀)

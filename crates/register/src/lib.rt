@@ -7,13 +7,11 @@ use arrays::xor16;
 use hurdle::Halves;
 use hurdle::S;
 use hurdle::joined;
-use hurdle::refused8;
 use hurdle::round_under;
 use hurdle::split;
 use standard::Bytes8;
 use standard::Bytes16;
 use standard::WRONG_LENGTH;
-use standard::refused16;
 ghost use mathlib.Core.Path.{_≡_};
 ghost use Prim.Native.Nat.{_-_, _≤_};
 ghost use Rattle.hurdle.specs.RoundSteps.{bytes4};
@@ -132,7 +130,7 @@ fn crypted(key: &[u8], block: &[u8], back: bool) -> Bytes8
     ensures { λ r. ⌜ r ≡ cryptCall (now (key .entry)) (now (block .entry)) back ⌝ }
 {
     if !have_lengths(key, 16, block, 8) {
-        return refused8(WRONG_LENGTH);
+        return Bytes8::refused(WRONG_LENGTH);
     }
     Bytes8 {
         refusal: 0,
@@ -157,7 +155,7 @@ pub fn register(key: &[u8], steps: u64) -> Bytes16
     ensures { λ r. ⌜ r ≡ registerCall (now (key .entry)) steps ⌝ }
 {
     if key.len() != 16 {
-        return refused16(WRONG_LENGTH);
+        return Bytes16::refused(WRONG_LENGTH);
     }
     Bytes16 {
         refusal: 0,

@@ -23,7 +23,7 @@ use texts::seal_body;
 ghost use mathlib.Core.List.{[], _∷_, _++_};
 ghost use mathlib.Core.Path.{_≡_};
 ghost use Prim.Native.Nat.{_+_, _*_};
-ghost use Rattle.standard.specs.Bytes.{_!_, part, zeros};
+ghost use Rattle.standard.specs.Bytes.{_!_, part};
 ghost use Rattle.seals.specs.UnsealedBodies.{unsealedBody, opened16};
 ghost use Rattle.standard.specs.Refusals.{wrongLength, first, answer15};
 ghost use Rattle.standard.specs.Seals.{formOf, sealed as sealedOf, opened as openedOf, number2 as number2Of};
@@ -31,15 +31,6 @@ ghost use Rattle.standard.specs.Seals.{ta31Call, ta32Call, ta51Call, ta52Call, 
 
 // A sealed text's bytes.
 const TEXT: usize = 15;
-
-fn refused15(refusal: u32) -> Bytes15
-    ensures { λ r. ⌜ r ≡ record { refusal = refusal; bytes = zeros 15 } ⌝ }
-{
-    Bytes15 {
-        refusal,
-        bytes: [0; 15],
-    }
-}
 
 // A body: the key, and what stands behind it.
 fn body(k: [u8; 10], x: u8, y: u8) -> [u8; 12]
@@ -71,7 +62,7 @@ fn seal_if(right_lengths: bool, algorithm: Algorithm, key: [u8; 16], body: [u8; 
     ensures { λ r. ⌜ r ≡ answer15 (first ((«right_lengths», wrongLength) ∷ [])) (sealedOf (formOf algorithm) key body) ⌝ }
 {
     if !right_lengths {
-        return refused15(WRONG_LENGTH);
+        return Bytes15::refused(WRONG_LENGTH);
     }
     Bytes15 {
         refusal: 0,
@@ -151,10 +142,10 @@ pub fn ta51(cipher_key: &[u8], version: Version, sealing_key: &[u8], number: Key
     ensures { λ r. ⌜ r ≡ ta51Call (now («cipher_key» .entry)) version (now («sealing_key» .entry)) number ⌝ }
 {
     if !have_lengths(cipher_key, Kind::CIPHER_KEY, sealing_key, Kind::SEALING_KEY) {
-        return refused15(WRONG_LENGTH);
+        return Bytes15::refused(WRONG_LENGTH);
     }
     if number.0 > Kind::TA51_HIGHEST {
-        return refused15(WRONG_NUMBER);
+        return Bytes15::refused(WRONG_NUMBER);
     }
     let key = key16(array16(sealing_key), version);
     seal_if(

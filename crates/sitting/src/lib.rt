@@ -9,7 +9,6 @@ use standard::RingMade;
 use standard::SITTING;
 use standard::WRONG_LENGTH;
 use standard::pair;
-use standard::refused_ring;
 ghost use mathlib.Core.Path.{_≡_};
 ghost use Rattle.standard.specs.Programs.{sittingRing};
 
@@ -24,7 +23,7 @@ pub fn sitting_ring(s: &[u8]) -> RingMade
     ensures { λ r. ⌜ r ≡ sittingRing (now (s .entry)) ⌝ }
 {
     if s.len() != SITTING {
-        return refused_ring(WRONG_LENGTH);
+        return RingMade::refused(WRONG_LENGTH);
     }
     let sides = wide(s[78]);
     ring_of(RingInputs {

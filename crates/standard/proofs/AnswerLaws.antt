@@ -105,6 +105,12 @@ passes k (suc n) = rw (ne-eqb (suc n) 0 (λ e. omega arith), add-mul) (omega ari
 -- ---- an answer is 0 exactly if no refusal applies
 
 module _ (head n : ℕ) (g : ℕ → ℕ) (written : ℕ) where
+  abbrev all-accepted : BookAnswer
+  all-accepted = record { refusal = 0; index = n; written = written }
+
+  abbrev first-refused : BookAnswer
+  first-refused = refused (g (firstFault n g)) (firstFault n g)
+
   pub is-accepted : answer head n g written .refusal ≡ 0 → (head ≡ 0) × ((i : ℕ) → i < n → g i ≡ 0)
   unfolding answer
   is-accepted e = outer (eqb head 0) refl e
@@ -119,7 +125,7 @@ module _ (head n : ℕ) (g : ℕ → ℕ) (written : ℕ) where
           short (inr q) = q
 
       outer : (t : Bool) → eqb head 0 ≡ t
-          → choose t (choose (eqb (firstFault n g) n) (record { refusal = 0; index = n; written = written }) (refused (g (firstFault n g)) (firstFault n g))) (refused head 0) .refusal ≡ 0
+          → choose t (choose (eqb (firstFault n g) n) all-accepted first-refused) (refused head 0) .refusal ≡ 0
           → (head ≡ 0) × ((i : ℕ) → i < n → g i ≡ 0)
       outer true et e = (eqb-true head 0 et, inner (first-fault n g) (eqb (firstFault n g) n) refl e)
       outer false et e = absurd (eqb-false head 0 et e)
@@ -134,8 +140,8 @@ module _ (head n : ℕ) (g : ℕ → ℕ) (written : ℕ) where
   refusal-writes r = go (eqb head 0) (eqb (firstFault n g) n) r
     where
       go : (s t : Bool)
-          → (choose s (choose t (record { refusal = 0; index = n; written = written }) (refused (g (firstFault n g)) (firstFault n g))) (refused head 0) .refusal ≡ 0 → ⊥)
-          → choose s (choose t (record { refusal = 0; index = n; written = written }) (refused (g (firstFault n g)) (firstFault n g))) (refused head 0) .written ≡ 0
+          → (choose s (choose t all-accepted first-refused) (refused head 0) .refusal ≡ 0 → ⊥)
+          → choose s (choose t all-accepted first-refused) (refused head 0) .written ≡ 0
       go true true r = absurd (r refl)
       go true false r = refl
       go false t r = refl
@@ -225,10 +231,14 @@ module _ (C : Conversion) (r xs out : List ℕ) where
     -- where an inspection of a record without a fault takes c runs
     pub call-accepts : (c : ℕ) → ((x : List ℕ) → C .fault x ≡ 0 → C .inspection x ≡ c) → length r ≡ ringSize → C .outputSize * n ≤ length out → Good xs
         → bookCall C r xs out
-        ≡ (record { refusal = 0; index = n; written = C .outputSize * n; runs = acceptedRuns (c + 2) n }, each n (C .size) (C .convert) xs ++ drop (C .outputSize * n) out)
+        ≡ (
+          record { refusal = 0; index = n; written = C .outputSize * n; runs = acceptedRuns (c + 2) n },
+          each n (C .size) (C .convert) xs ++ drop (C .outputSize * n) out,
+        )
     unfolding bookCall written
     call-accepts c inspection hr room k =
         let head : first tests ≡ 0 =
         rw (eq-eqb _ _ hr, le-leb _ _ (few-of (C .size) (C .fault) xs k), eq-eqb _ _ (whole-of (C .size) (C .fault) xs k), le-leb _ _ room) in
         let good = good-of (C .size) (C .fault) xs k in
-        rw (accepted (first tests) n g (C .outputSize * n) head good, head, eq-eqb _ _ (no-fault n g good), pass-clean g l c n good (λ i h. inspection _ (good i h)), passes c n)
+        let clean = pass-clean g l c n good (λ i h. inspection _ (good i h)) in
+        rw (accepted (first tests) n g (C .outputSize * n) head good, head, eq-eqb _ _ (no-fault n g good), clean, passes c n)

@@ -11,12 +11,14 @@ use lib.Bits.{xor-self}
 use lib.Dec.{eqb, leb}
 use borrow.Author.Tests.{eqb-false, eq-eqb, ne-eqb}
 use Rattle.standard.specs.Bytes.{_!_, bit, _⊕_, part, choose, Bytes}
-use Rattle.standard.specs.Cards.{unreadable, readable, erasuresOn, erasures, atMostOne, agrees, everyGroup, restored, keyOf, restoreCall, SameReadable, FormOf, OnlyOne, None, Several, CardLaw}
+use Rattle.standard.specs.Cards.{unreadable, readable, erasuresOn, erasures, atMostOne, agrees, everyGroup, restored, keyOf, restoreCall}
+use Rattle.standard.specs.Cards.{SameReadable, FormOf, OnlyOne, None, Several, CardLaw}
 use Rattle.standard.specs.Mixing.{tb7}
 use Rattle.standard.specs.Refusals.{wrongLength, groupUnreadable, groupDisagrees, hasLength, first}
 use Rattle.standard.proofs.BytesLaws.{table-at, table-same, spell, bytes-append, bytes-cons, bytes-nil, bytes-part, and-split, and-join}
 use Rattle.standard.proofs.FirstLaws.{all-pass, not-first}
-use Rattle.standard.proofs.ErasureLaws.{Group, end, place, count, rest, filled, Fits, fits-long, Decides, group-decided, fits-right, Joined, join, both-decided, same-decided}
+use Rattle.standard.proofs.ErasureLaws.{Group, end, place, count, rest, filled, Fits, fits-long, Decides, group-decided, fits-right}
+use Rattle.standard.proofs.ErasureLaws.{Joined, join, both-decided, same-decided}
 use Rattle.standard.proofs.XorLaws.{xor-cancel-r, xor-byte}
 
 -- ---- the readable bytes, by the mask's bits and as a string
@@ -123,7 +125,11 @@ module _ (x : List ℕ) (m : ℕ) (h : Bytes 16 x) where
           more = record {
             bound = b 2;
             read = entry e 2;
-            more = record { bound = xor-byte (f .p ⊕ f .q) (f .r) (xor-byte (f .p) (f .q) (b 0) (b 1)) (b 2); read = entry e 3; more = xor-self (f .p ⊕ f .q ⊕ f .r) };
+            more = record {
+              bound = xor-byte (f .p ⊕ f .q) (f .r) (xor-byte (f .p) (f .q) (b 0) (b 1)) (b 2);
+              read = entry e 3;
+              more = xor-self (f .p ⊕ f .q ⊕ f .r);
+            };
           };
         };
       })

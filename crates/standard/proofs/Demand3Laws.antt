@@ -9,7 +9,8 @@ use lib.Dec.{eqb}
 use lib.ListN.{length, take, drop}
 use lib.Seq.{take-at}
 use borrow.Author.Tests.{eq-eqb, le-leb}
-use Rattle.standard.specs.Books.{plainFault, sealRecord, openFault, openRecord, WellFormed, sealedForm, sealing, opening, bookCall, sealBook, openBook, checkPlain}
+use Rattle.standard.specs.Books.{plainFault, sealRecord, openFault, openRecord, WellFormed, sealedForm}
+use Rattle.standard.specs.Books.{sealing, opening, bookCall, sealBook, openBook, checkPlain}
 use Rattle.standard.specs.Bytes.{_!_, Bytes}
 use Rattle.standard.specs.Demand3.{IsSealedForm, Demand3, Demand3Holds}
 use Rattle.standard.specs.Lists.{each, lengthTests}
@@ -18,7 +19,8 @@ use Rattle.standard.specs.Runs.{acceptedRuns}
 use Rattle.standard.specs.Sizes.{ringSize, plainSize, sealedSize}
 use Rattle.standard.specs.declared.BookAnswer.{BookAnswer}
 use Rattle.standard.specs.declared.CountedAnswer.{CountedAnswer}
-use Rattle.standard.proofs.AnswerLaws.{is-accepted, accepted, lengths-fine, book-of, few-of, whole-of, good-of, call-lengths, call-book, call-accepts, call-refuses}
+use Rattle.standard.proofs.AnswerLaws.{is-accepted, accepted, lengths-fine, book-of, few-of, whole-of, good-of}
+use Rattle.standard.proofs.AnswerLaws.{call-lengths, call-book, call-accepts, call-refuses}
 use Rattle.standard.proofs.BookLaws.{Book, books, mapped-length}
 use Rattle.standard.proofs.InverseLaws.{Inverse, is-image, of-one, reversed}
 use Rattle.standard.proofs.RecordLaws.{record-law}
@@ -48,7 +50,9 @@ opening-lengths r s plain e = call-lengths (opening r) r s plain e
 
 module _ (r : List ℕ) (hr : Bytes ringSize r) where
   -- the sealed form and what opening writes are inverse
-  pub book-law : Inverse PlainBook (SealedBook r) (λ p. each (length p / plainSize) plainSize (sealRecord r) p) (λ s. each (length s / sealedSize) sealedSize (openRecord r) s)
+  pub book-law : Inverse PlainBook (SealedBook r)
+      (λ p. each (length p / plainSize) plainSize (sealRecord r) p)
+      (λ s. each (length s / sealedSize) sealedSize (openRecord r) s)
   book-law = books (omega arith) (omega arith) (record-law r hr)
 
   module _ (s : List ℕ) (bs : (i : ℕ) → s ! i < 256) where
@@ -74,8 +78,12 @@ module _ (r : List ℕ) (hr : Bytes ringSize r) where
 
     module _ (out : List ℕ) (room : plainSize * (length s / sealedSize) ≤ length out) where
       accepts : SealedBook r s
-          → openBook r s out
-          ≡ (record { refusal = 0; index = length s / sealedSize; written = plainSize * (length s / sealedSize); runs = acceptedRuns 4 (length s / sealedSize) }, each (length s / sealedSize) sealedSize (openRecord r) s ++ drop (plainSize * (length s / sealedSize)) out)
+          → let n = length s / sealedSize in
+          openBook r s out
+          ≡ (
+            record { refusal = 0; index = n; written = plainSize * n; runs = acceptedRuns 4 n },
+            each n sealedSize (openRecord r) s ++ drop (plainSize * n) out,
+          )
       unfolding openBook
       accepts b = call-accepts (opening r) r s out bs 2 (inspection-clear r) (hr .len) room b
 

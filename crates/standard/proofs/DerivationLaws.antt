@@ -49,7 +49,8 @@ length-chosen m o h = length-of 16 m o ∙ ap ones (mod-eq-of-lt h)
 
 -- the seven strings, one by one
 pub lengths-split : (root rs rso rand1 rand2 c gk : List ℕ) → haveLengths root rs rso rand1 rand2 c gk ≡ true
-    → (hasLength 16 root ≡ true) × (hasLength 10 rs ≡ true) × (hasLength 10 rso ≡ true) × (hasLength 10 rand1 ≡ true) × (hasLength 10 rand2 ≡ true) × (hasLength 10 c ≡ true) × (hasLength 12 gk ≡ true)
+    → (hasLength 16 root ≡ true) × (hasLength 10 rs ≡ true) × (hasLength 10 rso ≡ true) × (hasLength 10 rand1 ≡ true) × (hasLength 10 rand2 ≡ true)
+    × (hasLength 10 c ≡ true) × (hasLength 12 gk ≡ true)
 lengths-split root rs rso rand1 rand2 c gk t =
     let s₆ = and-split _ _ t in
     let s₅ = and-split _ _ (s₆ .0) in
@@ -75,4 +76,5 @@ pub ring-long : (root rs rso rand1 rand2 c gk : List ℕ) (sides rm km : ℕ) �
 unfolding ringOf ringCall
 ring-long root rs rso rand1 rand2 c gk sides rm km t =
     let s = lengths-split root rs rso rand1 rand2 c gk t in
-    rw (length-spelled 16 root (s .0), length-spelled 10 rs (s .1), length-spelled 10 rso (s .2), length-spelled 10 rand1 (s .3), length-spelled 10 rand2 (s .4), length-spelled 10 c (s .5), length-spelled 12 gk (s .6), t)
+    rw (length-spelled 16 root (s .0), length-spelled 10 rs (s .1), length-spelled 10 rso (s .2), length-spelled 10 rand1 (s .3))
+    (rw (length-spelled 10 rand2 (s .4), length-spelled 10 c (s .5), length-spelled 12 gk (s .6), t))

@@ -17,7 +17,9 @@ use Rattle.standard.specs.Classes.{classRecord, ta12ClassCall}
 use Rattle.standard.specs.Cores.{bl1With, bl1}
 use Rattle.standard.specs.Derivation.{core, ta11, ta21, ta41, chosen, ta12Call, sidesTest, ring, haveLengths, ringCall}
 use Rattle.standard.specs.Expansions.{inserted, expected, exp3Groups}
-use Rattle.standard.specs.Facts.{BothSides, OneSide, IdleChallenge, SingleCalls, OrIsFlag, ChecksBits, groupsOf, checkCount, sealingSize, failedChecks, openedBy, FailedChecks, flagClear, FlagIsNonzero, OrIsZero, flagFault, SameBooks, SameChecks}
+use Rattle.standard.specs.Facts.{BothSides, OneSide, IdleChallenge, SingleCalls, SameBooks, SameChecks}
+use Rattle.standard.specs.Facts.{groupsOf, checkCount, sealingSize, failedChecks, openedBy, flagClear, flagFault}
+use Rattle.standard.specs.Facts.{OrIsFlag, ChecksBits, FailedChecks, FlagIsNonzero, OrIsZero}
 use Rattle.standard.specs.Lists.{recordAt, each, lengthTests, listTests, written}
 use Rattle.standard.specs.Mixing.{tb4, tb7}
 use Rattle.standard.specs.Refusals.{wrongLength, hasLength, maskTests, first, ringMade}
@@ -137,8 +139,8 @@ module _ (ks xs : List ℕ) (rm km : ℕ) (out : List ℕ) (z : ta12ClassCall ks
 
   class-record : (i : ℕ) → i < n → recordAt authenticationSize (ta12ClassCall ks xs rm km out .1) i ≡ classRecord ks rm km (recordAt challengeSize xs i)
   class-record i h =
-      rw all-written
-      (joined-front authenticationSize (λ j. classRecord ks rm km (recordAt challengeSize xs j)) n (λ j k. record-long ks rm km _) (drop (authenticationSize * n) out) i h)
+      let made : ℕ → List ℕ = λ j. classRecord ks rm km (recordAt challengeSize xs j) in
+      rw all-written (joined-front authenticationSize made n (λ j k. record-long ks rm km _) (drop (authenticationSize * n) out) i h)
 
   single : (i : ℕ) → let x = recordAt challengeSize xs i in
       ta12Call ks x rm km ≡ record { refusal = 0; response = chosen rm (core ks x); key = chosen km (core ks x) }
@@ -221,7 +223,8 @@ no-other Ta81 t s v = below-both (passes Ta81 t s) _ 3 (fails-below Ta81 s (byte
 no-other Ta91 t s v = below-both (passes Ta91 t s) _ 3 (fails-below Ta91 s (bytesOf 2 (v .0)) t)
 
 -- where the lengths pass, a call answers the number of its form
-failed-by : (a : Algorithm) (t s : List ℕ) (v : Version) → length t ≡ 15 → length s ≡ sealingSize a → failedChecks a t s v ≡ failed (formOf a) (openedBy a t s v)
+failed-by : (a : Algorithm) (t s : List ℕ) (v : Version) → length t ≡ 15 → length s ≡ sealingSize a
+    → failedChecks a t s v ≡ failed (formOf a) (openedBy a t s v)
 unfolding ta32Call ta52Call ta82Call ta92Call fails
 failed-by Ta31 t s v ht hs = rw (eq-eqb _ _ ht, eq-eqb _ _ hs)
 failed-by Ta51 t s v ht hs = rw (eq-eqb _ _ ht, eq-eqb _ _ hs)

@@ -71,7 +71,10 @@ unmixed-mix a b c ha hb hc =
 
 -- what `P` puts through S, after the inverse: the bytes themselves
 mixed-unmix : (x y z : ℕ) → x < 256 → y < 256 → z < 256
-    → _≡_ {A = List ℕ} (mix (unmix x y z) (unmix x z y) (unmix y z x) ∷ mix (unmix x y z) (unmix y z x) (unmix x z y) ∷ mix (unmix x z y) (unmix y z x) (unmix x y z) ∷ []) (x ∷ y ∷ z ∷ [])
+    → let u = unmix x y z in
+    let v = unmix x z y in
+    let w = unmix y z x in
+    _≡_ {A = List ℕ} (mix u v w ∷ mix u w v ∷ mix v w u ∷ []) (x ∷ y ∷ z ∷ [])
 mixed-unmix x y z hx hy hz =
     cc (mix-unmix x y z hx hy hz, mix-unmix y x z hy hx hz, mix-unmix z x y hz hx hy, mix-comm x y z, mix-comm x z y, mix-comm y z x)
 

@@ -9,7 +9,9 @@ use lib.Dec.{eqb}
 use lib.ListN.{length, drop}
 use borrow.Author.Tests.{ltb-true, eqb-false, ne-eqb}
 use Rattle.standard.specs.Bytes.{part, choose}
-use Rattle.standard.specs.Lineage.{operation, parent1, parent2, derivedFilled, parentTests, lineageFault, derived, valueFrom, valueWithin, valueOf, lineageCall, WithParents, LineageLaw, Ancestor, itself, by-first, by-second, AncestorLaw, LineageSound}
+use Rattle.standard.specs.Lineage.{operation, parent1, parent2, derivedFilled, parentTests, lineageFault}
+use Rattle.standard.specs.Lineage.{derived, valueFrom, valueWithin, valueOf, lineageCall}
+use Rattle.standard.specs.Lineage.{WithParents, LineageLaw, Ancestor, itself, by-first, by-second, AncestorLaw, LineageSound}
 use Rattle.standard.specs.Lists.{recordAt, joined, listTests, written}
 use Rattle.standard.specs.Refusals.{wrongFilling, first}
 use Rattle.standard.specs.Sizes.{sheetSize, valueSize}
@@ -71,7 +73,8 @@ module _ (s : List ℕ) (n : ℕ) (clean : (i : ℕ) → i < n → lineageFault 
       from-same (recordAt sheetSize s i) _ _ _ _
       (λ z.
       let q = parents-before s i (clean i h) z in
-      (all-in j k _ (omega (arith, q .0)) (omega (arith, q .0)) (omega (arith, q .0)), all-in j k _ (omega (arith, q .1)) (omega (arith, q .1)) (omega (arith, q .1))))
+      let parent : (m : ℕ) → m < i → valueWithin j s m ≡ valueWithin k s m = λ m b. all-in j k m (omega arith) (omega arith) (omega arith) in
+      (parent _ (q .0), parent _ (q .1)))
 
   -- the value of a record, from its parents' values
   pub value-step : (i : ℕ) → i < n
@@ -82,7 +85,8 @@ module _ (s : List ℕ) (n : ℕ) (clean : (i : ℕ) → i < n → lineageFault 
       from-same p _ _ _ _
       (λ z.
       let q = parents-before s i (clean i h) z in
-      (all-in i (suc (parent1 p)) (parent1 p) (q .0) (omega arith) (omega (arith, q .0)), all-in i (suc (parent2 p)) (parent2 p) (q .1) (omega arith) (omega (arith, q .1))))
+      let parent : (m : ℕ) → m < i → valueWithin i s m ≡ valueWithin (suc m) s m = λ m b. all-in i (suc m) m b (omega arith) (omega arith) in
+      (parent _ (q .0), parent _ (q .1)))
 
 -- ---- an accepted sheet
 

@@ -49,6 +49,7 @@ pub counted : (t out : List ℕ) {r : TextAnswer} {exit : List ℕ} → (r, exit
 unfolding textCall
 counted t out e = subst Within (sym e) (go (ltb (length out) (length t)))
   where
-    go : (s : Bool) → Within (choose s (record { refusal = outputShort; written = 0 }, out) (record { refusal = 0; written = length t }, t ++ drop (length t) out))
+    go : (s : Bool)
+        → Within (choose s (record { refusal = outputShort; written = 0 }, out) (record { refusal = 0; written = length t }, t ++ drop (length t) out))
     go true = omega arith
     go false = simp length-append (omega arith)

@@ -6,7 +6,8 @@
 use mathlib.Core.List.{_∷_, _++_}
 use mathlib.Core.Path.{_≡_, refl, sym, ap, ap₂, _∙_}
 use Prim.Native.Nat.{ℕ, zero, suc, _+_, _-_, _*_, _/_, _%_, _^_, _<_, _≤_}
-use native.Mathlib.Nat.{add-zero, zero-add, add-suc, suc-add, add-assoc, add-comm, zero-mul, suc-mul, mul-one, add-mul, mul-assoc, mul-add-mod-self-right, lt-of-lt-of-le, div-add-mod', mod-lt}
+use native.Mathlib.Nat.{add-zero, zero-add, add-suc, suc-add, add-assoc, add-comm, zero-mul, suc-mul, mul-one, add-mul, mul-assoc}
+use native.Mathlib.Nat.{mul-add-mod-self-right, lt-of-lt-of-le, div-add-mod', mod-lt}
 use native.Mathlib.Omega.{arith}
 use lib.Arith.{digits-lt}
 use lib.Pow.{pow-add, pow-mono, shl-exact, shr-shr, split, high, field}

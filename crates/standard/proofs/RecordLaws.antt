@@ -66,7 +66,9 @@ module _ (r : List ℕ) (hr : Bytes ringSize r) where
     hidden : Bytes 3 (ta61 (commonKey r) (part 1 3 p))
     hidden = identity .to (part 1 3 p) (bytes-part 1 3 (h .bytes))
 
-    sealed : Clear (form (recordKind p)) (sealingKey (recordKind p) r) (part 4 2 p) (seal (form (recordKind p)) (sealingKey (recordKind p) r) (part 4 2 p) (part 6 12 p))
+    sealed : let F = form (recordKind p) in
+        let s = sealingKey (recordKind p) r in
+        Clear F s (part 4 2 p) (seal F s (part 4 2 p) (part 6 12 p))
     sealed = text (recordKind p) (part 4 2 p) .to (part 6 12 p) body
 
     back : openRecord r (sealRecord r p) ≡ p

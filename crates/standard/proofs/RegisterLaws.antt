@@ -11,7 +11,8 @@ use lib.ListN.{length}
 use borrow.Author.Tests.{leb-true}
 use Rattle.standard.specs.Bytes.{_!_, _⊕_, table, part, xors, zeros}
 use Rattle.standard.specs.Hurdle.{Halves, round, rounds, crypt, D, a, rotl, next, Q, schedule, roundKey, encrypt, decrypt}
-use Rattle.standard.specs.Register.{step, stepBack, turned, State, start, onward, backward, joined, encryptRegister, decryptRegister, StepBack, Returns, KeyAgain, BeginsAnew, SameCipher}
+use Rattle.standard.specs.Register.{step, stepBack, turned, State, start, onward, backward, joined, encryptRegister, decryptRegister}
+use Rattle.standard.specs.Register.{StepBack, Returns, KeyAgain, BeginsAnew, SameCipher}
 use Rattle.standard.specs.Tables.{runningSum, turn}
 use Rattle.standard.proofs.BytesLaws.{table-at, table-same, spelled, every, every-at}
 use Rattle.standard.proofs.ScheduleLaws.{Q-linear, round-key}

@@ -11,5 +11,6 @@ use Rattle.standard.specs.Seals.{kindOf, key10, sealed, opened, seal, fa
 use Rattle.standard.specs.Shuffles.{TwoRings}
 
 pub two-rings : TwoRings
-unfolding openBook bookCall written answer sealedForm sealRecord openFault inspectionRuns kindOf seal sealed fails opened key10 exp4 bl1 bl1With bl2 encrypt decrypt crypt rounds round f T S bit laid Q D a
+unfolding openBook bookCall written answer sealedForm sealRecord openFault inspectionRuns kindOf seal sealed fails opened key10 exp4 bl1 bl1With
+    bl2 encrypt decrypt crypt rounds round f T S bit laid Q D a
 two-rings = refl

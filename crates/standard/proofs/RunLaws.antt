@@ -60,8 +60,9 @@ module _ (head n : ℕ) (g l : ℕ → ℕ) (bytes : ℕ) where
           took = omega (arith, pass-stopped g l n f short (p .below) (p .stop short))
 
       outer : (t : Bool) → eqb head 0 ≡ t
-          → Ends (choose t (choose (eqb (firstFault n g) n) (record { refusal = 0; index = n; written = bytes }) (refused (g (firstFault n g)) (firstFault n g))) (refused head 0))
-          (choose t (firstPass n g l + choose (eqb (firstFault n g) n) (secondPass n) 0) 0)
+          → let i = firstFault n g in
+          Ends (choose t (choose (eqb i n) (record { refusal = 0; index = n; written = bytes }) (refused (g i) i)) (refused head 0))
+          (choose t (firstPass n g l + choose (eqb i n) (secondPass n) 0) 0)
       outer true e = inner (first-fault n g) (eqb (firstFault n g) n) refl
       outer false e = inl (record { some = eqb-false head 0 e; is = refl; took = refl })
 

@@ -108,7 +108,8 @@ form-law Ta91 = law81
 -- ---- sealed texts
 
 -- what holds of the form and of the core holds of both, one after the other
-sealing-by : (F : Form) → FormLaw F → ((u : List ℕ) → clear F u ≡ same (F .found u) (F .wanted u)) → (s v : List ℕ) → Inverse (Body F) (Clear F s v) (seal F s v) (unseal F s v)
+sealing-by : (F : Form) → FormLaw F → ((u : List ℕ) → clear F u ≡ same (F .found u) (F .wanted u)) → (s v : List ℕ)
+    → Inverse (Body F) (Clear F s v) (seal F s v) (unseal F s v)
 unfolding seal unseal fails sealed opened sealCore unsealCore
 sealing-by F law flag s v =
     let k = F .key s v in

@@ -113,7 +113,11 @@ Good C n xs = Records (C .size) n (λ x. eqb (C .fault x) 0) xs
 
 called : (C : Conversion) (r : List ℕ) (n c : ℕ) → 0 < C .size → ((x : List ℕ) → C .fault x ≡ 0 → C .inspection x ≡ c) → length r ≡ ringSize
     → (xs : List ℕ) → Good C n xs → (out : List ℕ) → C .outputSize * n ≤ length out → (made : List ℕ) → each n (C .size) (C .convert) xs ≡ made
-    → bookCall C r xs out ≡ (record { refusal = 0; index = n; written = C .outputSize * n; runs = acceptedRuns (c + 2) n }, made ++ drop (C .outputSize * n) out)
+    → bookCall C r xs out
+    ≡ (
+      record { refusal = 0; index = n; written = C .outputSize * n; runs = acceptedRuns (c + 2) n },
+      made ++ drop (C .outputSize * n) out,
+    )
 called C r n c hw inspection hr xs b out room made e =
     let k = count hw b in
     rw (k, e) at (call-accepts C r xs out (b .bytes .bound) c inspection hr (rw k room) (to-book hw b))
@@ -202,7 +206,8 @@ unfolding bookCall written answer
 too-long C r xs out hr h = rw (eq-eqb _ _ hr, lt-leb _ _ h)
 
 -- longer than so many records of w bytes
-longer : {w m n : ℕ} {ok : List ℕ → Bool} {xs ys : List ℕ} → 0 < w → Records w m ok xs → Records w n ok ys → mostRecords < m + n → w * mostRecords < length (xs ++ ys)
+longer : {w m n : ℕ} {ok : List ℕ → Bool} {xs ys : List ℕ} → 0 < w → Records w m ok xs → Records w n ok ys → mostRecords < m + n
+    → w * mostRecords < length (xs ++ ys)
 longer {w} {m} {n} {ok} {xs} {ys} hw a b many =
     omega (arith, length-append xs ys, a .bytes .len, b .bytes .len, mul-add w m n, mul-suc w mostRecords, mul-le-mul-left w many, hw)
 

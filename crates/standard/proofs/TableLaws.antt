@@ -12,8 +12,10 @@ use lib.Seq.{getD-set-same, getD-set-other}
 use borrow.Author.Tests.{eqb-true, ltb-true, ltb-false}
 use Rattle.standard.specs.Bytes.{_!_, table, part}
 use Rattle.standard.specs.Hurdle.{S, S⁻¹, a}
-use Rattle.standard.specs.Tables.{placeOf, inverse, runningSum, turn, rotations, spaced, tableLine, tableLines, tablesText, InverseMade, Rotations, LastLine}
+use Rattle.standard.specs.Tables.{placeOf, inverse, runningSum, turn, rotations, spaced, tableLine, tableLines, tablesText}
+use Rattle.standard.specs.Tables.{InverseMade, Rotations, LastLine}
 use Rattle.standard.specs.Text.{hexDigit}
+use Rattle.standard.proofs.BookLaws.{length-each}
 use Rattle.standard.proofs.BytesLaws.{table-same, length-table, spelled, and-split, every, every-at}
 use Rattle.standard.proofs.HurdleLaws.{permuted}
 
@@ -27,11 +29,15 @@ long-inverse : length (inverse S) ≡ 256
 unfolding inverse
 long-inverse = refl
 
+-- the rotations have a place for k: there stands k, and entry k's place is its own
+abbrev onceAt : ℕ → Bool
+onceAt k = ltb (placeOf k rotations) 16 && eqb (rotations ! placeOf k rotations) k && eqb (placeOf (rotations ! k) rotations) k
+
 -- the rotations' places: what stands at a value's place is the value, and an entry's place is its own
 places : (v : ℕ) → v < 16 → (placeOf v rotations < 16) × (rotations ! placeOf v rotations ≡ v) × (placeOf (rotations ! v) rotations ≡ v)
 unfolding rotations runningSum a
 places v h =
-    let e = and-split _ _ (every-at 16 (λ k. ltb (placeOf k rotations) 16 && eqb (rotations ! placeOf k rotations) k && eqb (placeOf (rotations ! k) rotations) k) refl v h) in
+    let e = and-split _ _ (every-at 16 onceAt refl v h) in
     let f = and-split _ _ (e .0) in
     (ltb-true _ _ (f .0), eqb-true _ _ (f .1), eqb-true _ _ (e .1))
 
@@ -101,8 +107,7 @@ line-length t = simp length-append (omega (arith, spaced-length (part 0 15 t)))
 
 pub lines-length : (n : ℕ) (t : List ℕ) → length (tableLines n t) ≡ 48 * n
 unfolding tableLines
-lines-length zero t = refl
-lines-length (suc n) t = simp length-append (omega (arith, lines-length n t, line-length (part (16 * n) 16 t)))
+lines-length n t = length-each 16 48 tableLine line-length t n
 
 pub text-length : length tablesText ≡ 816
 unfolding tablesText

@@ -36,4 +36,5 @@ pub record Demand3 (r s out : List ℕ) : Type 0 where
 -- for every ring, whatever bytes are handed in, and every output long enough: a plain record for each whole one
 abbrev pub Demand3Holds : Type 0
 Demand3Holds =
-    (r : List ℕ) → Bytes ringSize r → (s : List ℕ) → ((i : ℕ) → s ! i < 256) → (out : List ℕ) → plainSize * (length s / sealedSize) ≤ length out → Demand3 r s out
+    (r : List ℕ) → Bytes ringSize r → (s : List ℕ) → ((i : ℕ) → s ! i < 256)
+    → (out : List ℕ) → plainSize * (length s / sealedSize) ≤ length out → Demand3 r s out

@@ -62,7 +62,8 @@ int gck0 mni = xors 10 gck0 (bytesOf 3 mni ++ bytesOf 3 mni ++ bytesOf 3 mni ++ 
 abbrev pub ta101 : List ℕ → List ℕ → ℕ → List ℕ
 ta101 ks gck0 mni = core ks (int gck0 mni)
 
--- ---- the ring recipe: D, O, C, G, and both responses. G is the group key's TB7 form (02, 4). The sides say who proves itself (02, 1): 1 runs TA12 alone, 2 TA22 alone, 3 both
+-- ---- the ring recipe: D, O, C, G, and both responses. G is the group key's TB7 form (02, 4). The sides say who proves itself (02, 1):
+-- 1 runs TA12 alone, 2 TA22 alone, 3 both
 
 abbrev pub sidesTest : ℕ → Bool × ℕ
 sidesTest sides = (leb 1 sides && leb sides 3, wrongSides)
@@ -132,5 +133,16 @@ haveLengths root rs rso rand1 rand2 c gk =
 
 unfoldable pub ringCall : (root rs rso rand1 rand2 c gk : List ℕ) (sides rm km : ℕ) → RingMade
 ringCall root rs rso rand1 rand2 c gk sides rm km =
-    let x : RingInputs = record { root = root; rs = rs; rso = rso; rand1 = rand1; rand2 = rand2; c = c; «group_key» = gk; sides = sides; «response_mask» = rm; «key_mask» = km } in
+    let x : RingInputs = record {
+      root = root;
+      rs = rs;
+      rso = rso;
+      rand1 = rand1;
+      rand2 = rand2;
+      c = c;
+      «group_key» = gk;
+      sides = sides;
+      «response_mask» = rm;
+      «key_mask» = km;
+    } in
     ringAnswer (first ((haveLengths root rs rso rand1 rand2 c gk, wrongLength) ∷ ringTests x)) x

@@ -1,12 +1,12 @@
 -- The listing of a plain book (01, Program plainlist): the bytes that plainlist prints.
 -- Assumes nothing.
-use mathlib.Core.List.{List, [], _++_}
-use Prim.Native.Nat.{ℕ, zero, suc, _+_, _*_, _/_, _≤_}
+use mathlib.Core.List.{List, _++_}
+use Prim.Native.Nat.{ℕ, _+_, _*_, _/_, _≤_}
 use lib.Dec.{eqb}
 use lib.ListN.{length, drop}
 use Rattle.standard.specs.Books.{recordKind, checkPlain}
 use Rattle.standard.specs.Bytes.{_!_, part, choose}
-use Rattle.standard.specs.Lists.{recordAt}
+use Rattle.standard.specs.Lists.{recordAt, joined}
 use Rattle.standard.specs.Seals.{keyLength}
 use Rattle.standard.specs.Text.{ascii, decimal, hex}
 use Rattle.standard.specs.declared.Algorithm.{Algorithm}
@@ -24,14 +24,13 @@ numberText Ta91 p = ascii "-"
 -- plain record p, at index i
 unfoldable pub entryLine : ℕ → List ℕ → List ℕ
 entryLine i p =
-    ascii "entry " ++ decimal i ++ ascii " kind " ++ decimal (p ! 0) ++ ascii " identity " ++ hex (part 1 3 p) ++ ascii " version "
-    ++ decimal (256 * p ! 4 + p ! 5) ++ ascii " key " ++ hex (part 6 (keyLength (recordKind p .algorithm)) p) ++ ascii " number " ++ numberText (recordKind p .algorithm) p
-    ++ ascii "\n"
+    ascii "entry " ++ decimal i ++ ascii " kind " ++ decimal (p ! 0) ++ ascii " identity " ++ hex (part 1 3 p)
+    ++ ascii " version " ++ decimal (256 * p ! 4 + p ! 5) ++ ascii " key " ++ hex (part 6 (keyLength (recordKind p .algorithm)) p)
+    ++ ascii " number " ++ numberText (recordKind p .algorithm) p ++ ascii "\n"
 
 -- the first n records of a book
 unfoldable pub entryLines : ℕ → List ℕ → List ℕ
-entryLines zero p = []
-entryLines (suc n) p = entryLines n p ++ entryLine n (recordAt 18 p n)
+entryLines n p = joined n (λ i. entryLine i (recordAt 18 p i))
 
 unfoldable pub entriesLine : ℕ → List ℕ
 entriesLine n = ascii "entries " ++ decimal n ++ ascii "\n"

@@ -6,7 +6,9 @@ use lib.Dec.{eqb}
 use Rattle.standard.specs.Bytes.{_!_, part, choose}
 use Rattle.standard.specs.Derivation.{ringCall}
 use Rattle.standard.specs.Listing.{refusedAt}
-use Rattle.standard.specs.Refusals.{bookTooLong, bookNotWhole, wrongKind, notZero, wrongNumber, flagSet, wrongMask, sharedBit, wrongWidth, valueWide, wrongLength, outputShort, wrongSides, wrongFilling, wrongParent, parentLength, noInput, groupUnreadable, groupDisagrees, hasLength, ringMade}
+use Rattle.standard.specs.Refusals.{bookTooLong, bookNotWhole, wrongKind, notZero, wrongNumber, flagSet, wrongMask, sharedBit}
+use Rattle.standard.specs.Refusals.{wrongWidth, valueWide, wrongLength, outputShort, wrongSides, wrongFilling, wrongParent}
+use Rattle.standard.specs.Refusals.{parentLength, noInput, groupUnreadable, groupDisagrees, hasLength, ringMade}
 use Rattle.standard.specs.Sizes.{sittingSize}
 use Rattle.standard.specs.Text.{ascii, decimal, textCall}
 use Rattle.standard.specs.declared.BookAnswer.{BookAnswer}

@@ -33,7 +33,10 @@ pub record ShuffledBook (r p : List ℕ) (n : ℕ) (π : ℕ → ℕ) : Type 0 w
   -- that is what sealing it writes, and nothing after it
   pub seals : (out : List ℕ) → sealedSize * n ≤ length out
       → sealBook r (reordered n plainSize π p) out
-      ≡ (record { refusal = 0; index = n; written = sealedSize * n; runs = acceptedRuns 2 n }, reordered n sealedSize π (sealedForm r p) ++ drop (sealedSize * n) out)
+      ≡ (
+        record { refusal = 0; index = n; written = sealedSize * n; runs = acceptedRuns 2 n },
+        reordered n sealedSize π (sealedForm r p) ++ drop (sealedSize * n) out,
+      )
   -- opening that writes the reordered plain book and nothing after it
   pub opens : (out : List ℕ) → plainSize * n ≤ length out
       → openBook r (reordered n sealedSize π (sealedForm r p)) out

@@ -6,6 +6,7 @@ use Prim.Native.Nat.{ℕ, zero, suc, _+_, _*_, _%_, _<_}
 use lib.Dec.{eqb}
 use Rattle.standard.specs.Bytes.{_!_, table, part, choose}
 use Rattle.standard.specs.Hurdle.{S, S⁻¹, a}
+use Rattle.standard.specs.Lists.{each}
 use Rattle.standard.specs.Text.{ascii, hexByte, textCall}
 use Rattle.standard.specs.declared.TextAnswer.{TextAnswer}
 
@@ -46,8 +47,7 @@ tableLine t = spaced (part 0 15 t) ++ hexByte (t ! 15) ++ ascii "\n"
 
 -- the first n lines of a table
 unfoldable pub tableLines : ℕ → List ℕ → List ℕ
-tableLines zero t = []
-tableLines (suc n) t = tableLines n t ++ tableLine (part (16 * n) 16 t)
+tableLines n t = each n 16 tableLine t
 
 -- sixteen lines of the inverse, then one of the rotations
 unfoldable pub tablesText : List ℕ

@@ -1,9 +1,10 @@
 // What the calls take and answer with. An answer's first field is 0, or the number of the refusal; on a refusal every other field is
-// zero, but for a book's index and a refused opening's runs.
+// zero, but for a book's index and a refused opening's runs: `refused` makes such an answer.
 ghost use mathlib.Core.List.{[], _∷_};
 ghost use mathlib.Core.Path.{_≡_};
 ghost use Prim.Native.Nat.{_+_, _*_};
 ghost use Rattle.standard.specs.Bytes.{zeros, bytesOf};
+ghost use Rattle.standard.specs.Lists.{refused};
 ghost use Rattle.standard.specs.Sizes.{ringSize};
 ghost use Rattle.standard.specs.Seals.{kind, kindOf, keyLength, highestNumber};
 
@@ -91,10 +92,32 @@ pub struct Bytes8 {
     pub bytes: [u8; 8],
 }
 
+impl Bytes8 {
+    pub fn refused(refusal: u32) -> Bytes8
+        ensures { λ r. ⌜ r ≡ record { refusal = refusal; bytes = zeros 8 } ⌝ }
+    {
+        Bytes8 {
+            refusal,
+            bytes: [0; 8],
+        }
+    }
+}
+
 #[repr(C)]
 pub struct Bytes10 {
     pub refusal: u32,
     pub bytes: [u8; 10],
+}
+
+impl Bytes10 {
+    pub fn refused(refusal: u32) -> Bytes10
+        ensures { λ r. ⌜ r ≡ record { refusal = refusal; bytes = zeros 10 } ⌝ }
+    {
+        Bytes10 {
+            refusal,
+            bytes: [0; 10],
+        }
+    }
 }
 
 #[repr(C)]
@@ -103,10 +126,32 @@ pub struct Bytes15 {
     pub bytes: [u8; 15],
 }
 
+impl Bytes15 {
+    pub fn refused(refusal: u32) -> Bytes15
+        ensures { λ r. ⌜ r ≡ record { refusal = refusal; bytes = zeros 15 } ⌝ }
+    {
+        Bytes15 {
+            refusal,
+            bytes: [0; 15],
+        }
+    }
+}
+
 #[repr(C)]
 pub struct Bytes16 {
     pub refusal: u32,
     pub bytes: [u8; 16],
+}
+
+impl Bytes16 {
+    pub fn refused(refusal: u32) -> Bytes16
+        ensures { λ r. ⌜ r ≡ record { refusal = refusal; bytes = zeros 16 } ⌝ }
+    {
+        Bytes16 {
+            refusal,
+            bytes: [0; 16],
+        }
+    }
 }
 
 // What TA12 and TA22 answer.
@@ -117,11 +162,34 @@ pub struct Authentication {
     pub key: [u8; 10],
 }
 
+impl Authentication {
+    pub fn refused(refusal: u32) -> Authentication
+        ensures { λ r. ⌜ r ≡ record { refusal = refusal; response = zeros 4; key = zeros 10 } ⌝ }
+    {
+        Authentication {
+            refusal,
+            response: [0; 4],
+            key: [0; 10],
+        }
+    }
+}
+
 // What TA61 and its inverse answer.
 #[repr(C)]
 pub struct Identity {
     pub refusal: u32,
     pub identity: u32,
+}
+
+impl Identity {
+    pub fn refused(refusal: u32) -> Identity
+        ensures { λ r. ⌜ r ≡ record { refusal = refusal; identity = 0 } ⌝ }
+    {
+        Identity {
+            refusal,
+            identity: 0,
+        }
+    }
 }
 
 // What TA32 answers.
@@ -156,6 +224,14 @@ pub struct Value {
     pub value: u32,
 }
 
+impl Value {
+    pub fn refused(refusal: u32) -> Value
+        ensures { λ r. ⌜ r ≡ record { refusal = refusal; value = 0 } ⌝ }
+    {
+        Value { refusal, value: 0 }
+    }
+}
+
 // What the inverse of TB5 answers.
 #[repr(C)]
 pub struct Cell {
@@ -163,6 +239,19 @@ pub struct Cell {
     pub location_area: u32,
     pub carrier: u32,
     pub colour_code: u32,
+}
+
+impl Cell {
+    pub fn refused(refusal: u32) -> Cell
+        ensures { λ r. ⌜ r ≡ record { refusal = refusal; «location_area» = 0; carrier = 0; «colour_code» = 0 } ⌝ }
+    {
+        Cell {
+            refusal,
+            location_area: 0,
+            carrier: 0,
+            colour_code: 0,
+        }
+    }
 }
 
 // What the inverse of TB6 answers.
@@ -173,12 +262,36 @@ pub struct CarrierIdentity {
     pub identity: u32,
 }
 
+impl CarrierIdentity {
+    pub fn refused(refusal: u32) -> CarrierIdentity
+        ensures { λ r. ⌜ r ≡ record { refusal = refusal; carrier = 0; identity = 0 } ⌝ }
+    {
+        CarrierIdentity {
+            refusal,
+            carrier: 0,
+            identity: 0,
+        }
+    }
+}
+
 // What the restoring of a card answers: the group key, and the card in its TB7 form.
 #[repr(C)]
 pub struct Card {
     pub refusal: u32,
     pub key: [u8; 12],
     pub card: [u8; 16],
+}
+
+impl Card {
+    pub fn refused(refusal: u32) -> Card
+        ensures { λ r. ⌜ r ≡ record { refusal = refusal; key = zeros 12; card = zeros 16 } ⌝ }
+    {
+        Card {
+            refusal,
+            key: [0; 12],
+            card: [0; 16],
+        }
+    }
 }
 
 // What the ring recipe takes.
@@ -204,12 +317,37 @@ pub struct RingMade {
     pub response2: [u8; 4],
 }
 
+impl RingMade {
+    pub fn refused(refusal: u32) -> RingMade
+        ensures { λ r. ⌜ r ≡ record { refusal = refusal; ring = zeros ringSize; response1 = zeros 4; response2 = zeros 4 } ⌝ }
+    {
+        RingMade {
+            refusal,
+            ring: [0; RING],
+            response1: [0; 4],
+            response2: [0; 4],
+        }
+    }
+}
+
 // What a book call answers: a refused book has the offending record's index, and nothing written; an accepted one the number of records.
 #[repr(C)]
 pub struct BookAnswer {
     pub refusal: u32,
     pub index: usize,
     pub written: usize,
+}
+
+impl BookAnswer {
+    pub fn refused(refusal: u32, index: usize) -> BookAnswer
+        ensures { λ r. ⌜ r ≡ refused refusal index ⌝ }
+    {
+        BookAnswer {
+            refusal,
+            index,
+            written: 0,
+        }
+    }
 }
 
 // What sealing and opening a book answer: also how many block cipher runs they took.
@@ -219,6 +357,19 @@ pub struct CountedAnswer {
     pub index: usize,
     pub written: usize,
     pub runs: usize,
+}
+
+impl CountedAnswer {
+    pub fn refused(refusal: u32, index: usize, runs: usize) -> CountedAnswer
+        ensures { λ r. ⌜ r ≡ record { refusal = refusal; index = index; written = 0; runs = runs } ⌝ }
+    {
+        CountedAnswer {
+            refusal,
+            index,
+            written: 0,
+            runs,
+        }
+    }
 }
 
 // What the diffusion tally answers: the flips tried, the total of changed bits, the least and the greatest change of one flip.
@@ -236,6 +387,17 @@ pub struct Tally {
 pub struct TextAnswer {
     pub refusal: u32,
     pub written: usize,
+}
+
+impl TextAnswer {
+    pub fn refused(refusal: u32) -> TextAnswer
+        ensures { λ r. ⌜ r ≡ record { refusal = refusal; written = 0 } ⌝ }
+    {
+        TextAnswer {
+            refusal,
+            written: 0,
+        }
+    }
 }
 
 // The algorithms that seal a key, each with its inverse.
@@ -325,36 +487,6 @@ fn known(algorithm: Algorithm, under: RingKey) -> Named
     ensures { λ r. ⌜ r ≡ kind algorithm under ⌝ }
 {
     Named::Known(Kind { algorithm, under })
-}
-
-// What a refused call answers.
-pub fn refused10(refusal: u32) -> Bytes10
-    ensures { λ r. ⌜ r ≡ record { refusal = refusal; bytes = zeros 10 } ⌝ }
-{
-    Bytes10 {
-        refusal,
-        bytes: [0; 10],
-    }
-}
-
-pub fn refused16(refusal: u32) -> Bytes16
-    ensures { λ r. ⌜ r ≡ record { refusal = refusal; bytes = zeros 16 } ⌝ }
-{
-    Bytes16 {
-        refusal,
-        bytes: [0; 16],
-    }
-}
-
-pub fn refused_ring(refusal: u32) -> RingMade
-    ensures { λ r. ⌜ r ≡ record { refusal = refusal; ring = zeros ringSize; response1 = zeros 4; response2 = zeros 4 } ⌝ }
-{
-    RingMade {
-        refusal,
-        ring: [0; RING],
-        response1: [0; 4],
-        response2: [0; 4],
-    }
 }
 
 // The number that two bytes spell, the high one first.

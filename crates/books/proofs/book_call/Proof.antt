@@ -16,7 +16,7 @@ use Rattle.books.proofs.book_call.Tie as tie
 returns : tie.Need-returns
 returns c =
     let x = c .before .before .before .before .before .args in
-    rw (c .refused-after .ensures) (ring-refused (now (x .ring)) (x .direction) (now (x .book)) (now (x .out)) (c .before .if1 .taken))
+    rw (c .refused .ensures) (ring-refused (now (x .ring)) (x .direction) (now (x .book)) (now (x .out)) (c .before .if1 .taken))
 
 returns-2 : tie.Need-returns-2
 returns-2 c =
@@ -24,7 +24,7 @@ returns-2 c =
     let size = lens .before .before in
     let x = size .before .before .before .before .before .args in
     let e = rw (size .size .ensures, lens .before .output-size .ensures) at (lens .lengths-and-output .ensures) in
-    rw (c .refused-after2 .ensures)
+    rw (c .refused2 .ensures)
     (lengths-refused (now (x .ring)) (x .direction) (now (x .book)) (now (x .out)) (size .before .if1 .left) _ e (c .before .if2 .taken))
 
 div-n : tie.Need-div-n
@@ -49,7 +49,7 @@ returns-3 c =
     let e = rw (size .size .ensures, lens .before .output-size .ensures) at (lens .lengths-and-output .ensures) in
     let keys = ring .ring-bytes .ensures ∙ spelled ringSize (now (x .ring)) h in
     let stopped = rw (keys, size .size .ensures) at (found .scan .ensures) in
-    rw (c .refused-after3 .ensures)
+    rw (c .refused3 .ensures)
     (record-refused (now (x .ring)) (x .direction) (now (x .book)) (now (x .out)) h _ e (ring .before .if2 .left) _ _ _
     (stopped .0) (stopped .1) (c .before .if3 .taken))
 

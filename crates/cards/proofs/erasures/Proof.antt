@@ -25,5 +25,7 @@ erasures-spec =
     (λ c. omega (arith, c .erased3 .ensures .1, c .before .erased2 .ensures .1, c .before .before .erased .ensures .1))
     (λ c. search needs)
     (λ c κs. search needs)
-    (λ c. omega (arith, c .erased4 .ensures .1, c .before .erased3 .ensures .1, c .before .before .erased2 .ensures .1, c .before .before .before .erased .ensures .1))
+    (λ c.
+    let first = c .before .before in
+    omega (arith, c .erased4 .ensures .1, c .before .erased3 .ensures .1, first .erased2 .ensures .1, first .before .erased .ensures .1))
     returns)

@@ -1,5 +1,5 @@
 use mathlib.Core.Path.{_≡_, refl, _∙_}
-use Prim.Native.Nat.{_*_, _/_, _-_, _≤_, zero-le}
+use Prim.Native.Nat.{ℕ, _*_, _/_, _-_, _≤_, zero-le}
 use native.Mathlib.Omega.{arith}
 use lib.ListN.{length, take, length-set}
 use borrow.Author.Needs.{needs}
@@ -19,10 +19,12 @@ abbrev μ-loop : tie.MeasureT-loop
 loop-again : tie.Need-loop-again Inv-loop μ-loop
 loop-again c =
     let at = c .before .before .before .loop in
-    let x = c .before .before .before .before .args in (
+    let x = c .before .before .before .before .args in
+    let read : ℕ → ℕ = λ j. choose (unreadableOf (x .unreadable) j) 0 (x .t1 ! j) in
+    let byte = picked (x .unreadable) (at .i) (c .before .erased .ensures .0) _ _ (c .pick .ensures) in (
       omega arith,
       length-set (at .out) _ _ ∙ at .inv .1,
-      fill-next (at .out) (λ j. choose (unreadableOf (x .unreadable) j) 0 (x .t1 ! j)) (at .i) _ (omega arith) (picked (x .unreadable) (at .i) (c .before .erased .ensures .0) _ _ (c .pick .ensures)) (at .inv .2),
+      fill-next (at .out) read (at .i) _ (omega arith) byte (at .inv .2),
     )
 
 returns : tie.Need-returns Inv-loop μ-loop

@@ -10,13 +10,13 @@ use Rattle.cards.proofs.restore_card.Tie as tie
 
 returns : tie.Need-returns
 unfolding restoreCall
-returns c = rw (c .refused-card .ensures, ne-eqb _ _ (c .before .if1 .taken))
+returns c = rw (c .refused .ensures, ne-eqb _ _ (c .before .if1 .taken))
 
 returns-2 : tie.Need-returns-2
 unfolding restoreCall
 returns-2 c =
     let tested = c .before .before in
-    rw (c .refused-card2 .ensures, eq-eqb _ _ (tested .before .if1 .left), failed (tested .at-most-one .ensures) (c .before .if2 .taken))
+    rw (c .refused2 .ensures, eq-eqb _ _ (tested .before .if1 .left), failed (tested .at-most-one .ensures) (c .before .if2 .taken))
 
 returns-3 : tie.Need-returns-3
 unfolding restoreCall
@@ -29,7 +29,7 @@ returns-3 c =
     let h : length (now (x .card)) ≡ 16 = fewest .before .if1 .left in
     let r = rw (card .array16 .ensures, spelled 16 (now (x .card)) h) at (read .readable .ensures) in
     let t = failed (agreed .agree .ensures) (c .before .if3 .taken) in
-    rw (c .refused-card3 .ensures, eq-eqb _ _ h, passed (fewest .at-most-one .ensures) (card .before .if2 .left), rw r at t)
+    rw (c .refused3 .ensures, eq-eqb _ _ h, passed (fewest .at-most-one .ensures) (card .before .if2 .left), rw r at t)
 
 returns-4 : tie.Need-returns-4
 unfolding restoreCall

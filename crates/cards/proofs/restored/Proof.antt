@@ -1,5 +1,5 @@
 use mathlib.Core.Path.{_≡_, refl, _∙_}
-use Prim.Native.Nat.{_*_, _/_, _-_, _≤_, zero-le}
+use Prim.Native.Nat.{ℕ, _*_, _/_, _-_, _≤_, zero-le}
 use native.Mathlib.Omega.{arith}
 use lib.ListN.{length, take, length-set}
 use borrow.Author.Needs.{needs}
@@ -33,7 +33,8 @@ unfolding restoredOf
 returns c =
     let at = c .before .loop in
     let x = c .before .before .args in
-    filled (at .out) (λ j. choose (unreadableOf (x .unreadable) j) (groupParity (x .t1) (4 * (j / 4))) (x .t1 ! j)) 16 (at .i) (at .inv .1) (omega arith) (at .inv .2)
+    let byte : ℕ → ℕ = λ j. choose (unreadableOf (x .unreadable) j) (groupParity (x .t1) (4 * (j / 4))) (x .t1 ! j) in
+    filled (at .out) byte 16 (at .i) (at .inv .1) (omega arith) (at .inv .2)
 
 pub restored-spec : {M : Type 1} → statement M
 restored-spec =

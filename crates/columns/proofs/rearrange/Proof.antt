@@ -14,14 +14,18 @@ returns : tie.Need-returns
 returns c =
     let lens = c .before .before in
     let x = lens .before .before .before .args in
+    let order = choose (x .back) fromColumns toColumns in
     rw (c .refused .ensures)
-    (lengths-refused (x .size) (choose (x .back) fromColumns toColumns) (now (x .book)) (now (x .out)) _ (lens .lengths-and-output .ensures) (c .before .if1 .taken))
+    (lengths-refused (x .size) order (now (x .book)) (now (x .out)) _ (lens .lengths-and-output .ensures) (c .before .if1 .taken))
 
 file-requires : tie.Need-file-requires
 file-requires c κs =
     let lens = c .before .before in
     let x = lens .before .before .before .args in
-    (records-within (x .size) (length (now (x .book))), room (x .size) (choose (x .back) fromColumns toColumns) (now (x .book)) (now (x .out)) _ (lens .lengths-and-output .ensures) (c .before .if1 .left))
+    let order = choose (x .back) fromColumns toColumns in (
+      records-within (x .size) (length (now (x .book))),
+      room (x .size) order (now (x .book)) (now (x .out)) _ (lens .lengths-and-output .ensures) (c .before .if1 .left),
+    )
 
 mul-t9 : tie.Need-mul-t9
 mul-t9 c =
@@ -30,9 +34,12 @@ mul-t9 c =
 
 returns-2 : tie.Need-returns-2
 returns-2 c =
-    let lens = c .before .before .before .before .before in
+    let file = c .before .before in
+    let tested = file .before .before in
+    let lens = tested .before in
     let x = lens .before .before .before .args in
-    all-written (x .size) (choose (x .back) fromColumns toColumns) (now (x .book)) (now (x .out)) _ (lens .lengths-and-output .ensures) (c .before .before .before .before .if1 .left) _ (c .before .before .file .ensures)
+    let order = choose (x .back) fromColumns toColumns in
+    all-written (x .size) order (now (x .book)) (now (x .out)) _ (lens .lengths-and-output .ensures) (tested .if1 .left) _ (file .file .ensures)
 
 pub rearrange-spec : {M : Type 1} → statement M
 rearrange-spec =

@@ -7,7 +7,7 @@ use Rattle.hurdle.proofs.crypted.Tie as tie
 
 returns : tie.Need-returns
 unfolding cryptCall
-returns c = rw (c .refused8 .ensures, failed (c .before .before .have-lengths .ensures) (c .before .if1 .taken))
+returns c = rw (c .refused .ensures, failed (c .before .before .have-lengths .ensures) (c .before .if1 .taken))
 
 returns-2 : tie.Need-returns-2
 unfolding cryptCall

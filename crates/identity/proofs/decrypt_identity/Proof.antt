@@ -8,7 +8,9 @@ unfolding decryptIdentity
 returns c =
     let second = c .before .before in
     let first = second .before .before .before in
-    rw (c .xor33 .ensures, c .before .k1 .ensures, second .permuted-back2 .ensures, second .before .xor32 .ensures, second .before .before .k2 .ensures, first .permuted-back .ensures, first .before .xor3 .ensures, first .before .before .k3 .ensures)
+    rw (c .xor33 .ensures, c .before .k1 .ensures)
+    (rw (second .permuted-back2 .ensures, second .before .xor32 .ensures, second .before .before .k2 .ensures)
+    (rw (first .permuted-back .ensures, first .before .xor3 .ensures, first .before .before .k3 .ensures)))
 
 pub decrypt-identity-spec : {M : Type 1} → statement M
 decrypt-identity-spec =

@@ -8,7 +8,9 @@ unfolding encryptIdentity
 returns c =
     let second = c .before .before in
     let first = second .before .before .before in
-    rw (c .xor33 .ensures, c .before .k3 .ensures, second .permuted2 .ensures, second .before .xor32 .ensures, second .before .before .k2 .ensures, first .permuted .ensures, first .before .xor3 .ensures, first .before .before .k1 .ensures)
+    rw (c .xor33 .ensures, c .before .k3 .ensures)
+    (rw (second .permuted2 .ensures, second .before .xor32 .ensures, second .before .before .k2 .ensures)
+    (rw (first .permuted .ensures, first .before .xor3 .ensures, first .before .before .k1 .ensures)))
 
 pub encrypt-identity-spec : {M : Type 1} → statement M
 encrypt-identity-spec =

@@ -5,7 +5,8 @@ use Rattle.identity.proofs.mix.Tie as tie
 
 returns : tie.Need-returns
 returns c =
-    rw (c .difference .ensures, c .before .wrapping-add-u83 .ensures, c .before .before .wrapping-add-u82 .ensures, c .before .before .before .wrapping-add-u8 .ensures)
+    let first = c .before .before .before in
+    rw (c .difference .ensures, c .before .wrapping-add-u83 .ensures, c .before .before .wrapping-add-u82 .ensures, first .wrapping-add-u8 .ensures)
     (mix-wraps _ _ _ (search needs))
 
 pub mix-spec : {M : Type 1} → statement M

@@ -8,11 +8,11 @@ use Rattle.identity.proofs.ta61.Tie as tie
 
 returns : tie.Need-returns
 unfolding ta61Call
-returns c = rw (c .refused-identity .ensures, ne-eqb _ _ (c .before .if1 .taken))
+returns c = rw (c .refused .ensures, ne-eqb _ _ (c .before .if1 .taken))
 
 returns-2 : tie.Need-returns-2
 unfolding ta61Call
-returns-2 c = rw (c .refused-identity2 .ensures, eq-eqb _ _ (c .before .before .if1 .left), le-ltb _ _ (c .before .if2 .taken))
+returns-2 c = rw (c .refused2 .ensures, eq-eqb _ _ (c .before .before .if1 .left), le-ltb _ _ (c .before .if2 .taken))
 
 returns-3 : tie.Need-returns-3
 unfolding ta61Call
@@ -20,7 +20,9 @@ returns-3 c =
     let made = c .before .before .before .before in
     let tested = made .before .before in
     let long = tested .before .if1 .left in
-    rw (c .number3 .ensures, c .before .encrypt-identity .ensures, c .before .before .bytes3 .ensures, made .bc .ensures, made .before .array10 .ensures, spelled 10 (now (tested .before .before .before .args .common-key)) long, eq-eqb _ _ long, lt-ltb _ _ (tested .if2 .left))
+    let key = spelled 10 (now (tested .before .before .before .args .common-key)) long in
+    rw (c .number3 .ensures, c .before .encrypt-identity .ensures, c .before .before .bytes3 .ensures, made .bc .ensures, made .before .array10 .ensures)
+    (rw (key, eq-eqb _ _ long, lt-ltb _ _ (tested .if2 .left)))
 
 pub ta61-spec : {M : Type 1} → statement M
 ta61-spec =

@@ -4,7 +4,7 @@ use Rattle.inverses.proofs.confirmed.Statement.{statement}
 use Rattle.inverses.proofs.confirmed.Tie as tie
 
 returns : tie.Need-returns
-returns c = rw (c .refused-value .ensures, failed (c .before .before .same .ensures) (c .before .if1 .taken))
+returns c = rw (c .refused .ensures, failed (c .before .before .same .ensures) (c .before .if1 .taken))
 
 returns-2 : tie.Need-returns-2
 returns-2 c = rw (passed (c .before .same .ensures) (c .if1 .left))

@@ -15,12 +15,12 @@ use Rattle.inverses.proofs.tb1_inverse.Tie as tie
 
 returns : tie.Need-returns
 unfolding tb1⁻¹Call
-returns c = rw (c .refused-value .ensures, ne-eqb _ _ (c .before .if1 .taken))
+returns c = rw (c .refused .ensures, ne-eqb _ _ (c .before .if1 .taken))
 
 returns-2 : tie.Need-returns-2
 unfolding tb1⁻¹Call
 returns-2 c =
-    rw (c .refused-value2 .ensures, eq-eqb _ _ (c .before .before .before .if1 .left), failed (c .before .before .wide .ensures) (c .before .if2 .taken))
+    rw (c .refused2 .ensures, eq-eqb _ _ (c .before .before .before .if1 .left), failed (c .before .before .wide .ensures) (c .before .if2 .taken))
 
 field-requires : tie.Need-field-requires
 field-requires c κs =

@@ -14,14 +14,14 @@ use Rattle.inverses.proofs.tb3_inverse.Tie as tie
 
 returns : tie.Need-returns
 unfolding tb3⁻¹Call
-returns c = rw (c .refused-value .ensures, failed (c .before .before .have-lengths .ensures) (c .before .if1 .taken))
+returns c = rw (c .refused .ensures, failed (c .before .before .have-lengths .ensures) (c .before .if1 .taken))
 
 returns-2 : tie.Need-returns-2
 unfolding tb3⁻¹Call
 returns-2 c =
     let tested = c .before .before .before in
     rw (
-      c .refused-value2 .ensures,
+      c .refused2 .ensures,
       passed (tested .before .have-lengths .ensures) (tested .if1 .left),
       failed (c .before .before .wide .ensures) (c .before .if2 .taken),
     )

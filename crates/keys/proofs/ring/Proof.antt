@@ -14,7 +14,7 @@ returns c =
     let x = c .before .before .before .before .before .before .before .before .before .args in
     let t : haveLengths (now (x .root)) (now (x .rs)) (now (x .rso)) (now (x .rand1)) (now (x .rand2)) (now (x .c)) (now (x .group-key)) ≡ false =
     not-true _ (c .before .if1 .taken) in
-    rw (c .refused-ring .ensures, t)
+    rw (c .refused .ensures, t)
 
 returns-2 : tie.Need-returns-2
 returns-2 c =

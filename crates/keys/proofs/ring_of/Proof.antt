@@ -14,7 +14,7 @@ unfolding ringOf
 returns c =
     let x = c .before .before .before .before .args .x in
     let t : leb 1 (x .sides) && leb (x .sides) 3 ≡ false = not-true _ (c .before .if1 .taken) in
-    rw (c .refused-ring .ensures, t)
+    rw (c .refused .ensures, t)
 
 returns-2 : tie.Need-returns-2
 unfolding ringOf
@@ -22,7 +22,7 @@ returns-2 c =
     let masked = c .before .before in
     let x = masked .before .before .before .before .args .x in
     let t : leb 1 (x .sides) && leb (x .sides) 3 ≡ true = not-false _ (masked .before .if1 .left) in
-    rw (c .refused-ring2 .ensures, t, ← masked .mask-refusal .ensures, ne-eqb _ _ (c .before .if2 .taken))
+    rw (c .refused2 .ensures, t, ← masked .mask-refusal .ensures, ne-eqb _ _ (c .before .if2 .taken))
 
 make-requires : tie.Need-make-requires
 make-requires c κs = masks-ones _ _ (sym (c .before .mask-refusal .ensures) ∙ c .if2 .left)

@@ -8,13 +8,13 @@ use Rattle.keys.proofs.ta101.Tie as tie
 
 returns : tie.Need-returns
 unfolding ta101Call
-returns c = rw (c .refused16 .ensures, failed (c .before .before .have-lengths .ensures) (c .before .if1 .taken))
+returns c = rw (c .refused .ensures, failed (c .before .before .have-lengths .ensures) (c .before .if1 .taken))
 
 returns-2 : tie.Need-returns-2
 unfolding ta101Call
 returns-2 c =
     let tested = c .before .before in
-    rw (c .refused162 .ensures, passed (tested .before .have-lengths .ensures) (tested .if1 .left), le-ltb _ _ (c .before .if2 .taken))
+    rw (c .refused2 .ensures, passed (tested .before .have-lengths .ensures) (tested .if1 .left), le-ltb _ _ (c .before .if2 .taken))
 
 returns-3 : tie.Need-returns-3
 unfolding ta101Call

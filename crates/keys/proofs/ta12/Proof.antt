@@ -12,14 +12,14 @@ use Rattle.keys.proofs.ta12.Tie as tie
 
 returns : tie.Need-returns
 unfolding ta12Call
-returns c = rw (c .refused-split .ensures, failed (c .before .before .have-lengths .ensures) (c .before .if1 .taken))
+returns c = rw (c .refused .ensures, failed (c .before .before .have-lengths .ensures) (c .before .if1 .taken))
 
 returns-2 : tie.Need-returns-2
 unfolding ta12Call
 returns-2 c =
     let masked = c .before .before in
     let t = passed (masked .before .before .have-lengths .ensures) (masked .before .if1 .left) in
-    rw (c .refused-split2 .ensures, t, ← masked .mask-refusal .ensures, ne-eqb _ _ (c .before .if2 .taken))
+    rw (c .refused2 .ensures, t, ← masked .mask-refusal .ensures, ne-eqb _ _ (c .before .if2 .taken))
 
 returns-3 : tie.Need-returns-3
 unfolding ta12Call

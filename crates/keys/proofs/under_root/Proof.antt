@@ -12,7 +12,7 @@ returns : tie.Need-returns
 returns c =
     let t : hasLength 16 (now (c .before .before .before .args .root)) && c .before .before .before .args .seed-has-length ≡ false =
     not-true _ (c .before .if1 .taken) in
-    rw (c .refused16 .ensures, t)
+    rw (c .refused .ensures, t)
 
 returns-2 : tie.Need-returns-2
 returns-2 c =

@@ -9,7 +9,7 @@ use Rattle.mixing.proofs.tb1.Tie as tie
 
 returns : tie.Need-returns
 unfolding tb1Call
-returns c = rw (c .refused16 .ensures, failed (c .before .before .wide .ensures) (c .before .if1 .taken))
+returns c = rw (c .refused .ensures, failed (c .before .before .wide .ensures) (c .before .if1 .taken))
 
 fits-in-requires : tie.Need-fits-in-requires
 fits-in-requires c κs =
@@ -20,7 +20,7 @@ returns-2 : tie.Need-returns-2
 unfolding tb1Call
 returns-2 c =
     let x = c .before .before .before in
-    rw (c .refused162 .ensures, passed (x .before .wide .ensures) (x .if1 .left), failed (c .before .before .fits-in .ensures) (c .before .if2 .taken))
+    rw (c .refused2 .ensures, passed (x .before .wide .ensures) (x .if1 .left), failed (c .before .before .fits-in .ensures) (c .before .if2 .taken))
 
 tb1-of-requires : tie.Need-tb1-of-requires
 tb1-of-requires c κs =

@@ -9,12 +9,12 @@ use Rattle.mixing.proofs.tb3.Tie as tie
 
 returns : tie.Need-returns
 unfolding tb3Call
-returns c = rw (c .refused16 .ensures, ne-eqb _ _ (c .before .if1 .taken))
+returns c = rw (c .refused .ensures, ne-eqb _ _ (c .before .if1 .taken))
 
 returns-2 : tie.Need-returns-2
 unfolding tb3Call
 returns-2 c =
-    rw (c .refused162 .ensures, eq-eqb _ _ (c .before .before .before .if1 .left), failed (c .before .before .wide .ensures) (c .before .if2 .taken))
+    rw (c .refused2 .ensures, eq-eqb _ _ (c .before .before .before .if1 .left), failed (c .before .before .wide .ensures) (c .before .if2 .taken))
 
 fits-in-requires : tie.Need-fits-in-requires
 fits-in-requires c κs =
@@ -25,7 +25,7 @@ returns-3 : tie.Need-returns-3
 unfolding tb3Call
 returns-3 c =
     let x = c .before .before .before in
-    rw (c .refused163 .ensures, eq-eqb _ _ (x .before .before .if1 .left), passed (x .before .wide .ensures) (x .if2 .left), failed (c .before .before .fits-in .ensures) (c .before .if3 .taken))
+    rw (c .refused3 .ensures, eq-eqb _ _ (x .before .before .if1 .left), passed (x .before .wide .ensures) (x .if2 .left), failed (c .before .before .fits-in .ensures) (c .before .if3 .taken))
 
 tb1-of-requires : tie.Need-tb1-of-requires
 tb1-of-requires c κs =

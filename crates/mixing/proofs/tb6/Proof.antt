@@ -9,14 +9,14 @@ use Rattle.mixing.proofs.tb6.Tie as tie
 
 returns : tie.Need-returns
 unfolding tb6Call
-returns c = rw (c .refused10 .ensures, ne-eqb _ _ (c .before .if1 .taken))
+returns c = rw (c .refused .ensures, ne-eqb _ _ (c .before .if1 .taken))
 
 returns-2 : tie.Need-returns-2
 unfolding tb6Call
 returns-2 c =
     let x = c .before .before in
     let e = ap₂ _&&_ (x .before .fits-in .ensures) (x .fits-in2 .ensures) in
-    rw (c .refused102 .ensures, eq-eqb _ _ (x .before .before .if1 .left), failed e (c .before .if2 .taken))
+    rw (c .refused2 .ensures, eq-eqb _ _ (x .before .before .if1 .left), failed e (c .before .if2 .taken))
 
 tb6-of-requires : tie.Need-tb6-of-requires
 tb6-of-requires c κs =

@@ -14,7 +14,9 @@ returns : tie.Need-returns
 returns c =
     let number = c .before .before in
     let hex = number .before .before .before in
-    rw (c .word3 .ensures, number .number .ensures, number .before .word2 .ensures, hex .hex .ensures, hex .before .before .word .ensures, hex .before .before .before .before .key-length .ensures)
+    let word = hex .before .before in
+    rw (c .word3 .ensures, number .number .ensures, number .before .word2 .ensures)
+    (rw (hex .hex .ensures, word .word .ensures, word .before .before .key-length .ensures))
 
 pub back-spec : {M : Type 1} → statement M
 back-spec =

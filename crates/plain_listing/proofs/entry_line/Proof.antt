@@ -20,8 +20,10 @@ returns c =
     let p : List ℕ = now (x .args .p) in
     let k = keyLength (recordKind p .algorithm) in
     let e = c .before .kind-of .ensures in
+    let identity = part-lent 1 3 p (omega (arith, x .pre)) in
+    let key = part-lent 6 k p (omega (arith, x .pre, key-short (recordKind p .algorithm))) in
     uncut (entryLine (x .args .index) p) {l = c .back .result}
-    (simp append (rw (← part-lent 1 3 p (omega (arith, x .pre)), ← part-lent 6 k p (omega (arith, x .pre, key-short (recordKind p .algorithm))), ← add-sub-cancel-left 6 k, ← e, c .back .ensures, c .before .before .before .front .ensures)))
+    (simp append (rw (← identity, ← key, ← add-sub-cancel-left 6 k, ← e, c .back .ensures, c .before .before .before .front .ensures)))
     (entry-short (x .args .index) p)
 
 pub entry-line-spec : {M : Type 1} → statement M

@@ -8,7 +8,10 @@ returns c =
     let kind = hex .before .before .before .before in
     let index = kind .before .before .before in
     let empty = index .before .before .before in
-    rw (c .decimal3 .ensures, c .before .word4 .ensures, hex .hex .ensures, hex .before .before .word3 .ensures, kind .decimal2 .ensures, kind .before .word2 .ensures, index .decimal .ensures, index .before .word .ensures, empty .empty .ensures, empty .before .pair .ensures, empty .before .before .before .before .wide .ensures)
+    let version = empty .before in
+    rw (c .decimal3 .ensures, c .before .word4 .ensures, hex .hex .ensures, hex .before .before .word3 .ensures)
+    (rw (kind .decimal2 .ensures, kind .before .word2 .ensures, index .decimal .ensures, index .before .word .ensures)
+    (rw (empty .empty .ensures, version .pair .ensures, version .before .before .before .wide .ensures)))
 
 pub front-spec : {M : Type 1} → statement M
 front-spec =

@@ -7,7 +7,7 @@ use Rattle.printed_tables.proofs.print_tables.Statement.{statement}
 use Rattle.printed_tables.proofs.print_tables.Tie as tie
 
 returns : tie.Need-returns
-returns c = short (now (c .before .before .args .out)) (c .if1 .taken)
+returns c = rw (c .refused .ensures) (short (now (c .before .before .before .args .out)) (c .before .if1 .taken))
 
 returns-2 : tie.Need-returns-2
 returns-2 c =
@@ -24,6 +24,7 @@ pub print-tables-spec : {M : Type 1} → statement M
 print-tables-spec =
     tie.close
     (tie.spec
+    (λ c κs. search needs)
     returns
     (λ c κs. search needs)
     (λ c κs. search needs)

@@ -2,18 +2,21 @@ use mathlib.Core.List.{List}
 use mathlib.Core.Path.{_≡_, ap, _∙_}
 use Prim.Native.Nat.{ℕ, _+_, _*_, _-_, _≤_, zero-le}
 use native.Mathlib.Omega.{arith}
-use lib.ListN.{length, take, drop, length-take, length-drop}
+use lib.ListN.{length, length-take, length-drop}
 use denote.Ref.{now}
 use borrow.Author.Needs.{needs}
 use Rattle.standard.proofs.BytesLaws.{lent-part}
-use Rattle.standard.proofs.TableLaws.{line-length, lines-length}
-use Rattle.standard.specs.Bytes.{part}
+use Rattle.standard.proofs.TableLaws.{line-length}
+use Rattle.standard.specs.Lists.{recordAt}
 use Rattle.standard.specs.Tables.{tableLine, tableLines}
-use Rattle.printed_tables.proofs.PrintLaws.{lines-none, lines-next}
-use Rattle.lines.proofs.LineLaws.{put-length, put-keeps}
-use Rattle.lines.specs.Lines.{shown, putCall}
+use Rattle.lines.proofs.LineLaws.{put-keeps, put-none, lines-next, lines-most}
+use Rattle.lines.specs.Lines.{putCall}
 use Rattle.printed_tables.proofs.table_lines.Statement.{statement}
 use Rattle.printed_tables.proofs.table_lines.Tie as tie
+
+-- line i of a table
+abbrev lineOf : List ℕ → ℕ → List ℕ
+lineOf t i = tableLine (recordAt 16 t i)
 
 abbrev Inv-loop : tie.InvT-loop
 Inv-loop t out₀ at₀ i₀ out at i = (i ≤ 16) × ((at, out) ≡ putCall 0 (tableLines i t) out₀)
@@ -22,24 +25,26 @@ abbrev μ-loop : tie.MeasureT-loop
 μ-loop t out₀ at₀ i₀ out at i = 16 - i
 
 loop-holds : tie.Need-loop-holds Inv-loop μ-loop
-loop-holds c =
-    let x = c .before .before .args in
-    (zero-le, lines-none (now (x .t)) (now (x .out)))
+unfolding tableLines
+loop-holds c = (zero-le, put-none (now (c .before .before .args .out)))
 
 table-line-requires : tie.Need-table-line-requires Inv-loop μ-loop
 table-line-requires c κs = simp (length-take, length-drop) (omega arith)
 
 add-at : tie.Need-add-at Inv-loop μ-loop
+unfolding tableLines
 add-at c =
     let put = c .before .before in
     let line = put .before .before .table-line in
     let at = put .before .before .before .before .before .loop in
     let x = put .before .before .before .before .before .before .before .before .args in
     let t : List ℕ = now (x .t) in
-    let rec : List ℕ = take (16 * at .i + 16 - 16 * at .i) (drop (16 * at .i) t) in
-    omega (arith, put-length 0 (tableLines (at .i) t) (now (x .out)) (at .inv .1), lines-length (at .i) t, put-length (at .at) (shown (line .result)) (at .out) (put .put .ensures), ap length (line .ensures), line-length rec)
+    let made = line .ensures ∙ ap tableLine (lent-part (16 * at .i) 16 t (omega arith)) in
+    let short : (i : ℕ) → length (lineOf t i) ≤ 160 = λ i. omega (arith, line-length (recordAt 16 t i)) in
+    omega (arith, lines-most (lineOf t) (at .i) (now (x .out)) made (at .inv .1) (put .put .ensures) short)
 
 loop-again : tie.Need-loop-again Inv-loop μ-loop
+unfolding tableLines
 loop-again c =
     let put = c .before .before in
     let line = put .before .before .table-line in
@@ -47,7 +52,7 @@ loop-again c =
     let x = put .before .before .before .before .before .before .before .before .args in
     let t : List ℕ = now (x .t) in
     let made = line .ensures ∙ ap tableLine (lent-part (16 * at .i) 16 t (omega arith)) in
-    (omega arith, lines-next (at .i) t (now (x .out)) made (at .inv .1) (put .put .ensures))
+    (omega arith, lines-next (lineOf t) (at .i) (now (x .out)) made (at .inv .1) (put .put .ensures))
 
 same-length : tie.Need-same-length Inv-loop μ-loop
 same-length c =

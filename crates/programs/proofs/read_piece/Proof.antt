@@ -23,8 +23,10 @@ returns c =
     let most = some .before .before in
     let x = most .before .before .before .args in
     let few : some .read-some .result .len ≤ length (take (most .least .result) (most .before .buffer .result)) = some .read-some .ensures .1 in
-    let fits : some .read-some .result .len ≤ length (now (x .buf)) = omega (arith, few, length-take (most .least .result) (most .before .buffer .result), most .least .ensures .0) in
-    copied (some .read-some .result) _ (now (x .buf)) _ (simp length-append (omega arith)) fits (omega arith) (copy .copy .ensures) (some .read-some .ensures .2)
+    let lent = length-take (most .least .result) (most .before .buffer .result) in
+    let fits : some .read-some .result .len ≤ length (now (x .buf)) = omega (arith, few, lent, most .least .ensures .0) in
+    copied (some .read-some .result) _ (now (x .buf)) _ (simp length-append (omega arith)) fits (omega arith)
+    (copy .copy .ensures) (some .read-some .ensures .2)
 
 pub read-piece-spec : {M : Type 1} → statement M
 read-piece-spec =

@@ -11,7 +11,7 @@ use Rattle.register.proofs.register.Tie as tie
 
 returns : tie.Need-returns
 unfolding registerCall
-returns c = rw (c .refused16 .ensures, ne-eqb _ _ (c .before .if1 .taken))
+returns c = rw (c .refused .ensures, ne-eqb _ _ (c .before .if1 .taken))
 
 returns-2 : tie.Need-returns-2
 unfolding registerCall

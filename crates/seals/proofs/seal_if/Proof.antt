@@ -4,7 +4,7 @@ use Rattle.seals.proofs.seal_if.Statement.{statement}
 use Rattle.seals.proofs.seal_if.Tie as tie
 
 returns : tie.Need-returns
-returns c = rw (c .refused15 .ensures, not-true (c .before .before .args .right-lengths) (c .before .if1 .taken))
+returns c = rw (c .refused .ensures, not-true (c .before .before .args .right-lengths) (c .before .if1 .taken))
 
 returns-2 : tie.Need-returns-2
 returns-2 c = rw (c .seal-body .ensures, not-false (c .before .before .args .right-lengths) (c .before .if1 .left))

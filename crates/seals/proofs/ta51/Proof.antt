@@ -7,13 +7,13 @@ use Rattle.seals.proofs.ta51.Tie as tie
 
 returns : tie.Need-returns
 unfolding ta51Call
-returns c = rw (c .refused15 .ensures, failed (c .before .before .have-lengths .ensures) (c .before .if1 .taken))
+returns c = rw (c .refused .ensures, failed (c .before .before .have-lengths .ensures) (c .before .if1 .taken))
 
 returns-2 : tie.Need-returns-2
 unfolding ta51Call
 returns-2 c =
     let tested = c .before .before .before in
-    rw (c .refused152 .ensures, passed (tested .before .have-lengths .ensures) (tested .if1 .left), lt-leb _ _ (c .before .if2 .taken))
+    rw (c .refused2 .ensures, passed (tested .before .have-lengths .ensures) (tested .if1 .left), lt-leb _ _ (c .before .if2 .taken))
 
 returns-3 : tie.Need-returns-3
 unfolding ta51Call seal key16

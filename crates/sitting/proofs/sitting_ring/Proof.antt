@@ -8,7 +8,7 @@ use Rattle.sitting.proofs.sitting_ring.Tie as tie
 
 returns : tie.Need-returns
 unfolding sittingRing
-returns c = rw (c .refused-ring .ensures, ne-eqb _ _ (c .before .if1 .taken))
+returns c = rw (c .refused .ensures, ne-eqb _ _ (c .before .if1 .taken))
 
 returns-2 : tie.Need-returns-2
 returns-2 c =

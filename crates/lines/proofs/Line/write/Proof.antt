@@ -8,8 +8,9 @@ use Rattle.lines.proofs.Line.write.Tie as tie
 
 returns : tie.Need-returns
 returns c =
-    let x = c .before .before .before .args in
-    write-short (shown (x .self)) (now (x .out)) (c .before .size .ensures) (c .if1 .taken)
+    let size = c .before .before in
+    let x = size .before .before .args in
+    rw (c .refused .ensures) (write-short (shown (x .self)) (now (x .out)) (size .size .ensures) (c .before .if1 .taken))
 
 returns-2 : tie.Need-returns-2
 returns-2 c =
@@ -20,4 +21,12 @@ returns-2 c =
     write-whole w (now (x .out)) length-put (omega (arith, length-put, put .before .before .if1 .left)) (put-over 0 w (now (x .out)) (put .put .ensures))
 
 pub write-spec : {M : Type 1} → statement M
-write-spec = tie.close (tie.spec (λ c κs. search needs) returns (λ c κs. search needs) (λ c. search needs) returns-2)
+write-spec =
+    tie.close
+    (tie.spec
+    (λ c κs. search needs)
+    (λ c κs. search needs)
+    returns
+    (λ c κs. search needs)
+    (λ c. search needs)
+    returns-2)

@@ -32,7 +32,8 @@ returns-7 : tie.Need-returns-7
 unfolding kindOf
 returns-7 c =
     let r = c .match .rest in
-    rw (ne-eqb _ _ (r .0 .0 .0 .0 .0 .1), ne-eqb _ _ (r .0 .0 .0 .0 .1), ne-eqb _ _ (r .0 .0 .0 .1), ne-eqb _ _ (r .0 .0 .1), ne-eqb _ _ (r .0 .1), ne-eqb _ _ (r .1))
+    let q = r .0 .0 .0 in
+    rw (ne-eqb _ _ (q .0 .0 .1), ne-eqb _ _ (q .0 .1), ne-eqb _ _ (q .1), ne-eqb _ _ (r .0 .0 .1), ne-eqb _ _ (r .0 .1), ne-eqb _ _ (r .1))
 
 pub from-byte-spec : {M : Type 1} → statement M
 from-byte-spec =
