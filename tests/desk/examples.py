@@ -1,7 +1,7 @@
-"""Runs the examples of docs/desk.md: each line `$ COMMAND`, and what it prints.
+"""Runs the examples of docs/desk.md and README.md: each line `$ COMMAND`, and what it prints.
 
     examples.py            compares; ends with 1 where one prints something else
-    examples.py --write    puts into the page what they print
+    examples.py --write    puts into the pages what they print
 """
 
 from __future__ import annotations
@@ -14,6 +14,7 @@ from pathlib import Path
 
 ROOT = Path(__file__).resolve().parents[2]
 PAGE = ROOT / "docs" / "desk.md"
+README = ROOT / "README.md"
 INDENT = "    "
 PROMPT = INDENT + "$ "
 
@@ -45,11 +46,15 @@ def played(text: str) -> str:
 
 def main() -> int:
     """Compares or writes."""
-    text = PAGE.read_text()
-    now = played(text)
-    if sys.argv[1:] == ["--write"]:
-        PAGE.write_text(now)
-    return int(now != text and sys.argv[1:] != ["--write"])
+    differs = False
+    for page in (PAGE, README):
+        text = page.read_text()
+        now = played(text)
+        if sys.argv[1:] == ["--write"]:
+            page.write_text(now)
+        else:
+            differs |= now != text
+    return int(differs)
 
 
 if __name__ == "__main__":

@@ -1,9 +1,11 @@
-"""The examples of docs/desk.md, and the sample class."""
+"""The examples of docs/desk.md and README.md, and the sample class."""
 
 from __future__ import annotations
 
+import os
 import shutil
 import subprocess
+import sys
 import unittest
 
 import examples
@@ -21,6 +23,24 @@ class Docs(unittest.TestCase):
         text = examples.PAGE.read_text()
         self.assertGreater(text.count(examples.PROMPT), 25)
         self.assertEqual(examples.played(text), text)
+
+    def test_readme(self) -> None:
+        """Its commands, and the lines of Python, whose comments are what they print."""
+        text = examples.README.read_text()
+        self.assertGreater(text.count(examples.PROMPT), 2)
+        if (ROOT / "target" / "bin" / "makering").exists():
+            self.assertEqual(examples.played(text), text)
+        start = text.index(f"{examples.INDENT}import taa1\n")
+        shown = text[start : text.index("\n\n", start)].splitlines()
+        self.assertEqual(len(shown), 6)
+        lines = [line[len(examples.INDENT) :] for line in shown]
+        done = subprocess.run(
+            [sys.executable, "-c", "\n".join(lines)], capture_output=True, text=True,
+            env={**os.environ, "PYTHONPATH": str(ROOT / "python")}, check=False,
+        )  # fmt: skip
+        wanted = [line.partition("  # ")[2] for line in lines if "  # " in line]
+        self.assertEqual((done.stdout.splitlines(), done.stderr), (wanted, ""))
+        self.assertEqual(len(wanted), 2)
 
     def test_commands(self) -> None:
         """The page has every command."""
