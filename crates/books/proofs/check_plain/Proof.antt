@@ -20,7 +20,8 @@ returns-3 : tie.Need-returns-3
 unfolding checkPlain
 returns-3 c =
     let found = c .before .before in
-    rw (← found .before .before .before .lengths .ensures) (answer-done _ _ _ _ (found .before .before .if1 .left) (found .scan .ensures .0 .none (c .if2 .left)))
+    rw (← found .before .before .before .lengths .ensures)
+    (answer-done _ _ _ _ (found .before .before .if1 .left) (found .scan .ensures .0 .none (c .if2 .left)))
 
 pub check-plain-spec : {M : Type 1} → statement M
 check-plain-spec =

@@ -36,7 +36,8 @@ add-write-at-3 c =
 
 write-at-requires-4 : tie.Need-write-at-requires-4
 write-at-requires-4 c κs =
-    let start = c .before .before .before .before .before .before .before .before .before .before .before .before .before .before .before .before .before .before .before in
+    let third = c .before .before .before .before .before .before .before .before .before in
+    let start = third .before .before .before .before .before .before .before .before .before .before in
     let x = start .args in
     let ends = both-ends (x .direction) (x .i + 3) (x .i + 4) _ _ (omega arith) (start .pre) in
     search (needs, ends .0, ends .1)

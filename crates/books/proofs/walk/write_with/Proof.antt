@@ -85,7 +85,7 @@ convert-one-requires c κs =
     let wrote = at .inv .1 (now (x .out)) (c .before .before .before .before .loop .inv .1) in
     let one : at .i < x .n = omega (arith, at .inv .0, c .before .loop2-test .taken) in
     let room = end-fits (outputSizeOf (x .direction)) (at .i) (x .n) _ one (start .pre .1) in
-    (end-fits (sizeOf (x .direction)) (at .i) (x .n) _ one (start .pre .0), omega (arith, room, wrote .kept))
+    (omega (arith, end-fits (sizeOf (x .direction)) (at .i) (x .n) _ one (start .pre .0)), omega (arith, room, wrote .kept))
 
 add-runs-2 : tie.Need-add-runs-2 Inv-loop μ-loop Inv-loop2 μ-loop2
 add-runs-2 c =
