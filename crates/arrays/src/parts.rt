@@ -47,14 +47,6 @@ pub fn part3(s: &[u8], from: usize) -> [u8; 3]
     a
 }
 
-pub fn part7(s: &[u8], from: usize) -> [u8; 7]
-    ensures { λ r. ⌜ r ≡ part from 7 (now (s .entry)) ⌝ }
-{
-    let mut a = [0u8; 7];
-    read(s, from, &mut a);
-    a
-}
-
 pub fn part8(s: &[u8], from: usize) -> [u8; 8]
     ensures { λ r. ⌜ r ≡ part from 8 (now (s .entry)) ⌝ }
 {
@@ -124,20 +116,4 @@ pub fn array16(s: &[u8]) -> [u8; 16]
     ensures { λ r. ⌜ r ≡ part 0 16 (now (s .entry)) ⌝ }
 {
     part16(s, 0)
-}
-
-pub fn array18(s: &[u8]) -> [u8; 18]
-    ensures { λ r. ⌜ r ≡ part 0 18 (now (s .entry)) ⌝ }
-{
-    let mut a = [0u8; 18];
-    copy(s, &mut a);
-    a
-}
-
-pub fn array21(s: &[u8]) -> [u8; 21]
-    ensures { λ r. ⌜ r ≡ part 0 21 (now (s .entry)) ⌝ }
-{
-    let mut a = [0u8; 21];
-    copy(s, &mut a);
-    a
 }

@@ -11,13 +11,7 @@ pub fn word(a: u8, b: u8, c: u8, d: u8) -> u32
     16777216 * (a as u32) + 65536 * (b as u32) + 256 * (c as u32) + (d as u32)
 }
 
-// A number's lowest bytes.
-pub fn bytes2(n: u16) -> [u8; 2]
-    ensures { λ r. ⌜ r ≡ bytesOf 2 n ⌝ }
-{
-    [(n / 256 % 256) as u8, (n % 256) as u8]
-}
-
+// A number's three lowest bytes.
 pub fn bytes3(n: u64) -> [u8; 3]
     ensures { λ r. ⌜ r ≡ bytesOf 3 n ⌝ }
 {

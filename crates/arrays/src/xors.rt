@@ -15,14 +15,6 @@ fn xor_into(a: &[u8], b: &[u8], out: &mut [u8])
     }
 }
 
-pub fn xor3(a: [u8; 3], b: [u8; 3]) -> [u8; 3]
-    ensures { λ r. ⌜ r ≡ xors 3 a b ⌝ }
-{
-    let mut out = [0u8; 3];
-    xor_into(&a, &b, &mut out);
-    out
-}
-
 pub fn xor8(a: [u8; 8], b: [u8; 8]) -> [u8; 8]
     ensures { λ r. ⌜ r ≡ xors 8 a b ⌝ }
 {

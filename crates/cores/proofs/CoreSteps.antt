@@ -15,7 +15,8 @@ unfolding bl1With
 bl1-steps keys x e f g h = rw (h, g, f, e)
 
 -- the right block, decrypted, and the left block mended by it, decrypted
-pub bl2-steps : (keys y : List ℕ) {y₁ r y₀ l : List ℕ} → y₁ ≡ part 8 8 y → r ≡ decryptWith keys y₁ → y₀ ≡ part 0 7 y ++ ((y ! 7 ⊕ r ! 7) ∷ []) → l ≡ decryptWith keys y₀
+pub bl2-steps : (keys y : List ℕ) {y₁ r y₀ l : List ℕ} → y₁ ≡ part 8 8 y → r ≡ decryptWith keys y₁ → y₀ ≡ part 0 7 y ++ ((y ! 7 ⊕ r ! 7) ∷ []) → l ≡
+    decryptWith keys y₀
     → part 0 8 l ++ xors 7 r (part 0 7 y) ≡ bl2With keys y
 unfolding bl2With
 bl2-steps keys y e f g h = rw (h, g, f, e)

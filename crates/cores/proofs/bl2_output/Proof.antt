@@ -3,7 +3,12 @@ use Rattle.cores.proofs.bl2_output.Statement.{statement}
 use Rattle.cores.proofs.bl2_output.Tie as tie
 
 returns : tie.Need-returns
-returns c = rw (c .array15 .ensures, c .before .before .join-8-8 .ensures, c .before .before .before .xor8 .ensures, c .before .before .before .before .left .ensures)
+returns c = rw (
+  c .array15 .ensures,
+  c .before .before .join-8-8 .ensures,
+  c .before .before .before .xor8 .ensures,
+  c .before .before .before .before .left .ensures,
+)
 
 pub bl2-output-spec : {M : Type 1} → statement M
 bl2-output-spec =

@@ -11,7 +11,8 @@ returns c =
     let second = c .before in
     let first = second .before .before in
     let x = first .before .before .args in
-    c .bl2-output .ensures ∙ ap counted15 (bl2-steps (now (x .keys)) (x .y) (first .before .right .ensures) (first .decrypt-with .ensures) (second .before .bl2-left-input .ensures) (second .decrypt-with2 .ensures))
+    c .bl2-output .ensures ∙ ap counted15 (bl2-steps (now (x .keys)) (x .y) (first .before .right .ensures) (first .decrypt-with .ensures)
+    (second .before .bl2-left-input .ensures) (second .decrypt-with2 .ensures))
 
 pub bl2-with-spec : {M : Type 1} → statement M
 bl2-with-spec =
