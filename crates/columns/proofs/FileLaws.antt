@@ -9,7 +9,7 @@ use lib.ListN.{length, take, drop}
 use borrow.Author.Tests.{leb-true}
 use Rattle.lists.proofs.ListReturnLaws.{call-refused, call-done}
 use Rattle.lists.proofs.WalkLaws.{ends, PrefixWritten, prefix-none, own-length, prefix-next}
-use Rattle.standard.proofs.ColumnsLaws.{column-long}
+use Rattle.standard.proofs.ColumnsLaws.{column-length}
 use Rattle.standard.proofs.FirstLaws.{all-pass}
 use Rattle.standard.specs.Columns.{column, columnsCall}
 use Rattle.standard.specs.Lists.{listTests, refused}
@@ -26,24 +26,24 @@ Filed n width rows out₀ j out = PrefixWritten n (column n width rows) out₀ j
 
 module _ (n width : ℕ) (rows out₀ : List ℕ) where
   pub filed-none : Filed n width rows out₀ 0 out₀
-  filed-none = prefix-none n (column n width rows) (column-long n width rows) out₀
+  filed-none = prefix-none n (column n width rows) (column-length n width rows) out₀
 
   module _ (j : ℕ) (out : List ℕ) (h : Filed n width rows out₀ j out) (room : n * j + n ≤ length out₀) where
     abbrev own : List ℕ
     own = take (n * j + n - n * j) (drop (n * j) out)
 
-    pub own-long : length own ≡ n
-    own-long = own-length n (column n width rows) (column-long n width rows) out₀ j out h room
+    pub own-rows : length own ≡ n
+    own-rows = own-length n (column n width rows) (column-length n width rows) out₀ j out h room
 
     -- the rows have a byte for each of the part's
     pub rows-enough : n * width ≤ length rows → width * length own ≤ length rows
-    rows-enough e = rw (own-long, mul-comm width n) e
+    rows-enough e = rw (own-rows, mul-comm width n) e
 
     pub filed-more : (exit : List ℕ) → exit ≡ column (length own) width rows j
         → Filed n width rows out₀ (j + 1) (take (n * j) out ++ (exit ++ drop (n * j + n - n * j) (drop (n * j) out)))
     filed-more exit e =
-        prefix-next n (column n width rows) (column-long n width rows) out₀ j out h room exit
-        (e ∙ ap (λ (k : ℕ). column k width rows j) own-long)
+        prefix-next n (column n width rows) (column-length n width rows) out₀ j out h room exit
+        (e ∙ ap (λ (k : ℕ). column k width rows j) own-rows)
 
 -- ---- the call
 

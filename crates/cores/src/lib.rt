@@ -139,7 +139,7 @@ pub struct CoreOutput15 {
 }
 
 // BL1's output: what its two cipher runs gave, one behind the other.
-pub fn joined(l: [u8; 8], r: [u8; 8]) -> CoreOutput16
+pub fn bl1_output(l: [u8; 8], r: [u8; 8]) -> CoreOutput16
     ensures { λ o. ⌜ o ≡ counted16 (part 0 8 l ++ part 0 8 r) ⌝ }
 {
     CoreOutput16 {
@@ -154,7 +154,7 @@ pub fn bl1_with(keys: &[u8; 192], x: [u8; 16]) -> CoreOutput16
 {
     let l = encrypt_with(keys, left(x));
     let r = encrypt_with(keys, bl1_right_input(x, l));
-    joined(l, r)
+    bl1_output(l, r)
 }
 
 pub fn bl1(key: [u8; 16], x: [u8; 16]) -> CoreOutput16

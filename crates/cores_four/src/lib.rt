@@ -4,7 +4,7 @@ use cores::CoreOutput16;
 use cores::bl1_right_input;
 use cores::bl2_left_input;
 use cores::bl2_output;
-use cores::joined;
+use cores::bl1_output;
 use cores::left;
 use cores::right;
 use hurdle::Blocks;
@@ -72,10 +72,10 @@ fn joins(l: Blocks, r: Blocks) -> [CoreOutput16; 4]
     let rc = r.c;
     let rd = r.d;
     [
-        joined(la, ra),
-        joined(lb, rb),
-        joined(lc, rc),
-        joined(ld, rd),
+        bl1_output(la, ra),
+        bl1_output(lb, rb),
+        bl1_output(lc, rc),
+        bl1_output(ld, rd),
     ]
 }
 

@@ -12,7 +12,7 @@ use Rattle.lists.proofs.WalkLaws.{PrefixWritten, prefix-at}
 use Rattle.lists.specs.Walks.{Clean, Stopped}
 use Rattle.standard.proofs.BytesLaws.{spelled, and-split}
 use Rattle.standard.proofs.FirstLaws.{all-pass}
-use Rattle.standard.proofs.LineageLaws.{from-same, value-long, parents-before, value-step}
+use Rattle.standard.proofs.LineageLaws.{from-same, value-length, parents-before, value-step}
 use Rattle.standard.specs.Bytes.{part}
 use Rattle.standard.specs.Derivation.{ta11, ta21, ta41, ta71}
 use Rattle.standard.specs.Lineage.{operation, parent1, parent2, derivedLength, keyLength, filled, parentTests, lineageFault}
@@ -113,8 +113,8 @@ module _ (s values : List ℕ) (i : ℕ) where
       from-same (recordAt sheetSize s i) _ _ _ _
       (λ z.
       let q = parents-before s i (clean i h) z in (
-        prefix-at valueSize (valueOf s) (value-long s) out₀ i values prefix _ (q .0),
-        prefix-at valueSize (valueOf s) (value-long s) out₀ i values prefix _ (q .1),
+        prefix-at valueSize (valueOf s) (value-length s) out₀ i values prefix _ (q .0),
+        prefix-at valueSize (valueOf s) (value-length s) out₀ i values prefix _ (q .1),
       ))
       ∙ sym (value-step s n clean i h)
 

@@ -17,7 +17,7 @@ use Rattle.standard.specs.Mixing.{tb7}
 use Rattle.standard.specs.Refusals.{wrongLength, groupUnreadable, groupDisagrees, hasLength, first}
 use Rattle.standard.proofs.BytesLaws.{table-at, table-same, spell, bytes-append, bytes-cons, bytes-nil, bytes-part, and-split, and-join}
 use Rattle.standard.proofs.FirstLaws.{all-pass, not-first}
-use Rattle.standard.proofs.ErasureLaws.{Group, end, place, count, rest, filled, Fits, fits-long, Decides, group-decided, fits-right}
+use Rattle.standard.proofs.ErasureLaws.{Group, end, place, count, rest, filled, Fits, fits-length, Decides, group-decided, fits-right}
 use Rattle.standard.proofs.ErasureLaws.{Joined, join, both-decided, same-decided}
 use Rattle.standard.proofs.XorLaws.{xor-cancel-r, xor-byte}
 
@@ -212,9 +212,9 @@ module _ (x : List ℕ) (m : ℕ) (h : Bytes 16 x) where
   unfolding readable restored
   decided =
       same-decided from-forms to-forms all (restored (readable x m) m)
-      (both-decided (G 0) _ 4 (fits-long (group 0) 0) (right 0) _ _ _ (group-tested 0)
-      (both-decided (G 4) _ 4 (fits-long (group 4) 0) (right 4) _ _ _ (group-tested 4)
-      (both-decided (G 8) _ 4 (fits-long (group 8) 0) (right 8) _ _ _ (group-tested 8) (group-tested 12))))
+      (both-decided (G 0) _ 4 (fits-length (group 0) 0) (right 0) _ _ _ (group-tested 0)
+      (both-decided (G 4) _ 4 (fits-length (group 4) 0) (right 4) _ _ _ (group-tested 4)
+      (both-decided (G 8) _ 4 (fits-length (group 8) 0) (right 8) _ _ _ (group-tested 8) (group-tested 12))))
 
   abbrev tests : List (Bool × ℕ)
   tests = (hasLength 16 x, wrongLength) ∷ (everyGroup (atMostOne m), groupUnreadable) ∷ (everyGroup (agrees (readable x m) m), groupDisagrees) ∷ []

@@ -119,13 +119,13 @@ difference-at (x ∷ xs) [] l i h = absurd (suc-ne-zero (length xs) l)
 difference-at (x ∷ xs) (y ∷ ys) l zero h = refl
 difference-at (x ∷ xs) (y ∷ ys) l (suc i) h = difference-at xs ys (suc-inj l) i (omega (arith, h))
 
-pub differences-long : (xs ys : List ℕ) → length xs ≡ length ys → length (differences xs ys) ≡ length xs
-differences-long [] ys l = refl
-differences-long (x ∷ xs) [] l = absurd (suc-ne-zero (length xs) l)
-differences-long (x ∷ xs) (y ∷ ys) l = ap suc (differences-long xs ys (suc-inj l))
+pub differences-length : (xs ys : List ℕ) → length xs ≡ length ys → length (differences xs ys) ≡ length xs
+differences-length [] ys l = refl
+differences-length (x ∷ xs) [] l = absurd (suc-ne-zero (length xs) l)
+differences-length (x ∷ xs) (y ∷ ys) l = ap suc (differences-length xs ys (suc-inj l))
 
 -- so bit i is 0 where both are the same, and 1 where not
 pub failed-at : (xs ys : List ℕ) → length xs ≡ length ys → (i : ℕ) → i < length xs → bit i (failedOf (differences xs ys)) ≡ choose (eqb (xs ! i) (ys ! i)) 0 1
 failed-at xs ys l i h =
-    failed-bit (differences xs ys) i (omega (arith, h, differences-long xs ys l))
+    failed-bit (differences xs ys) i (omega (arith, h, differences-length xs ys l))
     ∙ ap (λ (t : Bool). choose t 0 1) (ap (λ (d : ℕ). eqb d 0) (difference-at xs ys l i h) ∙ xor-test (xs ! i) (ys ! i))

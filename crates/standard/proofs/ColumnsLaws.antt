@@ -18,19 +18,19 @@ use Rattle.standard.proofs.BookLaws.{joined-same, joined-length, joined
 use Rattle.standard.proofs.BytesLaws.{length-table, table-at, table-same}
 
 module _ (rows width : ℕ) (xs : List ℕ) where
-  pub column-long : (j : ℕ) → length (column rows width xs j) ≡ rows
-  column-long j = length-table rows (λ i. xs ! (width * i + j))
+  pub column-length : (j : ℕ) → length (column rows width xs j) ≡ rows
+  column-length j = length-table rows (λ i. xs ! (width * i + j))
 
   pub length-transposed : length (transposed rows width xs) ≡ rows * width
   unfolding transposed
-  length-transposed = joined-length rows (column rows width xs) width (λ j h. column-long j)
+  length-transposed = joined-length rows (column rows width xs) width (λ j h. column-length j)
 
   -- byte i of column j is byte j of row i
   column-at : (i j : ℕ) → i < rows → j < width → transposed rows width xs ! (rows * j + i) ≡ xs ! (width * i + j)
   unfolding transposed
   column-at i j h k =
       sym (table-at rows (λ r. transposed rows width xs ! (rows * j + r)) i h)
-      ∙ ap (λ (c : List ℕ). c ! i) (joined-at rows (column rows width xs) width (λ l m. column-long l) j k)
+      ∙ ap (λ (c : List ℕ). c ! i) (joined-at rows (column rows width xs) width (λ l m. column-length l) j k)
       ∙ table-at rows (λ r. xs ! (width * r + j)) i h
 
   -- the columns of the columns are the rows

@@ -55,11 +55,11 @@ abbrev pub size : Group → ℕ
 size end = 0
 size (place u x b g) = suc (size g)
 
-pub fits-long : (g : Group) (s : ℕ) (ys : List ℕ) → Fits g s ys → length ys ≡ size g
-fits-long end s [] f = refl
-fits-long end s (y ∷ ys) f = absurd f
-fits-long (place u x b g) s [] f = absurd f
-fits-long (place u x b g) s (y ∷ ys) f = ap suc (fits-long g (s ⊕ y) ys (f .more))
+pub fits-length : (g : Group) (s : ℕ) (ys : List ℕ) → Fits g s ys → length ys ≡ size g
+fits-length end s [] f = refl
+fits-length end s (y ∷ ys) f = absurd f
+fits-length (place u x b g) s [] f = absurd f
+fits-length (place u x b g) s (y ∷ ys) f = ap suc (fits-length g (s ⊕ y) ys (f .more))
 
 xor-swap : (a b c : ℕ) → a ⊕ b ⊕ c ≡ a ⊕ c ⊕ b
 xor-swap a b c = xor-assoc a b c ∙ ap (_⊕_ a) (xor-comm b c) ∙ sym (xor-assoc a c b)

@@ -50,12 +50,12 @@ unfolding ta12Call
 ta12-passes ks rand rm km l₁ l₂ m = rw (l₁, l₂, m)
 
 -- a session key has 16 bytes
-core-long : (k seed : List ℕ) → hasLength 16 (core k seed) ≡ true
+core-length : (k seed : List ℕ) → hasLength 16 (core k seed) ≡ true
 unfolding bl1 bl1With
-core-long k seed = refl
+core-length k seed = refl
 
 core-spelled : (k seed : List ℕ) → part 0 16 (core k seed) ≡ core k seed
-core-spelled k seed = length-spelled 16 (core k seed) (core-long k seed)
+core-spelled k seed = length-spelled 16 (core k seed) (core-length k seed)
 
 abbrev recipeTests : (root rs rso rand1 rand2 c gk : List ℕ) (sides rm km : ℕ) → List (Bool × ℕ)
 recipeTests root rs rso rand1 rand2 c gk sides rm km = (haveLengths root rs rso rand1 rand2 c gk, wrongLength) ∷ sidesTest sides ∷ maskTests rm km
@@ -70,10 +70,10 @@ module _ (root rs rso rand1 rand2 c gk : List ℕ) (sides rm km : ℕ) (z : firs
 
   -- each side's call passes too, and gives what its half gives
   side1 : let o = core (ta11 root rs) rand1 in ta12Call (ta11 root rs) rand1 rm km ≡ record { refusal = 0; response = chosen rm o; key = chosen km o }
-  side1 = ta12-passes (ta11 root rs) rand1 rm km (core-long root rs) (lengths-split root rs rso rand1 rand2 c gk (passed 0) .3) masks
+  side1 = ta12-passes (ta11 root rs) rand1 rm km (core-length root rs) (lengths-split root rs rso rand1 rand2 c gk (passed 0) .3) masks
 
   side2 : let o = core (ta21 root rs) rand2 in ta12Call (ta21 root rs) rand2 rm km ≡ record { refusal = 0; response = chosen rm o; key = chosen km o }
-  side2 = ta12-passes (ta21 root rs) rand2 rm km (core-long root _) (lengths-split root rs rso rand1 rand2 c gk (passed 0) .4) masks
+  side2 = ta12-passes (ta21 root rs) rand2 rm km (core-length root _) (lengths-split root rs rso rand1 rand2 c gk (passed 0) .4) masks
 
   -- the other keys behind D
   behind : (d : List ℕ) → d ++ part 0 16 (ta41 root rso) ++ part 0 10 c ++ tb7 gk ≡ d ++ ta41 root rso ++ c ++ tb7 gk
@@ -114,9 +114,9 @@ idle-challenge = record {
 
 -- ---- a whole class of challenges (02, 2)
 
-record-long : (ks : List ℕ) (rm km : ℕ) (x : List ℕ) → length (classRecord ks rm km x) ≡ authenticationSize
+class-record-length : (ks : List ℕ) (rm km : ℕ) (x : List ℕ) → length (classRecord ks rm km x) ≡ authenticationSize
 unfolding classRecord
-record-long ks rm km x = refl
+class-record-length ks rm km x = refl
 
 -- an accepted class
 module _ (ks xs : List ℕ) (rm km : ℕ) (out : List ℕ) (z : ta12ClassCall ks xs rm km out .0 .refusal ≡ 0) where
@@ -140,7 +140,7 @@ module _ (ks xs : List ℕ) (rm km : ℕ) (out : List ℕ) (z : ta12ClassCall ks
   class-record : (i : ℕ) → i < n → recordAt authenticationSize (ta12ClassCall ks xs rm km out .1) i ≡ classRecord ks rm km (recordAt challengeSize xs i)
   class-record i h =
       let made : ℕ → List ℕ = λ j. classRecord ks rm km (recordAt challengeSize xs j) in
-      rw all-written (joined-front authenticationSize made n (λ j k. record-long ks rm km _) (drop (authenticationSize * n) out) i h)
+      rw all-written (joined-front authenticationSize made n (λ j k. class-record-length ks rm km _) (drop (authenticationSize * n) out) i h)
 
   single : (i : ℕ) → let x = recordAt challengeSize xs i in
       ta12Call ks x rm km ≡ record { refusal = 0; response = chosen rm (core ks x); key = chosen km (core ks x) }

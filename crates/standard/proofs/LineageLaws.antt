@@ -49,9 +49,9 @@ module _ (s t : List ℕ) (A : ℕ → Type 0) (closed : WithParents s A)
 
 -- ---- a sheet whose first n records have no fault
 
-pub value-long : (s : List ℕ) (i : ℕ) → length (valueOf s i) ≡ valueSize
+pub value-length : (s : List ℕ) (i : ℕ) → length (valueOf s i) ≡ valueSize
 unfolding valueOf valueWithin valueFrom
-value-long s i = refl
+value-length s i = refl
 
 -- parents stand before their record
 pub parents-before : (s : List ℕ) (i : ℕ) → lineageFault s i ≡ 0 → (operation (recordAt sheetSize s i) ≡ 0 → ⊥)
@@ -108,7 +108,7 @@ module _ (s out : List ℕ) (z : lineageCall s out .0 .refusal ≡ 0) where
   -- what is written for a record is its value
   written-value : (i : ℕ) → i < n → recordAt valueSize (lineageCall s out .1) i ≡ valueOf s i
   written-value i h =
-      rw all-written (joined-front valueSize (valueOf s) n (λ j k. value-long s j) (drop (valueSize * n) out) i h)
+      rw all-written (joined-front valueSize (valueOf s) n (λ j k. value-length s j) (drop (valueSize * n) out) i h)
 
   sound : (i : ℕ) → i < n
       → let p = recordAt sheetSize s i in

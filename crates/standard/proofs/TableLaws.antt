@@ -25,9 +25,9 @@ pub inverse-made : InverseMade
 unfolding inverse S S⁻¹
 inverse-made = refl
 
-long-inverse : length (inverse S) ≡ 256
+made-inverse-length : length (inverse S) ≡ 256
 unfolding inverse
-long-inverse = refl
+made-inverse-length = refl
 
 -- the rotations have a place for k: there stands k, and entry k's place is its own
 abbrev onceAt : ℕ → Bool
@@ -89,10 +89,10 @@ pub placed-all : (out : List ℕ) → Placed out 256 → out ≡ S⁻¹
 placed-all out p =
     sym (spelled 256 out (p .long))
     ∙ table-same 256 (λ y. out ! y) (λ y. S⁻¹ ! y) (λ y h. ap (_!_ out) (sym (permuted y h .s-inverse)) ∙ p .at (S⁻¹ ! y) (permuted y h .inverse-byte))
-    ∙ spelled 256 S⁻¹ inverse-long
+    ∙ spelled 256 S⁻¹ stored-inverse-length
   where
-    inverse-long : length S⁻¹ ≡ 256
-    inverse-long = ap length (sym inverse-made) ∙ long-inverse
+    stored-inverse-length : length S⁻¹ ≡ 256
+    stored-inverse-length = ap length (sym inverse-made) ∙ made-inverse-length
 
 -- ---- the lengths of the text
 

@@ -11,7 +11,7 @@ returns c =
     let second = c .before in
     let first = second .before .before in
     let x = first .before .before .args in
-    c .joined .ensures ∙ ap counted16 (bl1-steps (now (x .keys)) (x .x) (first .before .left .ensures) (first .encrypt-with .ensures)
+    c .bl1-output .ensures ∙ ap counted16 (bl1-steps (now (x .keys)) (x .x) (first .before .left .ensures) (first .encrypt-with .ensures)
     (second .before .bl1-right-input .ensures) (second .encrypt-with2 .ensures))
 
 pub bl1-with-spec : {M : Type 1} → statement M

@@ -7,7 +7,7 @@ use lib.ListN.{length}
 use denote.Ref.{now}
 use Rattle.lineage.proofs.SheetLaws.{value-next}
 use Rattle.lists.proofs.WalkLaws.{PrefixWritten, prefix-none, prefix-more}
-use Rattle.standard.proofs.LineageLaws.{value-long}
+use Rattle.standard.proofs.LineageLaws.{value-length}
 use Rattle.standard.specs.Lineage.{valueOf}
 use Rattle.standard.specs.Sizes.{valueSize}
 use borrow.Author.Needs.{needs}
@@ -21,7 +21,7 @@ abbrev μ-loop : tie.MeasureT-loop
 μ-loop sheet n out₀ i₀ out i = n - i
 
 loop-holds : tie.Need-loop-holds Inv-loop μ-loop
-loop-holds c = (zero-le, prefix-none valueSize _ (value-long _) _)
+loop-holds c = (zero-le, prefix-none valueSize _ (value-length _) _)
 
 value-of-requires : tie.Need-value-of-requires Inv-loop μ-loop
 value-of-requires c κs =
@@ -46,7 +46,7 @@ loop-again c =
     let x = start .args in
     let long : length (made .value-of .result) ≡ valueSize = search needs in (
       omega arith,
-      prefix-more valueSize (valueOf (now (x .sheet))) (value-long (now (x .sheet))) (now (x .out)) (at .i) (at .out) (at .inv .1) (search needs)
+      prefix-more valueSize (valueOf (now (x .sheet))) (value-length (now (x .sheet))) (now (x .out)) (at .i) (at .out) (at .inv .1) (search needs)
           (made .value-of .result) _
           (made .value-of .ensures ∙ value-next (now (x .sheet)) (at .out) (at .i) (x .n) (start .pre .2) (turn .loop-test .taken) (now (x .out)) (at .inv .1))
           (rw long at (c .before .before .copy .ensures)),
