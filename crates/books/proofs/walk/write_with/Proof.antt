@@ -13,21 +13,21 @@ use Rattle.books.proofs.walk.write_with.Statement.{statement}
 use Rattle.books.proofs.walk.write_with.Tie as tie
 
 abbrev Inv-loop : tie.InvT-loop
-Inv-loop direction ring strings book n out₀ runs₀ i₀ out runs i =
-    (i ≤ n) × Converted ring strings direction book out₀ i out × (runs ≡ textRuns * i)
+Inv-loop direction ring identity-strings book n out₀ runs₀ i₀ out runs i =
+    (i ≤ n) × Converted ring identity-strings direction book out₀ i out × (runs ≡ textRuns * i)
 
 abbrev μ-loop : tie.MeasureT-loop
-μ-loop direction ring strings book n out₀ runs₀ i₀ out runs i = n - i
+μ-loop direction ring identity-strings book n out₀ runs₀ i₀ out runs i = n - i
 
 -- out₀ is the output where the second loop begins: what the first wrote over an output o stays, and the rest comes after it
 abbrev Inv-loop2 : tie.InvT-loop2
-Inv-loop2 direction ring strings book n out₀ runs₀ i₀ out runs i =
+Inv-loop2 direction ring identity-strings book n out₀ runs₀ i₀ out runs i =
     (i ≤ n)
-    × ((o : List ℕ) → Converted ring strings direction book o i₀ out₀ → Converted ring strings direction book o i out)
+    × ((o : List ℕ) → Converted ring identity-strings direction book o i₀ out₀ → Converted ring identity-strings direction book o i out)
     × (runs ≡ textRuns * i)
 
 abbrev μ-loop2 : tie.MeasureT-loop2
-μ-loop2 direction ring strings book n out₀ runs₀ i₀ out runs i = n - i
+μ-loop2 direction ring identity-strings book n out₀ runs₀ i₀ out runs i = n - i
 
 loop-holds : tie.Need-loop-holds Inv-loop μ-loop Inv-loop2 μ-loop2
 loop-holds c =
