@@ -20,7 +20,8 @@ use Rattle.standard.specs.Identity.{bc}
 use Rattle.standard.specs.Lists.{recordAt, each}
 use Rattle.standard.specs.Runs.{firstPass, secondPass}
 use Rattle.standard.specs.Seals.{seal, sealed, unseal, opened}
-use Rattle.texts.specs.OpenedTexts.{lanes, inputLane}
+use Rattle.hurdle.specs.Lanes.{lanes}
+use Rattle.texts.specs.OpenedTexts.{inputLane}
 use Rattle.texts.specs.declared.text_core.CoreInput.{CoreInput}
 use Rattle.books.specs.BothDirections.{sizeOf, outputSizeOf, faultAt, inspectionOf, inspectionAt, recordOf}
 use Rattle.books.specs.BothDirections.{inputOf, inputAt, coreOf, madeOf, convertOf, convertAt}

@@ -17,11 +17,12 @@ ghost use mathlib.Core.Path.{_≡_};
 ghost use Prim.Native.Nat.{_+_, _*_, _≤_};
 ghost use lib.ListN.{length, take, drop};
 ghost use Rattle.cores.specs.CoreOutputs.{counted15};
-ghost use Rattle.cores_four.specs.Lanes.{lane15};
+ghost use Rattle.cores_x4.specs.Lanes.{lane15};
 ghost use Rattle.lists.specs.Walks.{after, replaceAt, replaceX4};
 ghost use Rattle.standard.specs.Lists.{recordAt};
 ghost use Rattle.standard.specs.Runs.{textRuns};
-ghost use Rattle.texts.specs.OpenedTexts.{lanes, inputLane};
+ghost use Rattle.hurdle.specs.Lanes.{lanes};
+ghost use Rattle.texts.specs.OpenedTexts.{inputLane};
 ghost use Rattle.books.specs.BothDirections.{sizeOf, outputSizeOf, inputOf, inputAt, coreOf, madeOf, convertOf, convertAt};
 
 // What the core takes of a record.
@@ -53,7 +54,13 @@ fn core(direction: Direction, c: CoreInput) -> CoreOutput15
 }
 
 // What is made of the core's output, into the record's own part of the output.
-fn write_record(direction: Direction, identity_strings: [u8; 8], rec: &[u8], o: [u8; 15], out: &mut [u8])
+fn write_record(
+    direction: Direction,
+    identity_strings: [u8; 8],
+    rec: &[u8],
+    o: [u8; 15],
+    out: &mut [u8],
+)
     ensures { λ _. ⌜ now (out .exit)
         ≡ take (length (now (out .entry))) (madeOf direction «identity_strings» (now (rec .entry)) o) ++ drop (outputSizeOf direction) (now (out .entry)) ⌝ }
 {

@@ -17,7 +17,7 @@ ghost use Rattle.standard.specs.Lists.{each};
 ghost use Rattle.standard.specs.Runs.{textRuns, firstPass, secondPass};
 ghost use Rattle.books.specs.BothDirections.{sizeOf, outputSizeOf, faultOf, inspectionOf, convertOf, recordOf, faultAt, inspectionAt};
 
-// Where a scan stopped, at the first record that is refused or behind the last with 0, and the block cipher runs that it took.
+// Where a scan stopped, at the first record that is refused or after the last with 0, and the block cipher runs that it took.
 pub struct Stop {
     pub refusal: u32,
     pub index: usize,

@@ -24,7 +24,7 @@ use Rattle.claims.proofs.TermLaws.{pair, legal-body, opens-clear}
 
 -- ---- legal bodies
 
--- kind 1: a key, and zero bytes behind it
+-- kind 1: a key, and zero bytes after it
 keys : Inverse (Bytes 10) (Legal Ta31) body31 (part 0 10)
 keys = record {
   to = λ k h. record { bytes = bytes-append (bytes-part 0 10 h) (bytes-cons (omega arith) bytes-zero); accepted = refl };

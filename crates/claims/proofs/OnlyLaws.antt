@@ -28,7 +28,7 @@ of-one-same {P′ = P′} q p e o = record {
       record { has = subst P′ (e z) (p _ .0 (u .has)); only = λ y h. u .only y (p y .1 h) ∙ e z };
 }
 
--- one pair of maps behind another
+-- one pair of maps after another
 pub inverse-then : {A B C : Type 0} {P : A → Type 0} {Q : B → Type 0} {R : C → Type 0} {f : A → B} {g : B → A} {f′ : B → C} {g′ : C → B}
     → Inverse P Q f g → Inverse Q R f′ g′ → Inverse P R (λ x. f′ (f x)) (λ z. g (g′ z))
 inverse-then {f = f} {g = g} {f′ = f′} {g′ = g′} m n = record {

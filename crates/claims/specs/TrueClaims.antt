@@ -40,7 +40,7 @@ pub record Shared : Type 0 where
   pub in-all : (k t : List ℕ) → Bytes 15 t → Count 256 (λ x. Bytes 16 x × (without8 (bl1 k x) ≡ t))
 
 -- 3: "The checks pass exactly on the expansions of legal bodies, and shrinking gives the body." Said of BL2's output, 15 bytes: with a
--- zero byte behind them they are BL1's input of one body alone. What is no string of bytes may pass the checks and be no expansion
+-- zero byte after them they are BL1's input of one body alone. What is no string of bytes may pass the checks and be no expansion
 abbrev pub ChecksExactly : Type 0
 ChecksExactly = (a : Algorithm) (u : List ℕ) → Bytes 15 u
     → OfOne (failed (formOf a) u ≡ 0) (λ b. Legal a b × (formOf a .input b ≡ u ++ 0 ∷ [])) (formOf a .shrink u)

@@ -24,7 +24,7 @@ use Rattle.standard.specs.declared.UnsealedNumbered.{UnsealedNumbered}
 use Rattle.standard.specs.declared.Version.{Version}
 use Rattle.claims.specs.Entries.{upward, version7}
 
--- ---- the zero byte put in behind the others, and not as byte 8 (right: `with8`)
+-- ---- the zero byte put in after the others, and not as byte 8 (right: `with8`)
 
 abbrev pub withZeroAtEnd : List ℕ → List ℕ
 withZeroAtEnd t = part 0 15 t ++ 0 ∷ []
@@ -62,7 +62,7 @@ pub record ChallengeReversed : Type 0 where
   pub wrong : ta22Reversed (upward 0 16) (upward 1 10) 0x000f 0x3ff0
       ≡ record { refusal = 0; response = 0xf6 ∷ 0xc8 ∷ 0xb0 ∷ 0x0e ∷ []; key = 0x19 ∷ 0x5c ∷ 0x04 ∷ 0x27 ∷ 0x25 ∷ 0xfe ∷ 0xd7 ∷ 0x12 ∷ 0x60 ∷ 0x17 ∷ [] }
 
--- ---- kind 2 checked without the three zero bits of the number byte (right: `form51`, which finds them behind the inserted bytes)
+-- ---- kind 2 checked without the three zero bits of the number byte (right: `form51`, which finds them after the inserted bytes)
 
 abbrev pub formWithoutBits : Form
 formWithoutBits = record {

@@ -78,7 +78,7 @@ module _ (ks xs : List ℕ) (rm km : ℕ) (out : List ℕ) where
         rw (eq-eqb _ _ h, first-append lengthsTests (maskTests rm km) refl, ← e, ne-eqb refusal 0 z) (call-refused refusal n (λ i. 0) bytes made out z)
 
     module _ (z : refusal ≡ 0) where
-      -- the masks go behind the lengths
+      -- the masks go after the lengths
       behind : first (lengthsTests ++ maskTests rm km) ≡ first (maskTests rm km)
       behind = first-append lengthsTests (maskTests rm km) refl ∙ rw (← e, z)
 

@@ -7,8 +7,8 @@ use arrays::join_4_10;
 use cores::CoreOutput16;
 use cores::bl1_with;
 use cores::exp2;
-use cores_four::Strings16;
-use cores_four::bl1_four_with;
+use cores_x4::Strings16;
+use cores_x4::bl1_with_x4;
 use hurdle::schedule;
 use keys::mask_refusal;
 use keys::split;
@@ -21,7 +21,7 @@ ghost use mathlib.Core.List.{_++_};
 ghost use mathlib.Core.Path.{_≡_};
 ghost use Prim.Native.Nat.{_+_, _*_, _≤_};
 ghost use lib.ListN.{length, drop};
-ghost use Rattle.cores_four.specs.Lanes.{lane16};
+ghost use Rattle.cores_x4.specs.Lanes.{lane16};
 ghost use Rattle.lists.specs.Walks.{after, replaceAt, replaceX4};
 ghost use Rattle.standard.specs.Classes.{ta12ClassCall};
 ghost use Rattle.standard.specs.Lists.{recordAt, each};
@@ -38,10 +38,7 @@ fn write_at(o: CoreOutput16, response_mask: u16, key_mask: u16, i: usize, out: &
     let response = a.response;
     let key = a.key;
     let b = AUTHENTICATION * i;
-    copy(
-        &join_4_10(response, key),
-        &mut out[b..b + AUTHENTICATION],
-    );
+    copy(&join_4_10(response, key), &mut out[b..b + AUTHENTICATION]);
 }
 
 // Challenge i, expanded.
@@ -84,13 +81,7 @@ fn inputs_at(challenges: &[u8], i: usize) -> Strings16
     }
 }
 
-fn write_at_x4(
-    o: [CoreOutput16; 4],
-    response_mask: u16,
-    key_mask: u16,
-    i: usize,
-    out: &mut [u8],
-)
+fn write_at_x4(o: [CoreOutput16; 4], response_mask: u16, key_mask: u16, i: usize, out: &mut [u8])
     requires { ⌜ authenticationSize * (i + 4) ≤ length (now out) ⌝ }
     ensures { λ _. ⌜ now (out .exit) ≡ replaceX4 authenticationSize i (λ j. recordFrom «response_mask» «key_mask» (lane16 o j .output)) (now (out .entry)) ⌝ }
 {
@@ -115,7 +106,7 @@ fn write_x4(
         (λ j. recordWith (now (keys .entry)) «response_mask» «key_mask» (recordAt challengeSize (now (challenges .entry)) (after i j)))
         (now (out .entry)) ⌝ }
 {
-    let o = bl1_four_with(keys, keys, keys, keys, inputs_at(challenges, i));
+    let o = bl1_with_x4(keys, keys, keys, keys, inputs_at(challenges, i));
     write_at_x4(o, response_mask, key_mask, i, out);
 }
 

@@ -19,7 +19,7 @@ use Rattle.standard.specs.Refusals.{first}
 pub in-rows : (width n i j : ℕ) → i < n → j < width → width * i + j < width * n
 in-rows width n i j h k = omega (arith, ends width i n h)
 
--- ---- the first j columns of n rows are written, and behind them the output is as it was
+-- ---- the first j columns of n rows are written, and after them the output is as it was
 
 abbrev pub Filed : (n width : ℕ) (rows out₀ : List ℕ) (j : ℕ) (out : List ℕ) → Type 0
 Filed n width rows out₀ j out = PrefixWritten n (column n width rows) out₀ j out

@@ -138,7 +138,7 @@ pub struct CoreOutput15 {
     pub runs: usize,
 }
 
-// BL1's output: what its two cipher runs gave, one behind the other.
+// BL1's output: what its two cipher runs gave, one after the other.
 pub fn bl1_output(l: [u8; 8], r: [u8; 8]) -> CoreOutput16
     ensures { λ o. ⌜ o ≡ counted16 (part 0 8 l ++ part 0 8 r) ⌝ }
 {

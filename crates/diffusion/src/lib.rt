@@ -164,7 +164,7 @@ fn counted4(t: Figures, changes: Changes) -> Figures
     counted(c, changes.d)
 }
 
-// The changes of a block's 64 flips, counted behind those so far.
+// The changes of a block's 64 flips, counted after those so far.
 fn count_flips(keys: &[u8; 192], block: [u8; 8], t: Figures) -> Figures
     requires { ⌜ t .total ≤ 4096 * mostRecords ⌝ }
     ensures { λ r. ⌜ Counted (t .total) (t .least) (t .greatest) (table 64 (changeWith (now (keys .entry)) block)) (r .total) (r .least) (r .greatest) ⌝ }
@@ -177,7 +177,7 @@ fn count_flips(keys: &[u8; 192], block: [u8; 8], t: Figures) -> Figures
     figures
 }
 
-// The changes of a record, counted behind those so far.
+// The changes of a record, counted after those so far.
 fn count_record(rec: &[u8], t: Figures) -> Figures
     requires { ⌜ length (now rec) ≡ diffusionSize ⌝ }
     requires { ⌜ t .total ≤ 4096 * mostRecords ⌝ }

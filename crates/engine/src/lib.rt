@@ -1,4 +1,4 @@
-// The calls for hosts in other languages (include/taa1.h), each with the contract of the library call behind it. A byte string comes
+// The calls for hosts in other languages (include/taa1.h), each with the contract of the library call that it makes. A byte string comes
 // as a pointer and a length.
 use standard::Authentication;
 use standard::BookAnswer;

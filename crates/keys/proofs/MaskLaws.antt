@@ -15,7 +15,7 @@ use Rattle.standard.proofs.DerivationLaws.{length-chosen}
 use Rattle.standard.specs.Bytes.{_!_, byte, bit, table, part, zeros}
 use Rattle.standard.specs.Derivation.{chosenOf, chosen, split}
 
--- k of the chosen bytes are stored, with zeros behind them, and those below Bi are to be looked at
+-- k of the chosen bytes are stored, with zeros after them, and those below Bi are to be looked at
 pub record Gathered (m : ℕ) (o : List ℕ) (i k : ℕ) (out : List ℕ) : Type 0 where
   pub bytes : out ≡ take k (chosen m o) ++ drop k (zeros 16)
   pub left : drop k (chosen m o) ≡ chosenOf i m o

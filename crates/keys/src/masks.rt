@@ -22,7 +22,7 @@ pub fn mask_refusal(response_mask: u16, key_mask: u16) -> u32
     0
 }
 
-// Of the bytes B15 to B0 those whose bit is set, higher bytes first, and zeros behind them.
+// Of the bytes B15 to B0 those whose bit is set, higher bytes first, and zeros after them.
 fn gathered(mask: u16, output: [u8; 16]) -> [u8; 16]
     ensures { λ r. ⌜ r ≡ part 0 16 (chosen mask output) ⌝ }
 {

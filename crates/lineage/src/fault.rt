@@ -15,7 +15,7 @@ ghost use Rattle.standard.specs.Lineage.{givenFilled, derivedFilled, filled as 
 ghost use Rattle.standard.specs.Refusals.{first};
 ghost use Rattle.standard.specs.Sizes.{sheetSize};
 
-// Both parents zero, a length of 10 or 16, zero bytes behind it.
+// Both parents zero, a length of 10 or 16, zero bytes after it.
 fn given_filled(p: Record) -> bool
     ensures { λ r. ⌜ r ≡ givenFilled p ⌝ }
 {

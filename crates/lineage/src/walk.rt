@@ -12,7 +12,7 @@ ghost use Rattle.standard.specs.Lineage.{lineageFault, valueOf};
 ghost use Rattle.standard.specs.Lists.{joined};
 ghost use Rattle.standard.specs.Sizes.{sheetSize, valueSize};
 
-// Where the scan stopped: at the first record that is refused, or behind the last with 0.
+// Where the scan stopped: at the first record that is refused, or after the last with 0.
 pub struct Stop {
     pub refusal: u32,
     pub index: usize,

@@ -1,4 +1,4 @@
--- Lines that grow at the end, and texts put over an output one behind the other.
+-- Lines that grow at the end, and texts put over an output one after the other.
 -- Assumes nothing.
 use mathlib.Core.List.{List, [], _∷_, _++_, append-nil}
 use mathlib.Core.Path.{_≡_, refl, sym, ap, ap₂, _∙_}
@@ -14,7 +14,7 @@ use Rattle.standard.specs.Text.{textCall}
 use Rattle.lines.specs.Lines.{room, shown, emptyLine, push, _▸_, front, over, putCall}
 use Rattle.lines.specs.declared.Line.{Line}
 
--- ---- one text behind the other
+-- ---- one text after the other
 
 pub none : (l : Line) → l ≡ l ▸ []
 unfolding _▸_
@@ -25,7 +25,7 @@ unfolding _▸_
 append l [] w = refl
 append l (b ∷ v) w = append (push l b) v w
 
--- w behind v, where v is there
+-- w after v, where v is there
 pub behind : (l : Line) (v w : List ℕ) {r t : Line} → r ≡ l ▸ v → t ≡ r ▸ w → t ≡ l ▸ (v ++ w)
 behind l v w e f = f ∙ ap (λ (k : Line). k ▸ w) e ∙ sym (append l v w)
 
@@ -77,7 +77,7 @@ module _ (at : ℕ) (xs : List ℕ) where
   pub lent-none : drop (length xs - at) (drop at xs) ≡ []
   lent-none = drop-of-length-le (drop at xs) {i = length xs - at} (simp length-drop (omega arith))
 
--- behind the output's end nothing is put
+-- after the output's end nothing is put
 pub put-past : (w out : List ℕ) (at n : ℕ) → n ≡ length w → length out ≤ at → (n, out) ≡ putCall at w out
 put-past w out at n e h =
     rw (e, take-all at out h, drop-of-length-le out {i = at} h, drop-nil (length w), append-nil)
@@ -101,7 +101,7 @@ module _ (at : ℕ) (w out : List ℕ) {n : ℕ} {exit : List ℕ} (e : (n, exit
   pub put-keeps : length exit ≡ length out
   put-keeps = ap length put-over ∙ simp (length-append, length-take, length-drop) (omega arith)
 
--- nothing yet, and one text behind the other
+-- nothing yet, and one text after the other
 front-none : (out : List ℕ) → front [] out ≡ out
 front-none out = rw take-nil
 

@@ -17,7 +17,7 @@ module _ (w size : ℕ) where
   pub records-within : w * (size / w) ≤ size
   records-within = omega (arith, div-add-mod size w)
 
-  -- what is left behind the last whole record
+  -- what is left after the last whole record
   pub whole : w * (size / w) ≡ size → eqb (size % w) 0 ≡ true
   whole e = eq-eqb (size % w) 0 (omega (arith, div-add-mod size w))
 
@@ -28,7 +28,7 @@ module _ (w size : ℕ) where
   pub few-records : first (lengthTests w size) ≡ 0 → size / w ≤ mostRecords
   few-records e = div-le-of-le-mul w (leb-true _ _ (all-pass (lengthTests w size) refl e 0))
 
-  -- 12 goes behind 1 and 2
+  -- 12 goes after 1 and 2
   module _ (v room refusal : ℕ) (e : refusal ≡ first (lengthTests w size)) where
     pub output-last : (refusal ≡ 0 → ⊥) → refusal ≡ first (listTests w v size room)
     output-last h = e ∙ sym (first-append (lengthTests w size) ((leb (v * (size / w)) room, outputShort) ∷ []) refl ∙ rw (← e, ne-eqb _ _ h))

@@ -70,7 +70,7 @@ stopped-not n g none = record {
 
 -- ---- the pass that writes: g 0, g 1, .. , v bytes each
 
--- the first i are written, and behind them the output is as it was
+-- the first i are written, and after them the output is as it was
 pub record PrefixWritten (v : ℕ) (g : ℕ → List ℕ) (out₀ : List ℕ) (i : ℕ) (out : List ℕ) : Type 0 where
   pub bytes : out ≡ joined i g ++ drop (v * i) out₀
   pub kept : length out ≡ length out₀
@@ -108,9 +108,16 @@ module _ (v : ℕ) (g : ℕ → List ℕ) (long : (i : ℕ) → length (g i) ≡
 
         bytes : take (v * i) out ++ (exit ++ drop (v * i + v - v * i) (drop (v * i) out)) ≡ joined (i + 1) g ++ drop (v * (i + 1)) out₀
         bytes =
-            rw (h .bytes, take-at (joined i g) (drop (v * i) out₀) (v * i) (length-joined i),
-            drop-at (joined i g) (drop (v * i) out₀) (v * i) (length-joined i),
-            add-sub-cancel-left (v * i) v, drop-drop v (v * i) out₀, next, made, ← append-assoc)
+            rw (
+              h .bytes,
+              take-at (joined i g) (drop (v * i) out₀) (v * i) (length-joined i),
+              drop-at (joined i g) (drop (v * i) out₀) (v * i) (length-joined i),
+              add-sub-cancel-left (v * i) v,
+              drop-drop v (v * i) out₀,
+              next,
+              made,
+              ← append-assoc,
+            )
             (ap (λ (n : ℕ). joined n g ++ drop (v * (i + 1)) out₀) (sym (add-one i)))
 
         lengths : length (joined (i + 1) g ++ drop (v * (i + 1)) out₀) ≡ length out₀

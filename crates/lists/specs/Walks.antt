@@ -10,7 +10,7 @@ use Rattle.standard.specs.Lists.{firstFault}
 abbrev pub Clean : (ℕ → ℕ) → ℕ → Type 0
 Clean g n = (j : ℕ) → j < n → g j ≡ 0
 
--- a scan of n records stopped at the first fault, or behind the last with 0
+-- a scan of n records stopped at the first fault, or after the last with 0
 pub record Stopped (n : ℕ) (g : ℕ → ℕ) (refusal index : ℕ) : Type 0 where
   pub at : index ≡ firstFault n g
   pub within : index ≤ n

@@ -61,7 +61,7 @@ pub refused-short : (refusal index : ℕ) → length (refusedLine refusal index)
 unfolding refusedLine
 refused-short refusal index = simp length-append (omega (arith, digits-few 20 refusal, digits-few 20 index))
 
--- ---- the lines one behind the other
+-- ---- the lines one after the other
 
 pub lines-short : (n : ℕ) (p : List ℕ) → length (entryLines n p) ≤ room * n
 unfolding entryLines
@@ -71,7 +71,7 @@ lines-short n p = joined-most (λ i. entryLine i (recordAt 18 p i)) (λ i. entry
 pub entries-most : (n : ℕ) (p : List ℕ) → n ≤ 1024 → length (entryLines n p ++ entriesLine n) ≤ listingRoom
 entries-most n p h = simp length-append (omega (arith, h, lines-short n p, entries-short n))
 
--- the last line behind those of the records
+-- the last line after those of the records
 pub entries-put : (n : ℕ) (p out₀ : List ℕ) {at k : ℕ} {line out exit : List ℕ} → line ≡ entriesLine n
     → (at, out) ≡ putCall 0 (entryLines n p) out₀ → (k, exit) ≡ putCall at line out → (at + k, exit) ≡ putCall 0 (entryLines n p ++ entriesLine n) out₀
 entries-put n p out₀ e f g = put-next (entryLines n p) (entriesLine n) out₀ f (rw e at g)

@@ -120,7 +120,7 @@ fn entry_lines(plain: &[u8], n: usize, out: &mut [u8]) -> usize
     at
 }
 
-// The lines of an accepted book's n records, and the last line behind them; their length.
+// The lines of an accepted book's n records, and the last line after them; their length.
 fn list_entries(plain: &[u8], n: usize, out: &mut [u8]) -> usize
     requires { ⌜ (18 * n ≤ length (now plain)) × (n ≤ 1024) ⌝ }
     ensures { λ r. ⌜ (r, now (out .exit)) ≡ putCall 0 (entryLines n (now (plain .entry)) ++ entriesLine n) (now (out .entry)) ⌝ }

@@ -1,4 +1,4 @@
--- The lines of the tables one behind the other, and the ways in which the call returns.
+-- The lines of the tables one after the other, and the ways in which the call returns.
 -- Assumes nothing.
 use mathlib.Core.List.{List, [], _∷_, _++_}
 use mathlib.Core.Path.{_≡_, refl, sym, ap, _∙_}

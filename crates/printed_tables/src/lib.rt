@@ -10,7 +10,7 @@ ghost use Rattle.standard.specs.Hurdle.{S⁻¹};
 ghost use Rattle.standard.specs.Tables.{rotations as rotationsOf, spaced as spacedOf, tableLine, tableLines, tablesCall};
 ghost use Rattle.lines.specs.Lines.{shown, emptyLine, _▸_, putCall};
 
-// The bytes of the text: seventeen lines, each of sixteen entries of two digits with a space or the line's end behind it.
+// The bytes of the text: seventeen lines, each of sixteen entries of two digits with a space or the line's end after it.
 pub const TABLES_TEXT: usize = 816;
 
 // Each index goes where S has it. What that makes is the stored inverse.
@@ -39,7 +39,7 @@ fn rotations() -> [u8; 16]
     out
 }
 
-// Entries, with a space behind each.
+// Entries, with a space after each.
 fn spaced(t: &[u8]) -> Line
     ensures { λ r. ⌜ r ≡ emptyLine ▸ spacedOf (now (t .entry)) ⌝ }
 {

@@ -1,4 +1,4 @@
--- Pieces of input, one behind the other, in the front of a buffer.
+-- Pieces of input, one after the other, in the front of a buffer.
 -- Assumes nothing.
 use mathlib.Core.Bool.{true, false, true≢false}
 use mathlib.Core.List.{List, _++_, append-nil}

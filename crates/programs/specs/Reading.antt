@@ -11,13 +11,13 @@ use Rattle.standard.specs.Sizes.{ringSize}
 use Rattle.programs.specs.declared.Input.{Input}
 use Rattle.programs.specs.declared.RingInput.{RingInput}
 
--- pieces, one behind the other: behind the bytes counted the buffer is as it was; where a read fails no piece counts
+-- pieces, one after the other: after the bytes counted the buffer is as it was; where a read fails no piece counts
 pub record Gathered (r : Input) (buf exit : List ℕ) : Type 0 where
   pub counts : Counts (r .len) exit
   pub rest : r .failed ≡ false → drop (r .len) exit ≡ drop (r .len) buf
   pub none : r .failed ≡ true → r .len ≡ 0
 
--- behind the bytes counted the buffer is as it was; a read that fails counts none and leaves the whole buffer as it was
+-- after the bytes counted the buffer is as it was; a read that fails counts none and leaves the whole buffer as it was
 pub record Read (r : Input) (buf exit : List ℕ) : Type 0 where
   pub counts : Counts (r .len) exit
   pub rest : drop (r .len) exit ≡ drop (r .len) buf

@@ -48,7 +48,7 @@ fn least(a: usize, b: usize) -> usize
     if a < b { a } else { b }
 }
 
-// One read. Of the bytes behind those counted the system promises nothing.
+// One read. Of the bytes after those counted the system promises nothing.
 fn read_some(fd: i32, bytes: &mut [u8]) -> Input
     ensures { λ r. ⌜ Counts (r .len) (now (bytes .exit)) × (r .len ≤ length (now (bytes .entry))) × (r .failed ≡ true → r .len ≡ 0) ⌝ }
 {
@@ -62,7 +62,7 @@ fn read_some(fd: i32, bytes: &mut [u8]) -> Input
     }
 }
 
-// One piece of the input, by way of an array of its own, so that the bytes behind it stay as they are.
+// One piece of the input, by way of an array of its own, so that the bytes after it stay as they are.
 fn read_piece(fd: i32, buf: &mut [u8]) -> Input
     ensures { λ r. ⌜ Read r (now (buf .entry)) (now (buf .exit)) ⌝ }
 {

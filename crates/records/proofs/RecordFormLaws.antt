@@ -74,7 +74,7 @@ pub key-taken : (r rec : List ℕ) (k : Kind) (b : ℕ) → k ≡ named (kindOf 
 unfolding coreKey
 key-taken r rec k b ek eb v key ev eq = rw (eq, ev, ek, eb)
 
--- ---- what is made of the core's output: the head with another identity, and what stands behind it
+-- ---- what is made of the core's output: the head with another identity, and what stands after it
 
 module _ (b rec id h out exit made : List ℕ) (e : h ≡ rec ! 0 ∷ part 0 3 id ++ part 4 2 rec)
     (ec : exit ≡ take (length out) made ++ drop (length made) out) where

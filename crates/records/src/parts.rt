@@ -37,7 +37,7 @@ pub(crate) fn ring_c(r: &RingBytes) -> [u8; 10]
     part10(&r[..], 26)
 }
 
-// The sealing keys D, with zero bytes behind its ten, O and G.
+// The sealing keys D, with zero bytes after its ten, O and G.
 fn ring_key(under: RingKey, r: &RingBytes) -> [u8; 16]
     ensures { λ k. ⌜ k ≡ part 0 16 (ringKey under (now (r .entry))) ⌝ }
 {

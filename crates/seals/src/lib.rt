@@ -32,7 +32,7 @@ ghost use Rattle.standard.specs.Seals.{ta31Call, ta32Call, ta51Call, ta52Call, 
 // A sealed text's bytes.
 const TEXT: usize = 15;
 
-// A body: the key, and what stands behind it.
+// A body: the key, and what stands after it.
 fn body(k: [u8; 10], x: u8, y: u8) -> [u8; 12]
     ensures { λ r. ⌜ r ≡ part 0 10 k ++ (x ∷ y ∷ []) ⌝ }
 {

@@ -70,11 +70,11 @@ no-fault n g h = first-one (first-fault n g) (record { within = omega arith; bel
 -- ---- the cipher runs (02, 8)
 
 module _ (g l : ℕ → ℕ) where
-  -- a record behind some without a fault is looked at
+  -- a record after some without a fault is looked at
   pub pass-more : (n : ℕ) → ((j : ℕ) → j < n → g j ≡ 0) → firstPass (suc n) g l ≡ firstPass n g l + l n
   pass-more n none = rw (eq-eqb _ _ (no-fault n g none))
 
-  -- a record behind one with a fault is not
+  -- a record after one with a fault is not
   pub pass-stopped : (n i : ℕ) → i < n → ((j : ℕ) → j < i → g j ≡ 0) → (g i ≡ 0 → ⊥) → firstPass n g l ≡ firstPass i g l + l i
   pass-stopped zero i h none f = absurd (omega arith)
   pass-stopped (suc n) i h none f = go (eq-or-lt-of-le (le-of-suc-le-suc h)) (λ k. pass-stopped n i k none f)
@@ -146,7 +146,7 @@ module _ (head n : ℕ) (g : ℕ → ℕ) (written : ℕ) where
       go true false r = refl
       go false t r = refl
 
--- the refusal and the index do not hang on the bytes written
+-- the refusal and the index do not depend on the bytes written
 pub answer-alike : (head n : ℕ) (g : ℕ → ℕ) (v w : ℕ)
     → (answer head n g v .refusal ≡ answer head n g w .refusal) × (answer head n g v .index ≡ answer head n g w .index)
 unfolding answer

@@ -55,7 +55,7 @@ module _ (v : ℕ) (g : ℕ → List ℕ) where
       go (inr l) ih =
           part-left (v * i) v (joined n g) (g n) (omega (arith, joined-length n h′, mul-le-mul-left v l, mul-suc v i)) ∙ ih l
 
-  -- and with something behind them
+  -- and with something after them
   pub joined-front : (n : ℕ) → ((i : ℕ) → i < n → length (g i) ≡ v) → (rest : List ℕ) (i : ℕ) → i < n → part (v * i) v (joined n g ++ rest) ≡ g i
   joined-front n h rest i k =
       part-left (v * i) v (joined n g) rest (omega (arith, joined-length n h, mul-le-mul-left v k, mul-suc v i)) ∙ joined-at n h i k

@@ -82,7 +82,7 @@ or-clear a u = or-same 0 true refl (formOf a .found u) (formOf a .wanted u) (as-
 
 -- ---- the bits of the number (02, 6)
 
--- a number below 2, and twice another behind it
+-- a number below 2, and twice another after it
 bit-first : (b n : ℕ) → b < 2 → bit 0 (b + 2 * n) ≡ b
 unfolding bit
 bit-first b n h = omega arith

@@ -38,7 +38,7 @@ use Rattle.standard.proofs.FirstLaws.{testAt, all-pass, none-fails}
 
 -- ---- one-sided authentication (02, 1)
 
--- what a refused recipe answers hangs on the number alone
+-- what a refused recipe answers depends on the number alone
 ring-same : (r : ℕ) (k k′ s s′ t t′ : List ℕ) → (r ≡ 0 → (k ≡ k′) × (s ≡ s′) × (t ≡ t′)) → ringMade r k s t ≡ ringMade r k′ s′ t′
 ring-same zero k k′ s s′ t t′ h = let e = h refl in rw (e .0, e .1, e .2)
 ring-same (suc r) k k′ s s′ t t′ h = rw (ne-eqb (suc r) 0 (suc-ne-zero r))
@@ -75,7 +75,7 @@ module _ (root rs rso rand1 rand2 c gk : List ℕ) (sides rm km : ℕ) (z : firs
   side2 : let o = core (ta21 root rs) rand2 in ta12Call (ta21 root rs) rand2 rm km ≡ record { refusal = 0; response = chosen rm o; key = chosen km o }
   side2 = ta12-passes (ta21 root rs) rand2 rm km (core-length root _) (lengths-split root rs rso rand1 rand2 c gk (passed 0) .4) masks
 
-  -- the other keys behind D
+  -- the other keys after D
   behind : (d : List ℕ) → d ++ part 0 16 (ta41 root rso) ++ part 0 10 c ++ tb7 gk ≡ d ++ ta41 root rso ++ c ++ tb7 gk
   behind d =
       ap₂ (λ (o k : List ℕ). d ++ o ++ k ++ tb7 gk) (core-spelled root rso)
@@ -285,8 +285,13 @@ same-fault r t = rw (flag-same (recordKind t .algorithm) (opened (form (recordKi
 pub same-books : SameBooks
 unfolding openBook
 same-books r s out =
-    ap (λ (g : List ℕ → ℕ). bookCall (record { size = sealedSize; outputSize = plainSize;
-        fault = g; inspection = inspectionRuns; convert = openRecord r }) r s out)
+    ap (λ (g : List ℕ → ℕ). bookCall (record {
+      size = sealedSize;
+      outputSize = plainSize;
+      fault = g;
+      inspection = inspectionRuns;
+      convert = openRecord r;
+    }) r s out)
     (fun-ext (same-fault r))
 
 -- ---- plainlist's checks (01)

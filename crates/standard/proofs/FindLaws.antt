@@ -139,7 +139,7 @@ finds-tb3 x y w d e l k =
     (λ v h. ap (field 0 w) (unmixed 8 16 x (tb1 v w) (omega arith)) ∙ value-back v w h l k) y _ _
     (rw (eq-eqb _ _ d, eq-eqb _ _ e, le-leb _ _ l, le-leb _ _ k)) (λ z. rw z)
 
--- a number within ten bytes that were mixed into a key, others behind it
+-- a number within ten bytes that were mixed into a key, others after it
 mixed-back : (ck : List ℕ) (a acc w v : ℕ) (fs : List (ℕ × ℕ)) → Fit ((w, v) ∷ fs) → a + w ≤ 64 → 80 ≡ a + w + widths fs
     → field a w (xors 8 ck (xors 10 ck (bytesOf 10 (joinOn acc ((w, v) ∷ fs))))) ≡ v
 mixed-back ck a acc w v fs h l e =

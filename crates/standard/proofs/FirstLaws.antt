@@ -16,7 +16,7 @@ abbrev pub numbered : List (Bool × ℕ) → Bool
 numbered [] = true
 numbered (t ∷ ts) = not (eqb (t .1) 0) && numbered ts
 
--- test i of a list; behind the last, all pass
+-- test i of a list; after the last, all pass
 abbrev pub testAt : List (Bool × ℕ) → ℕ → Bool
 testAt [] i = true
 testAt (t ∷ ts) zero = t .0

@@ -1,4 +1,4 @@
--- The lineage sheet: a value is that of the record's operation on its parents' values, and hangs on its ancestry alone.
+-- The lineage sheet: a value is that of the record's operation on its parents' values, and depends on its ancestry alone.
 -- Assumes nothing.
 use mathlib.Core.Bool.{Bool, true, false}
 use mathlib.Core.List.{List, _∷_, _++_}

@@ -45,15 +45,15 @@ x16Groups = 4 ∷ 4 ∷ 4 ∷ []
 
 -- ---- expansions (5.4)
 
--- EXP1: behind each pair stands its ⊕. 10 bytes become 15
+-- EXP1: after each pair stands its ⊕. 10 bytes become 15
 abbrev pub exp1 : List ℕ → List ℕ
 exp1 b = grouped exp1Groups 0 b
 
--- EXP2: EXP1, and behind it the sum of the five inserted bytes, modulo 256. 10 bytes become 16
+-- EXP2: EXP1, and after it the sum of the five inserted bytes, modulo 256. 10 bytes become 16
 unfoldable pub exp2 : List ℕ → List ℕ
 exp2 b = exp1 b ++ (xorOf 0 2 b ⊞ xorOf 2 2 b ⊞ xorOf 4 2 b ⊞ xorOf 6 2 b ⊞ xorOf 8 2 b) ∷ []
 
--- EXP3: a pair, then three bytes three times, and behind each group its ⊕. 11 bytes become 15
+-- EXP3: a pair, then three bytes three times, and after each group its ⊕. 11 bytes become 15
 abbrev pub exp3 : List ℕ → List ℕ
 exp3 b = grouped exp3Groups 0 b
 
@@ -67,7 +67,7 @@ exp4 b =
     (sumAt b 0 ⊕ sumAt b 2 ⊕ sumAt b 4 ⊕ sumAt b 6 ⊕ sumAt b 8)
     ∷ sumAt b 0 ∷ part 0 2 b ++ sumAt b 2 ∷ part 2 2 b ++ sumAt b 4 ∷ part 4 2 b ++ sumAt b 6 ∷ part 6 2 b ++ sumAt b 8 ∷ part 8 2 b
 
--- X16: behind each four bytes stands their ⊕, and at the end a zero byte. 12 bytes become 16
+-- X16: after each four bytes stands their ⊕, and at the end a zero byte. 12 bytes become 16
 abbrev pub x16 : List ℕ → List ℕ
 x16 b = grouped x16Groups 0 b ++ 0 ∷ []
 

@@ -91,7 +91,7 @@ pub record ChecksBits : Type 0 where
   pub bits : (k : Kind) (u : List ℕ) (i : ℕ) → i < length (checks (form k) u) → (bit i (failed (form k) u) ≡ 1) ↔ (checks (form k) u ! i ≡ 0 → ⊥)
   pub below : (k : Kind) (u : List ℕ) → failed (form k) u < 2 ^ length (checks (form k) u)
 
--- the sizes of the groups behind which an algorithm inserts their ⊕: EXP1, EXP3, and X16 twice
+-- the sizes of the groups after which an algorithm inserts their ⊕: EXP1, EXP3, and X16 twice
 abbrev pub groupsOf : Algorithm → List ℕ
 groupsOf Ta31 = exp1Groups
 groupsOf Ta51 = exp3Groups

@@ -36,12 +36,12 @@ rotations = table 16 (λ i. turn (suc i))
 
 -- ---- the text
 
--- entries, with a space behind each
+-- entries, with a space after each
 unfoldable pub spaced : List ℕ → List ℕ
 spaced [] = []
 spaced (x ∷ xs) = (hexByte x ++ ascii " ") ++ spaced xs
 
--- a line of sixteen entries: a space behind each but the last
+-- a line of sixteen entries: a space after each but the last
 unfoldable pub tableLine : List ℕ → List ℕ
 tableLine t = spaced (part 0 15 t) ++ hexByte (t ! 15) ++ ascii "\n"
 

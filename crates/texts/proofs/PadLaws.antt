@@ -1,4 +1,4 @@
--- The bit of a check; checks that pass, behind those of an algorithm, change neither their or nor their number.
+-- The bit of a check; checks that pass, after those of an algorithm, change neither their or nor their number.
 -- Assumes nothing.
 use mathlib.Core.Bool.{Bool, true, false}
 use mathlib.Core.List.{List}

@@ -1,6 +1,6 @@
 -- The core of a sealed text, and what opening one gives.
 -- Assumes nothing.
-use mathlib.Core.List.{List, [], _∷_}
+use mathlib.Core.List.{List, []}
 use mathlib.Core.Path.{_≡_}
 use Prim.Native.Nat.{ℕ}
 use lib.ListN.{getD}
@@ -20,10 +20,6 @@ sealCore c = without8 (bl1 (c .key) (c .input))
 
 abbrev pub openCore : CoreInput → List ℕ
 openCore c = bl2 (c .key) (c .input)
-
--- the array that has g j in lane j
-abbrev pub lanes : {A : Type 0} → (ℕ → A) → List A
-lanes g = g 0 ∷ g 1 ∷ g 2 ∷ g 3 ∷ []
 
 -- of four cores, what the one in lane j takes
 abbrev pub inputLane : List CoreInput → ℕ → CoreInput

@@ -3,14 +3,15 @@ use cores::CoreOutput15;
 use cores::CoreOutput16;
 use cores::bl1;
 use cores::bl2;
-use cores_four::Strings16;
-use cores_four::bl1_four;
-use cores_four::bl2_four;
+use cores_x4::Strings16;
+use cores_x4::bl1_x4;
+use cores_x4::bl2_x4;
 ghost use mathlib.Core.Path.{_≡_};
 ghost use Rattle.cores.specs.CoreOutputs.{counted15};
-ghost use Rattle.cores_four.specs.Lanes.{lane16};
+ghost use Rattle.cores_x4.specs.Lanes.{lane16};
 ghost use Rattle.standard.specs.Seals.{without8 as without8Of, with8 as with8Of};
-ghost use Rattle.texts.specs.OpenedTexts.{lanes, inputLane, shortened, sealCore, openCore};
+ghost use Rattle.hurdle.specs.Lanes.{lanes};
+ghost use Rattle.texts.specs.OpenedTexts.{inputLane, shortened, sealCore, openCore};
 
 // A core's key, and its input.
 pub struct CoreInput {
@@ -137,11 +138,11 @@ fn without8_x4(o: [CoreOutput16; 4]) -> [CoreOutput15; 4]
 pub fn seal_core_x4(c: [CoreInput; 4]) -> [CoreOutput15; 4]
     ensures { λ o. ⌜ o ≡ lanes (λ j. counted15 (sealCore (inputLane c j))) ⌝ }
 {
-    without8_x4(bl1_four(keys(c), inputs(c)))
+    without8_x4(bl1_x4(keys(c), inputs(c)))
 }
 
 pub fn open_core_x4(c: [CoreInput; 4]) -> [CoreOutput15; 4]
     ensures { λ o. ⌜ o ≡ lanes (λ j. counted15 (openCore (inputLane c j))) ⌝ }
 {
-    bl2_four(keys(c), inputs(c))
+    bl2_x4(keys(c), inputs(c))
 }

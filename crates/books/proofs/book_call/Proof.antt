@@ -59,10 +59,11 @@ write-requires c κs =
     let size = lens .before .before in
     let x = size .before .before .before .before .before .args in
     let e = rw (size .size .ensures, lens .before .output-size .ensures) at (lens .lengths-and-output .ensures) in
-    rw (size .size .ensures)
-    (records-within (sizeOf (x .direction)) (length (now (x .book))),
-    room (now (x .ring)) (x .direction) (now (x .book)) (now (x .out)) (size .before .if1 .left) _ e
-    (c .before .before .before .before .before .before .before .if2 .left))
+    rw (size .size .ensures) (
+      records-within (sizeOf (x .direction)) (length (now (x .book))),
+      room (now (x .ring)) (x .direction) (now (x .book)) (now (x .out)) (size .before .if1 .left) _ e
+          (c .before .before .before .before .before .before .before .if2 .left),
+    )
 
 mul-t14 : tie.Need-mul-t14
 mul-t14 c =
@@ -86,9 +87,12 @@ add-t20 c =
     let within : sizeOf (x .direction) * (length (now (x .book)) / size .size .result) ≤ length (now (x .book)) =
     rw (size .size .ensures) (records-within (sizeOf (x .direction)) (length (now (x .book)))) in
     rw (found .scan .ensures .1, c .before .before .before .write .ensures .1)
-    (omega (arith, start .good,
-    both-fit (found .before .before .ring-bytes .result) (x .direction) (now (x .book)) (length (now (x .book)) / size .size .result)
-    (length (now (x .book))) within))
+    (omega (
+      arith,
+      start .good,
+      both-fit (found .before .before .ring-bytes .result) (x .direction) (now (x .book)) (length (now (x .book)) / size .size .result)
+          (length (now (x .book))) within,
+    ))
 
 returns-4 : tie.Need-returns-4
 returns-4 c =

@@ -37,10 +37,11 @@ returns-3 c =
 write-requires : tie.Need-write-requires
 write-requires c κs =
     let lens = c .before .before .before .before .before .before .before in
-    let x = lens .before .before .before .before .before .args in
-    (records-within challengeSize (length (now (x .challenges))),
-    room (now (x .session-key)) (now (x .challenges)) (x .response-mask) (x .key-mask) (now (x .out))
-    (lens .before .if1 .left) _ (lens .lengths-and-output .ensures) (c .before .before .before .before .before .before .if2 .left))
+    let x = lens .before .before .before .before .before .args in (
+      records-within challengeSize (length (now (x .challenges))),
+      room (now (x .session-key)) (now (x .challenges)) (x .response-mask) (x .key-mask) (now (x .out))
+          (lens .before .if1 .left) _ (lens .lengths-and-output .ensures) (c .before .before .before .before .before .before .if2 .left),
+    )
 
 returns-4 : tie.Need-returns-4
 returns-4 c =

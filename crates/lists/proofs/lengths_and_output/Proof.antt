@@ -26,15 +26,19 @@ returns-2 : tie.Need-returns-2
 returns-2 c =
     let tested = c .before .before .before in
     let x = tested .before .args in
-    rw (← output-tested (x .size) (x .list) (x .output-size) (x .out) _ (tested .lengths .ensures) (c .before .before .if1 .left),
-    lt-leb _ _ (rw (c .before .count .ensures) at (c .if2 .taken)))
+    rw (
+      ← output-tested (x .size) (x .list) (x .output-size) (x .out) _ (tested .lengths .ensures) (c .before .before .if1 .left),
+      lt-leb _ _ (rw (c .before .count .ensures) at (c .if2 .taken)),
+    )
 
 returns-3 : tie.Need-returns-3
 returns-3 c =
     let tested = c .before .before .before in
     let x = tested .before .args in
-    rw (← output-tested (x .size) (x .list) (x .output-size) (x .out) _ (tested .lengths .ensures) (c .before .before .if1 .left),
-    le-leb _ _ (rw (c .before .count .ensures) at (c .if2 .left)))
+    rw (
+      ← output-tested (x .size) (x .list) (x .output-size) (x .out) _ (tested .lengths .ensures) (c .before .before .if1 .left),
+      le-leb _ _ (rw (c .before .count .ensures) at (c .if2 .left)),
+    )
 
 pub lengths-and-output-spec : {M : Type 1} → statement M
 lengths-and-output-spec =

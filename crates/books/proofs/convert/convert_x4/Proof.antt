@@ -7,7 +7,7 @@ use borrow.Author.Needs.{needs}
 use Rattle.books.proofs.DirectionLaws.{cores-by}
 use Rattle.books.specs.BothDirections.{sizeOf, outputSizeOf, madeOf}
 use Rattle.cores.specs.declared.CoreOutput15.{CoreOutput15}
-use Rattle.cores_four.specs.Lanes.{lane15}
+use Rattle.cores_x4.specs.Lanes.{lane15}
 use Rattle.lists.specs.Walks.{after, replaceX4}
 use Rattle.standard.specs.Lists.{recordAt}
 use Rattle.books.proofs.convert.convert_x4.Statement.{statement}

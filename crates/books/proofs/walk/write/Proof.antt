@@ -29,8 +29,13 @@ add-result : tie.Need-add-result
 add-result c =
     let wrote = c .before .before in
     let start = wrote .before .before .before .before .before .before .before in
-    omega (arith, one-run (wrote .before .before .before .identity-strings-of .ensures), wrote .write-with .ensures .1,
-    runs-fit (start .args .direction) (start .args .n) _ (start .pre .0), start .good)
+    omega (
+      arith,
+      one-run (wrote .before .before .before .identity-strings-of .ensures),
+      wrote .write-with .ensures .1,
+      runs-fit (start .args .direction) (start .args .n) _ (start .pre .0),
+      start .good,
+    )
 
 returns-2 : tie.Need-returns-2
 returns-2 c =

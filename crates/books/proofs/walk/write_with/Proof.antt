@@ -51,8 +51,14 @@ add-runs c =
     let made = c .before .before in
     let turn = made .before .before in
     let start = turn .before .before .before .before in
-    omega (arith, made .convert-x4 .ensures .1, turn .before .loop .inv .2, turn .loop-test .taken,
-    runs-fit (start .args .direction) (start .args .n) _ (start .pre .0), start .good)
+    omega (
+      arith,
+      made .convert-x4 .ensures .1,
+      turn .before .loop .inv .2,
+      turn .loop-test .taken,
+      runs-fit (start .args .direction) (start .args .n) _ (start .pre .0),
+      start .good,
+    )
 
 add-i : tie.Need-add-i Inv-loop μ-loop Inv-loop2 μ-loop2
 add-i c = let turn = c .before .before .before .before in omega (arith, turn .before .loop .inv .0, turn .loop-test .taken)
@@ -92,8 +98,14 @@ add-runs-2 c =
     let made = c .before .before in
     let turn = made .before .before in
     let start = turn .before .before .before .before .before .before in
-    omega (arith, made .convert-one .ensures .1, turn .before .loop2 .inv .2, turn .loop2-test .taken,
-    runs-fit (start .args .direction) (start .args .n) _ (start .pre .0), start .good)
+    omega (
+      arith,
+      made .convert-one .ensures .1,
+      turn .before .loop2 .inv .2,
+      turn .loop2-test .taken,
+      runs-fit (start .args .direction) (start .args .n) _ (start .pre .0),
+      start .good,
+    )
 
 add-i-2 : tie.Need-add-i-2 Inv-loop μ-loop Inv-loop2 μ-loop2
 add-i-2 c = let turn = c .before .before .before .before in omega (arith, turn .before .loop2 .inv .0, turn .loop2-test .taken)

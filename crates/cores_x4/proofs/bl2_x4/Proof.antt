@@ -1,7 +1,7 @@
 use borrow.Author.Needs.{needs}
 use Rattle.cores.proofs.CoreSteps.{bl2-under}
-use Rattle.cores_four.proofs.bl2_four.Statement.{statement}
-use Rattle.cores_four.proofs.bl2_four.Tie as tie
+use Rattle.cores_x4.proofs.bl2_x4.Statement.{statement}
+use Rattle.cores_x4.proofs.bl2_x4.Tie as tie
 
 returns : tie.Need-returns
 returns c =
@@ -10,10 +10,10 @@ returns c =
     let second = third .before in
     let first = second .before in
     let x = first .before .before .before .before .before .args in
-    rw (c .bl2-four-with .ensures, bl2-under (x .k .a) (x .y .a) (first .schedule .ensures), bl2-under (x .k .b) (x .y .b) (second .schedule2 .ensures), bl2-under (x .k .c) (x .y .c) (third .schedule3 .ensures), bl2-under (x .k .d) (x .y .d) (fourth .schedule4 .ensures))
+    rw (c .bl2-with-x4 .ensures, bl2-under (x .k .a) (x .y .a) (first .schedule .ensures), bl2-under (x .k .b) (x .y .b) (second .schedule2 .ensures), bl2-under (x .k .c) (x .y .c) (third .schedule3 .ensures), bl2-under (x .k .d) (x .y .d) (fourth .schedule4 .ensures))
 
-pub bl2-four-spec : {M : Type 1} → statement M
-bl2-four-spec =
+pub bl2-x4-spec : {M : Type 1} → statement M
+bl2-x4-spec =
     tie.close
     (tie.spec
     (λ c κs. search needs)

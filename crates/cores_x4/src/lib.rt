@@ -1,10 +1,10 @@
 // BL1 and BL2 of four strings side by side, one to a lane, each lane under a key of its own.
 use cores::CoreOutput15;
 use cores::CoreOutput16;
+use cores::bl1_output;
 use cores::bl1_right_input;
 use cores::bl2_left_input;
 use cores::bl2_output;
-use cores::bl1_output;
 use cores::left;
 use cores::right;
 use hurdle::Blocks;
@@ -80,7 +80,7 @@ fn joins(l: Blocks, r: Blocks) -> [CoreOutput16; 4]
 }
 
 // BL1 in each lane, under round keys that were laid out before.
-pub fn bl1_four_with(
+pub fn bl1_with_x4(
     ka: &[u8; 192],
     kb: &[u8; 192],
     kc: &[u8; 192],
@@ -95,7 +95,7 @@ pub fn bl1_four_with(
     joins(l, r)
 }
 
-pub fn bl1_four(k: Strings16, x: Strings16) -> [CoreOutput16; 4]
+pub fn bl1_x4(k: Strings16, x: Strings16) -> [CoreOutput16; 4]
     ensures { λ o. ⌜ o ≡ counted16 (bl1 (k .a) (x .a)) ∷ counted16 (bl1 (k .b) (x .b)) ∷ counted16 (bl1 (k .c) (x .c)) ∷ counted16 (bl1 (k .d) (x .d)) ∷ [] ⌝ }
 {
     let a = k.a;
@@ -106,7 +106,7 @@ pub fn bl1_four(k: Strings16, x: Strings16) -> [CoreOutput16; 4]
     let kb = schedule(b);
     let kc = schedule(c);
     let kd = schedule(d);
-    bl1_four_with(&ka, &kb, &kc, &kd, x)
+    bl1_with_x4(&ka, &kb, &kc, &kd, x)
 }
 
 fn rights(y: Strings16) -> Blocks
@@ -167,7 +167,7 @@ fn joins7(l: Blocks, r: Blocks, y: Strings16) -> [CoreOutput15; 4]
     ]
 }
 
-fn bl2_four_with(
+fn bl2_with_x4(
     ka: &[u8; 192],
     kb: &[u8; 192],
     kc: &[u8; 192],
@@ -182,7 +182,7 @@ fn bl2_four_with(
     joins7(l, r, y)
 }
 
-pub fn bl2_four(k: Strings16, y: Strings16) -> [CoreOutput15; 4]
+pub fn bl2_x4(k: Strings16, y: Strings16) -> [CoreOutput15; 4]
     ensures { λ o. ⌜ o ≡ counted15 (bl2 (k .a) (y .a)) ∷ counted15 (bl2 (k .b) (y .b)) ∷ counted15 (bl2 (k .c) (y .c)) ∷ counted15 (bl2 (k .d) (y .d)) ∷ [] ⌝ }
 {
     let a = k.a;
@@ -193,5 +193,5 @@ pub fn bl2_four(k: Strings16, y: Strings16) -> [CoreOutput15; 4]
     let kb = schedule(b);
     let kc = schedule(c);
     let kd = schedule(d);
-    bl2_four_with(&ka, &kb, &kc, &kd, y)
+    bl2_with_x4(&ka, &kb, &kc, &kd, y)
 }

@@ -1,7 +1,7 @@
 use borrow.Author.Needs.{needs}
 use Rattle.cores.proofs.CoreSteps.{bl1-under}
-use Rattle.cores_four.proofs.bl1_four.Statement.{statement}
-use Rattle.cores_four.proofs.bl1_four.Tie as tie
+use Rattle.cores_x4.proofs.bl1_x4.Statement.{statement}
+use Rattle.cores_x4.proofs.bl1_x4.Tie as tie
 
 returns : tie.Need-returns
 returns c =
@@ -10,10 +10,10 @@ returns c =
     let second = third .before in
     let first = second .before in
     let x = first .before .before .before .before .before .args in
-    rw (c .bl1-four-with .ensures, bl1-under (x .k .a) (x .x .a) (first .schedule .ensures), bl1-under (x .k .b) (x .x .b) (second .schedule2 .ensures), bl1-under (x .k .c) (x .x .c) (third .schedule3 .ensures), bl1-under (x .k .d) (x .x .d) (fourth .schedule4 .ensures))
+    rw (c .bl1-with-x4 .ensures, bl1-under (x .k .a) (x .x .a) (first .schedule .ensures), bl1-under (x .k .b) (x .x .b) (second .schedule2 .ensures), bl1-under (x .k .c) (x .x .c) (third .schedule3 .ensures), bl1-under (x .k .d) (x .x .d) (fourth .schedule4 .ensures))
 
-pub bl1-four-spec : {M : Type 1} → statement M
-bl1-four-spec =
+pub bl1-x4-spec : {M : Type 1} → statement M
+bl1-x4-spec =
     tie.close
     (tie.spec
     (λ c κs. search needs)

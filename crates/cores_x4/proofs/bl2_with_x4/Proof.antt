@@ -3,9 +3,9 @@ use denote.Ref.{now}
 use borrow.Author.Needs.{needs}
 use Rattle.cores.proofs.CoreSteps.{bl2-steps}
 use Rattle.cores.specs.CoreOutputs.{counted15}
-use Rattle.cores_four.proofs.LaneLaws.{four-same}
-use Rattle.cores_four.proofs.bl2_four_with.Statement.{statement}
-use Rattle.cores_four.proofs.bl2_four_with.Tie as tie
+use Rattle.cores_x4.proofs.LaneLaws.{four-same}
+use Rattle.cores_x4.proofs.bl2_with_x4.Statement.{statement}
+use Rattle.cores_x4.proofs.bl2_with_x4.Tie as tie
 
 returns : tie.Need-returns
 returns c =
@@ -20,8 +20,8 @@ returns c =
     ∙ four-same counted15 (bl2-steps (now (x .ka)) (x .y .a) (w .0) (p .0) (z .0) (q .0)) (bl2-steps (now (x .kb)) (x .y .b) (w .1) (p .1) (z .1) (q .1))
     (bl2-steps (now (x .kc)) (x .y .c) (w .2) (p .2) (z .2) (q .2)) (bl2-steps (now (x .kd)) (x .y .d) (w .3) (p .3) (z .3) (q .3))
 
-pub bl2-four-with-spec : {M : Type 1} → statement M
-bl2-four-with-spec =
+pub bl2-with-x4-spec : {M : Type 1} → statement M
+bl2-with-x4-spec =
     tie.close
     (tie.spec
     (λ c κs. search needs)
