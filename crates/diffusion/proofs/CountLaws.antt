@@ -11,6 +11,7 @@ use lib.Count.{ones, ones-cat}
 use lib.ListN.{length, length-append}
 use lib.Pow.{shl-exact}
 use borrow.Author.Tests.{ne-eqb}
+use Rattle.hurdle.specs.Lanes.{lane}
 use Rattle.standard.proofs.BytesLaws.{table-same, table-add}
 use Rattle.standard.proofs.DiffusionLaws.{length-changes, least-from}
 use Rattle.standard.specs.Bytes.{_!_, table, part, xors}
@@ -38,6 +39,10 @@ pub changed-is : (keys block : List ℕ) (i : ℕ) {output flip other : List ℕ
     → other ≡ encryptWith keys flip → r ≡ bitsSet (xors 8 output other) → r ≡ changeWith keys block i
 unfolding changeWith
 changed-is keys block i e f g h = h ∙ ap₂ (λ (u v : List ℕ). bitsSet (xors 8 u v)) e (g ∙ ap (λ (b : List ℕ). encryptWith keys b) f)
+
+-- equal in each lane
+pub lane-same : (j : ℕ) {xs ys : List (List ℕ)} → xs ≡ ys → lane xs j ≡ lane ys j
+lane-same j e = ap (λ (l : List (List ℕ)). lane l j) e
 
 -- under a key's round keys
 same-change : (k b : List ℕ) (i : ℕ) → changeWith (schedule k) b i ≡ change k b i

@@ -2,9 +2,8 @@
 // round keys are made once for a record, and the cipher takes four flips side by side.
 use arrays::array8;
 use arrays::array16;
-use hurdle::Blocks;
 use hurdle::encrypt_with;
-use hurdle::encrypt4_with;
+use hurdle::encrypt_with_x4;
 use hurdle::schedule;
 use lists::lengths;
 use standard::DIFFUSION_RECORD;
@@ -14,6 +13,7 @@ ghost use mathlib.Core.Path.{_≡_};
 ghost use Prim.Native.Nat.{_+_, _*_, _<_, _≤_, min, max};
 ghost use lib.Count.{ones};
 ghost use lib.ListN.{length};
+ghost use Rattle.hurdle.specs.Lanes.{lane};
 ghost use Rattle.standard.specs.Bytes.{table, xors, bytesOf};
 ghost use Rattle.standard.specs.Diffusion.{flipped, bitsSet, recordChanges, diffusionCall};
 ghost use Rattle.standard.specs.Hurdle.{encryptWith};
@@ -69,33 +69,30 @@ struct Changes {
 }
 
 // The flips of four bits, from bit i on.
-fn flips(block: [u8; 8], i: u32) -> Blocks
+fn flips(block: [u8; 8], i: u32) -> [[u8; 8]; 4]
     requires { ⌜ i + 4 ≤ 64 ⌝ }
-    ensures { λ x. ⌜ (x .a ≡ flipped i block)
-        × (x .b ≡ flipped (i + 1) block)
-        × (x .c ≡ flipped (i + 2) block)
-        × (x .d ≡ flipped (i + 3) block) ⌝ }
+    ensures { λ x. ⌜ x ≡ flipped i block ∷ flipped (i + 1) block ∷ flipped (i + 2) block ∷ flipped (i + 3) block ∷ [] ⌝ }
 {
-    Blocks {
-        a: flip(block, i),
-        b: flip(block, i + 1),
-        c: flip(block, i + 2),
-        d: flip(block, i + 3),
-    }
+    [
+        flip(block, i),
+        flip(block, i + 1),
+        flip(block, i + 2),
+        flip(block, i + 3),
+    ]
 }
 
 // How many bits of each lane differ from those of the output.
-fn differences(output: [u8; 8], y: Blocks) -> Changes
-    ensures { λ r. ⌜ (r .a ≡ bitsSet (xors 8 output (y .a)))
-        × (r .b ≡ bitsSet (xors 8 output (y .b)))
-        × (r .c ≡ bitsSet (xors 8 output (y .c)))
-        × (r .d ≡ bitsSet (xors 8 output (y .d))) ⌝ }
+fn differences(output: [u8; 8], y: [[u8; 8]; 4]) -> Changes
+    ensures { λ r. ⌜ (r .a ≡ bitsSet (xors 8 output (lane y 0)))
+        × (r .b ≡ bitsSet (xors 8 output (lane y 1)))
+        × (r .c ≡ bitsSet (xors 8 output (lane y 2)))
+        × (r .d ≡ bitsSet (xors 8 output (lane y 3))) ⌝ }
     ensures { λ r. ⌜ (r .a ≤ 64) × (r .b ≤ 64) × (r .c ≤ 64) × (r .d ≤ 64) ⌝ }
 {
-    let ya = y.a;
-    let yb = y.b;
-    let yc = y.c;
-    let yd = y.d;
+    let ya = y[0];
+    let yb = y[1];
+    let yc = y[2];
+    let yd = y[3];
     Changes {
         a: changed(output, ya),
         b: changed(output, yb),
@@ -116,7 +113,7 @@ fn four_changes(keys: &[u8; 192], block: [u8; 8], output: [u8; 8], i: u32) -> Ch
 {
     differences(
         output,
-        encrypt4_with(keys, keys, keys, keys, flips(block, i)),
+        encrypt_with_x4(keys, keys, keys, keys, flips(block, i)),
     )
 }
 
@@ -156,7 +153,8 @@ fn counted(t: Figures, change: u32) -> Figures
 fn counted4(t: Figures, changes: Changes) -> Figures
     requires { ⌜ t .total < 1073741824 ⌝ }
     requires { ⌜ (changes .a ≤ 64) × (changes .b ≤ 64) × (changes .c ≤ 64) × (changes .d ≤ 64) ⌝ }
-    ensures { λ r. ⌜ Counted (t .total) (t .least) (t .greatest) (changes .a ∷ changes .b ∷ changes .c ∷ changes .d ∷ []) (r .total) (r .least) (r .greatest) ⌝ }
+    ensures { λ r. ⌜ Counted (t .total) (t .least) (t .greatest) (changes .a ∷ changes .b ∷ changes .c ∷ changes .d ∷ [])
+        (r .total) (r .least) (r .greatest) ⌝ }
 {
     let a = counted(t, changes.a);
     let b = counted(a, changes.b);

@@ -1,11 +1,13 @@
 -- What the steps of a round compute, on words of 32 bits, on their way to the definitions.
 -- Assumes nothing.
 use mathlib.Core.Bool.{Bool, true, false, _&&_}
-use mathlib.Core.List.{List, [], _∷_}
+use mathlib.Core.List.{List, [], _∷_, map}
 use mathlib.Core.Path.{_≡_}
-use Prim.Native.Nat.{ℕ, zero, suc, _+_, _-_, _*_, _/_, _%_, _^_, _≤_}
-use Rattle.standard.specs.Bytes.{_!_, byte, bit, _⊕_, _⊞_, part, xors}
-use Rattle.standard.specs.Hurdle.{E, ofBits, Halves, rounds, crypt, schedule, roundKey}
+use Prim.Native.Nat.{ℕ, zero, suc, _+_, _-_, _*_, _/_, _%_, _^_}
+use lib.ListN.{getD}
+use Rattle.hurdle.specs.declared.round.Halves.{Halves as Words}
+use Rattle.standard.specs.Bytes.{_!_, byte, bit, _⊕_, _⊞_, table, part}
+use Rattle.standard.specs.Hurdle.{S, E, Halves, crypt, schedule, roundKey}
 use Rattle.standard.specs.Refusals.{wrongLength, hasLength, first, answer8}
 use Rattle.standard.specs.declared.Bytes8.{Bytes8}
 
@@ -13,69 +15,71 @@ use Rattle.standard.specs.declared.Bytes8.{Bytes8}
 abbrev pub bytes4 : ℕ → List ℕ
 bytes4 w = w / 2 ^ 24 % 256 ∷ w / 2 ^ 16 % 256 ∷ w / 2 ^ 8 % 256 ∷ w % 256 ∷ []
 
--- T, f and a round over a table s in the place of S: the code takes a copy of S, made once for a block or for four side by side
-unfoldable pub TOver : (s x k : List ℕ) → ℕ → ℕ
-TOver s x k zero = s ! (E x 0 ⊞ byte 12 k 0)
-TOver s x k (suc j) = s ! ((E x (suc j) ⊞ byte 12 k (suc j)) ⊕ TOver s x k j)
-
-abbrev pub YOver : (s x k : List ℕ) → ℕ → ℕ
-YOver s x k n = ofBits (λ m. bit n (TOver s x k (m + 4)))
-
-unfoldable pub fOver : (s x k : List ℕ) → List ℕ
-fOver s x k = YOver s x k 3 ∷ YOver s x k 2 ∷ YOver s x k 1 ∷ YOver s x k 0 ∷ []
-
-unfoldable pub roundOver : (s k : List ℕ) → Halves → Halves
-roundOver s k h = (h .1, xors 4 (h .0) (fOver s (h .1) k))
-
--- four links after t, from the bytes of x that e₀ to e₃ number and those of k from index `at` on, the last one first
-pub record Linked (s : List ℕ) (t : ℕ) (x : List ℕ) (e₀ e₁ e₂ e₃ : ℕ) (k : List ℕ) (at a b c d : ℕ) : Type 0 where
-  pub first : a ≡ s ! ((byte 4 x e₀ ⊞ k ! (at + 3)) ⊕ t)
-  pub second : b ≡ s ! ((byte 4 x e₁ ⊞ k ! (at + 2)) ⊕ a)
-  pub third : c ≡ s ! ((byte 4 x e₂ ⊞ k ! (at + 1)) ⊕ b)
-  pub fourth : d ≡ s ! ((byte 4 x e₃ ⊞ k ! at) ⊕ c)
-
--- four bytes of the chain, from Tj on
-pub record Four (s x k : List ℕ) (j a b c d : ℕ) : Type 0 where
-  pub first : a ≡ TOver s x k j
-  pub second : b ≡ TOver s x k (suc j)
-  pub third : c ≡ TOver s x k (suc (suc j))
-  pub fourth : d ≡ TOver s x k (suc (suc (suc j)))
-
--- bit n of t is the lowest bit of byte n of r
-pub record Spread (t r : ℕ) : Type 0 where
-  pub is : r ≡ bit 0 t + 256 * bit 1 t + 65536 * bit 2 t + 16777216 * bit 3 t
-  pub most : r ≤ 16843009
-
--- bit n of four bytes
-abbrev pub nibble : ℕ → ℕ → ℕ → ℕ → ℕ → ℕ
-nibble n a b c d = bit n a + 2 * bit n b + 4 * bit n c + 8 * bit n d
-
-pub record Nibbles (a b c d r : ℕ) : Type 0 where
-  pub is : r ≡ nibble 0 a b c d + 256 * nibble 1 a b c d + 65536 * nibble 2 a b c d + 16777216 * nibble 3 a b c d
-  pub most : r ≤ 15 * 16843009
-
--- bit n of eight bytes
-abbrev pub gathered : ℕ → ℕ → ℕ → ℕ → ℕ → ℕ → ℕ → ℕ → ℕ → ℕ
-gathered n a b c d e f g h = nibble n a b c d + 16 * nibble n e f g h
-
-pub record Gathered (a b c d e f g h y : ℕ) : Type 0 where
-  pub is : y ≡ gathered 0 a b c d e f g h + 256 * gathered 1 a b c d e f g h + 65536 * gathered 2 a b c d e f g h + 16777216 * gathered 3 a b c d e f g h
-
--- the words l and r are the halves of a block
-pub record HalvesOf (b : List ℕ) (l r : ℕ) : Type 0 where
-  pub left : bytes4 l ≡ part 0 4 b
-  pub right : bytes4 r ≡ part 4 4 b
-
 -- the place of the round key that round i takes
 abbrev pub place : Bool → ℕ → ℕ
 place false i = i
 place true i = 15 - i
 
+-- ---- f over tables s and w in the places of S and of its spread bits: the code takes copies, made once for a block or for four side by side
+
+-- the index in s of link j, of those after the byte t: each takes s at the index before
+abbrev pub linked : (s : List ℕ) (t : ℕ) (e k : ℕ → ℕ) → ℕ → ℕ
+linked s t e k zero = (e 0 ⊞ k 0) ⊕ t
+linked s t e k (suc j) = (e (suc j) ⊞ k (suc j)) ⊕ s ! linked s t e k j
+
+-- the indexes of links n to n + 3 of f's chain, after the byte t
+unfoldable pub linksOver : (s : List ℕ) (t : ℕ) (x k : List ℕ) → ℕ → List ℕ
+linksOver s t x k n = table 4 (linked s t (λ j. E x (n + j)) (λ j. byte 12 k (n + j)))
+
+-- the sum of w at four indexes, each one bit further left
+abbrev pub nibblesOver : (w i : List ℕ) → ℕ
+nibblesOver w i = w ! (i ! 0) + 2 * w ! (i ! 1) + 4 * w ! (i ! 2) + 8 * w ! (i ! 3)
+
+-- the same of eight, as a word
+abbrev pub gatherOver : (w q r : List ℕ) → ℕ
+gatherOver w q r = (nibblesOver w q + 16 * nibblesOver w r) % 4294967296
+
+-- from T4 to T7 and T8 to T11, each after the byte before
+abbrev pub lastOver : (s w x k q : List ℕ) → ℕ
+lastOver s w x k q = gatherOver w q (linksOver s (s ! (q ! 3)) x k 8)
+
+unfoldable pub fOver : (s w x k : List ℕ) → ℕ
+fOver s w x k = lastOver s w x k (linksOver s (s ! (linksOver s 0 x k 0 ! 3)) x k 4)
+
+-- the halves exchanged, after the left one ⊕ y
+abbrev pub exchangedBy : Words → ℕ → Words
+exchangedBy h y = record { l = h .r; r = h .l ⊕ y }
+
+abbrev pub roundOver : (s w k : List ℕ) → Words → Words
+roundOver s w k h = exchangedBy h (fOver s w (bytes4 (h .r)) k)
+
+-- the lowest bit of byte n is bit n of t
+abbrev pub spreadOf : ℕ → ℕ
+spreadOf t = bit 0 t + 256 * bit 1 t + 65536 * bit 2 t + 16777216 * bit 3 t
+
+-- S's entries, spread
+unfoldable pub spreads : List ℕ
+spreads = map spreadOf S
+
+-- n rounds
+unfoldable pub roundsOver : Bool → List ℕ → ℕ → Words → Words
+roundsOver back keys zero h = h
+roundsOver back keys (suc n) h = roundOver S spreads (roundKey keys (place back n)) (roundsOver back keys n h)
+
+-- of four pairs of halves, lane j's
+abbrev pub halvesAt : List Words → ℕ → Words
+halvesAt hs j = getD hs j (record { l = 0; r = 0 })
+
+-- the bytes of both halves
+abbrev pub halfBytes : Words → Halves
+halfBytes h = (bytes4 (h .l), bytes4 (h .r))
+
+-- the words are the halves of a block
+pub record HalvesOf (b : List ℕ) (h : Words) : Type 0 where
+  pub left : bytes4 (h .l) ≡ part 0 4 b
+  pub right : bytes4 (h .r) ≡ part 4 4 b
+
 -- the call in either direction
 unfoldable pub cryptCall : List ℕ → List ℕ → Bool → Bytes8
 cryptCall key block back =
     answer8 (first ((hasLength 16 key && hasLength 8 block, wrongLength) ∷ [])) (crypt (λ i. roundKey (schedule key) (place back i)) block)
-
--- the words l and r are what the first i rounds make of l₀ and r₀
-pub record Turned (back : Bool) (keys : List ℕ) (l₀ r₀ i l r : ℕ) : Type 0 where
-  pub is : (bytes4 l, bytes4 r) ≡ rounds (λ n. roundKey keys (place back n)) i (bytes4 l₀, bytes4 r₀)

@@ -1,6 +1,5 @@
 // Four blocks side by side, one to a lane, each lane under round keys of its own. In a block each lookup waits for the one before; the
 // lanes take four links in turn, so that the lookups of one overlap with those of the others.
-use crate::round::Four;
 use crate::round::Halves;
 use crate::round::first;
 use crate::round::gather;
@@ -10,142 +9,151 @@ use crate::round::second;
 use crate::round::split;
 use crate::round::third;
 use crate::tables::S;
+use crate::tables::SPREAD;
 ghost use mathlib.Core.List.{_++_};
 ghost use mathlib.Core.Path.{_≡_};
 ghost use Prim.Native.Nat.{_+_, _≤_};
-ghost use lib.Bits.{bitXor};
 ghost use lib.ListN.{length};
-ghost use Rattle.standard.specs.Bytes.{part};
+ghost use Rattle.standard.specs.Bytes.{_!_, part};
 ghost use Rattle.standard.specs.Hurdle.{crypt as cryptOf, roundKey};
-ghost use Rattle.hurdle.specs.RoundSteps.{bytes4, fOver, place as placeOf, Linked, Gathered, HalvesOf, Turned};
+ghost use Rattle.hurdle.specs.Lanes.{lanes, lane, byLane, eachLane};
+ghost use Rattle.hurdle.specs.RoundSteps.{bytes4, linksOver, gatherOver, fOver, exchangedBy, roundsOver, place as placeOf, HalvesOf, halvesAt};
 
-// A block of each lane.
-pub struct Blocks {
-    pub a: [u8; 8],
-    pub b: [u8; 8],
-    pub c: [u8; 8],
-    pub d: [u8; 8],
-}
-
-// A word of each lane.
-struct Words {
-    a: u32,
-    b: u32,
-    c: u32,
-    d: u32,
-}
-
-// Four links of each lane.
-struct Fours {
-    a: Four,
-    b: Four,
-    c: Four,
-    d: Four,
-}
-
-fn firsts(s: &[u8; 256], x: Words, ka: &[u8], kb: &[u8], kc: &[u8], kd: &[u8], at: usize) -> Fours
+fn firsts(
+    s: &[u8; 256],
+    h: [Halves; 4],
+    ka: &[u8],
+    kb: &[u8],
+    kc: &[u8],
+    kd: &[u8],
+    at: usize,
+) -> [[u8; 4]; 4]
     requires { ⌜ (at + 12 ≤ length (now ka)) × (at + 12 ≤ length (now kb)) × (at + 12 ≤ length (now kc)) × (at + 12 ≤ length (now kd)) ⌝ }
-    ensures { λ r. ⌜ (Linked (now (s .entry)) 0 (bytes4 (x .a)) 0 1 2 3 (now (ka .entry)) (at + 8) (r .a .0) (r .a .1) (r .a .2) (r .a .3))
-        × (Linked (now (s .entry)) 0 (bytes4 (x .b)) 0 1 2 3 (now (kb .entry)) (at + 8) (r .b .0) (r .b .1) (r .b .2) (r .b .3))
-        × (Linked (now (s .entry)) 0 (bytes4 (x .c)) 0 1 2 3 (now (kc .entry)) (at + 8) (r .c .0) (r .c .1) (r .c .2) (r .c .3))
-        × (Linked (now (s .entry)) 0 (bytes4 (x .d)) 0 1 2 3 (now (kd .entry)) (at + 8) (r .d .0) (r .d .1) (r .d .2) (r .d .3)) ⌝ }
+    ensures { λ r. ⌜ r ≡ lanes (λ j. linksOver (now (s .entry)) 0 (bytes4 (halvesAt h j .r))
+        (part at 12 (byLane (now (ka .entry)) (now (kb .entry)) (now (kc .entry)) (now (kd .entry)) j)) 0) ⌝ }
 {
-    let a = first(s, x.a, ka, at);
-    let b = first(s, x.b, kb, at);
-    let c = first(s, x.c, kc, at);
-    let d = first(s, x.d, kd, at);
-    Fours { a, b, c, d }
+    [
+        first(s, h[0].r, ka, at),
+        first(s, h[1].r, kb, at),
+        first(s, h[2].r, kc, at),
+        first(s, h[3].r, kd, at),
+    ]
 }
 
 fn seconds(
     s: &[u8; 256],
-    t: Fours,
-    x: Words,
+    p: [[u8; 4]; 4],
+    h: [Halves; 4],
     ka: &[u8],
     kb: &[u8],
     kc: &[u8],
     kd: &[u8],
     at: usize,
-) -> Fours
+) -> [[u8; 4]; 4]
     requires { ⌜ (at + 12 ≤ length (now ka)) × (at + 12 ≤ length (now kb)) × (at + 12 ≤ length (now kc)) × (at + 12 ≤ length (now kd)) ⌝ }
-    ensures { λ r. ⌜ (Linked (now (s .entry)) (t .a .3) (bytes4 (x .a)) 0 2 1 3 (now (ka .entry)) (at + 4) (r .a .0) (r .a .1) (r .a .2) (r .a .3))
-        × (Linked (now (s .entry)) (t .b .3) (bytes4 (x .b)) 0 2 1 3 (now (kb .entry)) (at + 4) (r .b .0) (r .b .1) (r .b .2) (r .b .3))
-        × (Linked (now (s .entry)) (t .c .3) (bytes4 (x .c)) 0 2 1 3 (now (kc .entry)) (at + 4) (r .c .0) (r .c .1) (r .c .2) (r .c .3))
-        × (Linked (now (s .entry)) (t .d .3) (bytes4 (x .d)) 0 2 1 3 (now (kd .entry)) (at + 4) (r .d .0) (r .d .1) (r .d .2) (r .d .3)) ⌝ }
+    ensures { λ r. ⌜ r ≡ lanes (λ j. linksOver (now (s .entry)) (now (s .entry) ! (lane p j ! 3)) (bytes4 (halvesAt h j .r))
+        (part at 12 (byLane (now (ka .entry)) (now (kb .entry)) (now (kc .entry)) (now (kd .entry)) j)) 4) ⌝ }
 {
-    let a = second(s, t.a.3, x.a, ka, at);
-    let b = second(s, t.b.3, x.b, kb, at);
-    let c = second(s, t.c.3, x.c, kc, at);
-    let d = second(s, t.d.3, x.d, kd, at);
-    Fours { a, b, c, d }
+    let pa = p[0];
+    let pb = p[1];
+    let pc = p[2];
+    let pd = p[3];
+    [
+        second(s, pa, h[0].r, ka, at),
+        second(s, pb, h[1].r, kb, at),
+        second(s, pc, h[2].r, kc, at),
+        second(s, pd, h[3].r, kd, at),
+    ]
 }
 
 fn thirds(
     s: &[u8; 256],
-    t: Fours,
-    x: Words,
+    q: [[u8; 4]; 4],
+    h: [Halves; 4],
     ka: &[u8],
     kb: &[u8],
     kc: &[u8],
     kd: &[u8],
     at: usize,
-) -> Fours
+) -> [[u8; 4]; 4]
     requires { ⌜ (at + 12 ≤ length (now ka)) × (at + 12 ≤ length (now kb)) × (at + 12 ≤ length (now kc)) × (at + 12 ≤ length (now kd)) ⌝ }
-    ensures { λ r. ⌜ (Linked (now (s .entry)) (t .a .3) (bytes4 (x .a)) 2 0 3 1 (now (ka .entry)) at (r .a .0) (r .a .1) (r .a .2) (r .a .3))
-        × (Linked (now (s .entry)) (t .b .3) (bytes4 (x .b)) 2 0 3 1 (now (kb .entry)) at (r .b .0) (r .b .1) (r .b .2) (r .b .3))
-        × (Linked (now (s .entry)) (t .c .3) (bytes4 (x .c)) 2 0 3 1 (now (kc .entry)) at (r .c .0) (r .c .1) (r .c .2) (r .c .3))
-        × (Linked (now (s .entry)) (t .d .3) (bytes4 (x .d)) 2 0 3 1 (now (kd .entry)) at (r .d .0) (r .d .1) (r .d .2) (r .d .3)) ⌝ }
+    ensures { λ r. ⌜ r ≡ lanes (λ j. linksOver (now (s .entry)) (now (s .entry) ! (lane q j ! 3)) (bytes4 (halvesAt h j .r))
+        (part at 12 (byLane (now (ka .entry)) (now (kb .entry)) (now (kc .entry)) (now (kd .entry)) j)) 8) ⌝ }
 {
-    let a = third(s, t.a.3, x.a, ka, at);
-    let b = third(s, t.b.3, x.b, kb, at);
-    let c = third(s, t.c.3, x.c, kc, at);
-    let d = third(s, t.d.3, x.d, kd, at);
-    Fours { a, b, c, d }
+    let qa = q[0];
+    let qb = q[1];
+    let qc = q[2];
+    let qd = q[3];
+    [
+        third(s, qa, h[0].r, ka, at),
+        third(s, qb, h[1].r, kb, at),
+        third(s, qc, h[2].r, kc, at),
+        third(s, qd, h[3].r, kd, at),
+    ]
 }
 
-fn gathers(q: Fours, r: Fours) -> Words
-    ensures { λ y. ⌜ (Gathered (q .a .0) (q .a .1) (q .a .2) (q .a .3) (r .a .0) (r .a .1) (r .a .2) (r .a .3) (y .a))
-        × (Gathered (q .b .0) (q .b .1) (q .b .2) (q .b .3) (r .b .0) (r .b .1) (r .b .2) (r .b .3) (y .b))
-        × (Gathered (q .c .0) (q .c .1) (q .c .2) (q .c .3) (r .c .0) (r .c .1) (r .c .2) (r .c .3) (y .c))
-        × (Gathered (q .d .0) (q .d .1) (q .d .2) (q .d .3) (r .d .0) (r .d .1) (r .d .2) (r .d .3) (y .d)) ⌝ }
+fn gathers(w: &[u32; 256], q: [[u8; 4]; 4], r: [[u8; 4]; 4]) -> [u32; 4]
+    ensures { λ y. ⌜ y ≡ lanes (λ j. gatherOver (now (w .entry)) (lane q j) (lane r j)) ⌝ }
 {
-    Words {
-        a: gather(q.a, r.a),
-        b: gather(q.b, r.b),
-        c: gather(q.c, r.c),
-        d: gather(q.d, r.d),
-    }
+    let qa = q[0];
+    let qb = q[1];
+    let qc = q[2];
+    let qd = q[3];
+    let ra = r[0];
+    let rb = r[1];
+    let rc = r[2];
+    let rd = r[3];
+    [
+        gather(w, qa, ra),
+        gather(w, qb, rb),
+        gather(w, qc, rc),
+        gather(w, qd, rd),
+    ]
 }
 
 // f in each lane.
-fn fs(s: &[u8; 256], x: Words, ka: &[u8], kb: &[u8], kc: &[u8], kd: &[u8], at: usize) -> Words
+fn f_x4(
+    s: &[u8; 256],
+    w: &[u32; 256],
+    h: [Halves; 4],
+    ka: &[u8],
+    kb: &[u8],
+    kc: &[u8],
+    kd: &[u8],
+    at: usize,
+) -> [u32; 4]
     requires { ⌜ (at + 12 ≤ length (now ka)) × (at + 12 ≤ length (now kb)) × (at + 12 ≤ length (now kc)) × (at + 12 ≤ length (now kd)) ⌝ }
-    ensures { λ r. ⌜ (bytes4 (r .a) ≡ fOver (now (s .entry)) (bytes4 (x .a)) (part at 12 (now (ka .entry))))
-        × (bytes4 (r .b) ≡ fOver (now (s .entry)) (bytes4 (x .b)) (part at 12 (now (kb .entry))))
-        × (bytes4 (r .c) ≡ fOver (now (s .entry)) (bytes4 (x .c)) (part at 12 (now (kc .entry))))
-        × (bytes4 (r .d) ≡ fOver (now (s .entry)) (bytes4 (x .d)) (part at 12 (now (kd .entry)))) ⌝ }
+    ensures { λ r. ⌜ r ≡ lanes (λ j. fOver (now (s .entry)) (now (w .entry)) (bytes4 (halvesAt h j .r))
+        (part at 12 (byLane (now (ka .entry)) (now (kb .entry)) (now (kc .entry)) (now (kd .entry)) j))) ⌝ }
 {
-    let p = firsts(s, x, ka, kb, kc, kd, at);
-    let q = seconds(s, p, x, ka, kb, kc, kd, at);
-    let r = thirds(s, q, x, ka, kb, kc, kd, at);
-    gathers(q, r)
+    let p = firsts(s, h, ka, kb, kc, kd, at);
+    let q = seconds(s, p, h, ka, kb, kc, kd, at);
+    let r = thirds(s, q, h, ka, kb, kc, kd, at);
+    gathers(w, q, r)
 }
 
-fn xors(x: Words, y: Words) -> Words
-    ensures { λ r. ⌜ (r .a ≡ bitXor (x .a) (y .a)) × (r .b ≡ bitXor (x .b) (y .b)) × (r .c ≡ bitXor (x .c) (y .c)) × (r .d ≡ bitXor (x .d) (y .d)) ⌝ }
+// The end of a round in each lane, written out: calls would cost time here.
+fn exchanges(h: [Halves; 4], y: [u32; 4]) -> [Halves; 4]
+    ensures { λ o. ⌜ o ≡ lanes (λ j. exchangedBy (halvesAt h j) (y ! j)) ⌝ }
 {
-    Words {
-        a: x.a ^ y.a,
-        b: x.b ^ y.b,
-        c: x.c ^ y.c,
-        d: x.d ^ y.d,
-    }
-}
-
-// The halves of each lane.
-struct Sides {
-    l: Words,
-    r: Words,
+    [
+        Halves {
+            l: h[0].r,
+            r: h[0].l ^ y[0],
+        },
+        Halves {
+            l: h[1].r,
+            r: h[1].l ^ y[1],
+        },
+        Halves {
+            l: h[2].r,
+            r: h[2].l ^ y[2],
+        },
+        Halves {
+            l: h[3].r,
+            r: h[3].l ^ y[3],
+        },
+    ]
 }
 
 // The sixteen rounds in each lane.
@@ -154,87 +162,54 @@ fn rounds(
     kb: &[u8; 192],
     kc: &[u8; 192],
     kd: &[u8; 192],
-    h: Sides,
+    h: [Halves; 4],
     back: bool,
-) -> Sides
-    ensures { λ o. ⌜ (Turned back (now (ka .entry)) (h .l .a) (h .r .a) 16 (o .l .a) (o .r .a))
-        × (Turned back (now (kb .entry)) (h .l .b) (h .r .b) 16 (o .l .b) (o .r .b))
-        × (Turned back (now (kc .entry)) (h .l .c) (h .r .c) 16 (o .l .c) (o .r .c))
-        × (Turned back (now (kd .entry)) (h .l .d) (h .r .d) 16 (o .l .d) (o .r .d)) ⌝ }
+) -> [Halves; 4]
+    ensures { λ o. ⌜ eachLane (λ j. halvesAt o j ≡ roundsOver back
+        (byLane (now (ka .entry)) (now (kb .entry)) (now (kc .entry)) (now (kd .entry)) j) 16 (halvesAt h j)) ⌝ }
 {
     let s = S;
+    let w = SPREAD;
     let a = &ka[..];
     let b = &kb[..];
     let c = &kc[..];
     let d = &kd[..];
-    let mut l = h.l;
-    let mut r = h.r;
+    let mut state = h;
     for i in 0..16 {
-        let y = fs(&s, r, a, b, c, d, place(back, i) * 12);
-        let next = xors(l, y);
-        l = r;
-        r = next;
+        let y = f_x4(&s, &w, state, a, b, c, d, place(back, i) * 12);
+        let next = exchanges(state, y);
+        state = next;
     }
-    Sides { l, r }
+    state
 }
 
-fn splits(x: Blocks) -> Sides
-    ensures { λ h. ⌜ (HalvesOf (x .a) (h .l .a) (h .r .a))
-        × (HalvesOf (x .b) (h .l .b) (h .r .b))
-        × (HalvesOf (x .c) (h .l .c) (h .r .c))
-        × (HalvesOf (x .d) (h .l .d) (h .r .d)) ⌝ }
+fn splits(x: [[u8; 8]; 4]) -> [Halves; 4]
+    ensures { λ h. ⌜ eachLane (λ j. HalvesOf (lane x j) (halvesAt h j)) ⌝ }
 {
-    let xa = x.a;
-    let xb = x.b;
-    let xc = x.c;
-    let xd = x.d;
-    let a = split(xa);
-    let b = split(xb);
-    let c = split(xc);
-    let d = split(xd);
-    Sides {
-        l: Words {
-            a: a.l,
-            b: b.l,
-            c: c.l,
-            d: d.l,
-        },
-        r: Words {
-            a: a.r,
-            b: b.r,
-            c: c.r,
-            d: d.r,
-        },
-    }
+    let a = x[0];
+    let b = x[1];
+    let c = x[2];
+    let d = x[3];
+    [split(a), split(b), split(c), split(d)]
 }
 
-fn joins(h: Sides) -> Blocks
-    ensures { λ x. ⌜ (x .a ≡ bytes4 (h .r .a) ++ bytes4 (h .l .a))
-        × (x .b ≡ bytes4 (h .r .b) ++ bytes4 (h .l .b))
-        × (x .c ≡ bytes4 (h .r .c) ++ bytes4 (h .l .c))
-        × (x .d ≡ bytes4 (h .r .d) ++ bytes4 (h .l .d)) ⌝ }
+fn joins(h: [Halves; 4]) -> [[u8; 8]; 4]
+    ensures { λ x. ⌜ x ≡ lanes (λ j. bytes4 (halvesAt h j .r) ++ bytes4 (halvesAt h j .l)) ⌝ }
 {
-    Blocks {
-        a: joined(Halves { l: h.l.a, r: h.r.a }),
-        b: joined(Halves { l: h.l.b, r: h.r.b }),
-        c: joined(Halves { l: h.l.c, r: h.r.c }),
-        d: joined(Halves { l: h.l.d, r: h.r.d }),
-    }
+    [joined(h[0]), joined(h[1]), joined(h[2]), joined(h[3])]
 }
 
 // The four blocks through sixteen rounds; `back` takes the round keys in reverse order.
-pub(crate) fn crypt4(
+pub(crate) fn crypt_x4(
     ka: &[u8; 192],
     kb: &[u8; 192],
     kc: &[u8; 192],
     kd: &[u8; 192],
-    x: Blocks,
+    x: [[u8; 8]; 4],
     back: bool,
-) -> Blocks
-    ensures { λ y. ⌜ (y .a ≡ cryptOf (λ i. roundKey (now (ka .entry)) (placeOf back i)) (x .a))
-        × (y .b ≡ cryptOf (λ i. roundKey (now (kb .entry)) (placeOf back i)) (x .b))
-        × (y .c ≡ cryptOf (λ i. roundKey (now (kc .entry)) (placeOf back i)) (x .c))
-        × (y .d ≡ cryptOf (λ i. roundKey (now (kd .entry)) (placeOf back i)) (x .d)) ⌝ }
+) -> [[u8; 8]; 4]
+    ensures { λ y. ⌜ y ≡ lanes (λ j. cryptOf
+        (λ i. roundKey (byLane (now (ka .entry)) (now (kb .entry)) (now (kc .entry)) (now (kd .entry)) j) (placeOf back i)) (lane x j)) ⌝ }
 {
     joins(rounds(ka, kb, kc, kd, splits(x), back))
 }

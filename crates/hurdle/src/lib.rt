@@ -5,25 +5,29 @@ mod round;
 mod tables;
 
 use crate::key_schedule::lay_out_round_keys;
-use crate::lanes::crypt4;
+use crate::lanes::crypt_x4;
 use crate::round::crypt;
 use crate::tables::S_INVERSE;
 use crate::tables::entry;
 use arrays::array8;
 use arrays::array16;
 use arrays::have_lengths;
-pub use lanes::Blocks;
 pub use round::Halves;
 pub use round::joined;
 pub use round::round_under;
 pub use round::split;
 use standard::Bytes8;
 use standard::WRONG_LENGTH;
+pub use tables::A;
+pub use tables::D;
 pub use tables::S;
+pub use tables::SPREAD;
 ghost use mathlib.Core.Path.{_≡_};
 ghost use Rattle.standard.specs.Bytes.{_!_, table};
+ghost use Rattle.hurdle.specs.Lanes.{lanes, lane, byLane};
 ghost use Rattle.hurdle.specs.RoundSteps.{cryptCall};
-ghost use Rattle.standard.specs.Hurdle.{S as sOf, S⁻¹ as sInverseOf, schedule as scheduleOf, encryptWith, decryptWith, encrypt as encryptOf, decrypt as decryptOf, encryptCall, decryptCall};
+ghost use Rattle.standard.specs.Hurdle.{S as sOf, S⁻¹ as sInverseOf, schedule as scheduleOf, encryptWith, decryptWith};
+ghost use Rattle.standard.specs.Hurdle.{encrypt as encryptOf, decrypt as decryptOf, encryptCall, decryptCall};
 
 // All sixteen round keys, the first one first.
 pub fn schedule(key: [u8; 16]) -> [u8; 192]
@@ -46,34 +50,28 @@ pub fn decrypt_with(keys: &[u8; 192], block: [u8; 8]) -> [u8; 8]
 }
 
 // Four blocks side by side, each under its own round keys. One set of keys may be lent to all four.
-pub fn encrypt4_with(
+pub fn encrypt_with_x4(
     ka: &[u8; 192],
     kb: &[u8; 192],
     kc: &[u8; 192],
     kd: &[u8; 192],
-    x: Blocks,
-) -> Blocks
-    ensures { λ y. ⌜ (y .a ≡ encryptWith (now (ka .entry)) (x .a))
-        × (y .b ≡ encryptWith (now (kb .entry)) (x .b))
-        × (y .c ≡ encryptWith (now (kc .entry)) (x .c))
-        × (y .d ≡ encryptWith (now (kd .entry)) (x .d)) ⌝ }
+    x: [[u8; 8]; 4],
+) -> [[u8; 8]; 4]
+    ensures { λ y. ⌜ y ≡ lanes (λ j. encryptWith (byLane (now (ka .entry)) (now (kb .entry)) (now (kc .entry)) (now (kd .entry)) j) (lane x j)) ⌝ }
 {
-    crypt4(ka, kb, kc, kd, x, false)
+    crypt_x4(ka, kb, kc, kd, x, false)
 }
 
-pub fn decrypt4_with(
+pub fn decrypt_with_x4(
     ka: &[u8; 192],
     kb: &[u8; 192],
     kc: &[u8; 192],
     kd: &[u8; 192],
-    x: Blocks,
-) -> Blocks
-    ensures { λ y. ⌜ (y .a ≡ decryptWith (now (ka .entry)) (x .a))
-        × (y .b ≡ decryptWith (now (kb .entry)) (x .b))
-        × (y .c ≡ decryptWith (now (kc .entry)) (x .c))
-        × (y .d ≡ decryptWith (now (kd .entry)) (x .d)) ⌝ }
+    x: [[u8; 8]; 4],
+) -> [[u8; 8]; 4]
+    ensures { λ y. ⌜ y ≡ lanes (λ j. decryptWith (byLane (now (ka .entry)) (now (kb .entry)) (now (kc .entry)) (now (kd .entry)) j) (lane x j)) ⌝ }
 {
-    crypt4(ka, kb, kc, kd, x, true)
+    crypt_x4(ka, kb, kc, kd, x, true)
 }
 
 // A block under a key.

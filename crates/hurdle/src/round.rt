@@ -1,115 +1,134 @@
 // f, and the sixteen rounds on the halves L and R, which are words here.
 use crate::tables::S;
+use crate::tables::SPREAD;
 use crate::tables::entry;
+use crate::tables::spread;
 use std::num::wrapping_add_u8;
 ghost use mathlib.Core.List.{[], _∷_, _++_};
 ghost use mathlib.Core.Path.{_≡_};
 ghost use Prim.Native.Nat.{_+_, _<_, _≤_};
 ghost use lib.ListN.{length};
-ghost use Rattle.standard.specs.Bytes.{_!_, byte, _⊕_, _⊞_, part};
+ghost use Rattle.standard.specs.Bytes.{_!_, byte, _⊕_, _⊞_, table, part};
 ghost use Rattle.standard.specs.Hurdle.{crypt as cryptOf, roundKey};
-ghost use Rattle.hurdle.specs.RoundSteps.{bytes4, fOver, roundOver, place as placeOf, Linked, Spread, Nibbles, Gathered, HalvesOf, Turned};
+ghost use Rattle.hurdle.specs.RoundSteps.{bytes4, linked, linksOver, nibblesOver, gatherOver, fOver, exchangedBy, roundOver, roundsOver};
+ghost use Rattle.hurdle.specs.RoundSteps.{place as placeOf, HalvesOf};
 
-// Byte n of a half, byte 0 the rightmost.
-fn half_byte(x: u32, n: u8) -> u8
-    ensures { λ r. ⌜ r ≡ byte 4 (bytes4 x) n ⌝ }
+// The bytes of a half, the rightmost first, as E numbers them.
+fn half_bytes(x: u32) -> [u8; 4]
+    ensures { λ r. ⌜ r ≡ table 4 (byte 4 (bytes4 x)) ⌝ }
 {
-    match n {
-        0 => (x % 256) as u8,
-        1 => (x / 256 % 256) as u8,
-        2 => (x / 65536 % 256) as u8,
-        _ => (x / 16777216 % 256) as u8,
-    }
+    [
+        (x % 256) as u8,
+        (x / 256 % 256) as u8,
+        (x / 65536 % 256) as u8,
+        (x / 16777216 % 256) as u8,
+    ]
 }
 
-// S[(e + k) ⊕ t], where e is byte n of the half x.
-fn link(s: &[u8; 256], t: u8, x: u32, n: u8, k: u8) -> u8
-    ensures { λ r. ⌜ r ≡ now (s .entry) ! ((byte 4 (bytes4 x) n ⊞ k) ⊕ t) ⌝ }
+// The index of a link in S: (e + k) ⊕ t.
+fn link(t: u8, e: u8, k: u8) -> u8
+    ensures { λ r. ⌜ r ≡ (e ⊞ k) ⊕ t ⌝ }
 {
-    let e = half_byte(x, n);
-    entry(s, wrapping_add_u8(e, k) ^ t)
+    wrapping_add_u8(e, k) ^ t
 }
 
-// Four bytes, in the order of the chain.
-pub(crate) struct Four(pub u8, pub u8, pub u8, pub u8);
-
-// Four links of the chain after t. Their E is the half's bytes numbered in e; their key bytes are those from index `at` on, the last
-// one first.
-fn links(s: &[u8; 256], t: u8, x: u32, e: Four, k: &[u8], at: usize) -> Four
-    requires { ⌜ at + 4 ≤ length (now k) ⌝ }
-    ensures { λ r. ⌜ Linked (now (s .entry)) t (bytes4 x) (e .0) (e .1) (e .2) (e .3) (now (k .entry)) at (r .0) (r .1) (r .2) (r .3) ⌝ }
+// The indexes of four links after the byte t of the chain.
+fn links(s: &[u8; 256], t: u8, e: [u8; 4], k: [u8; 4]) -> [u8; 4]
+    ensures { λ r. ⌜ r ≡ table 4 (linked (now (s .entry)) t (_!_ e) (_!_ k)) ⌝ }
 {
-    let a = link(s, t, x, e.0, k[at + 3]);
-    let b = link(s, a, x, e.1, k[at + 2]);
-    let c = link(s, b, x, e.2, k[at + 1]);
-    let d = link(s, c, x, e.3, k[at]);
-    Four(a, b, c, d)
+    let a = link(t, e[0], k[0]);
+    let b = link(entry(s, a), e[1], k[1]);
+    let c = link(entry(s, b), e[2], k[2]);
+    let d = link(entry(s, c), e[3], k[3]);
+    [a, b, c, d]
 }
 
-// Bit n of t, for n 0 to 3, as the lowest bit of byte n of a word.
-fn spread(t: u8) -> u32
-    ensures { λ r. ⌜ Spread t r ⌝ }
-{
-    ((t % 16) as u32 * 0x204081) & 0x1010101
-}
-
-// Byte n of the word has bit n of each of the four.
-fn nibbles(t: Four) -> u32
-    ensures { λ r. ⌜ Nibbles (t .0) (t .1) (t .2) (t .3) r ⌝ }
-{
-    spread(t.0) + 2 * spread(t.1) + 4 * spread(t.2) + 8 * spread(t.3)
-}
-
-// Byte n, whose bit m T(m+4) has as bit n.
-pub(crate) fn gather(q: Four, r: Four) -> u32
-    ensures { λ y. ⌜ Gathered (q .0) (q .1) (q .2) (q .3) (r .0) (r .1) (r .2) (r .3) y ⌝ }
-{
-    nibbles(q) + 16 * nibbles(r)
-}
-
-// The three fours of f's chain, under the round key of twelve bytes from index `at` on: T0 to T3, of which T0 is a link after 0.
-pub(crate) fn first(s: &[u8; 256], x: u32, k: &[u8], at: usize) -> Four
+// The indexes of f's chain in three fours, under the round key of twelve bytes from index `at` on: those of T0 to T3, where T0 is a link
+// after 0.
+pub(crate) fn first(s: &[u8; 256], x: u32, k: &[u8], at: usize) -> [u8; 4]
     requires { ⌜ at + 12 ≤ length (now k) ⌝ }
-    ensures { λ r. ⌜ Linked (now (s .entry)) 0 (bytes4 x) 0 1 2 3 (now (k .entry)) (at + 8) (r .0) (r .1) (r .2) (r .3) ⌝ }
+    ensures { λ r. ⌜ r ≡ linksOver (now (s .entry)) 0 (bytes4 x) (part at 12 (now (k .entry))) 0 ⌝ }
 {
-    links(s, 0, x, Four(0, 1, 2, 3), k, at + 8)
+    let e = half_bytes(x);
+    links(s, 0, e, [k[at + 11], k[at + 10], k[at + 9], k[at + 8]])
 }
 
 // T4 to T7, after T3.
-pub(crate) fn second(s: &[u8; 256], t: u8, x: u32, k: &[u8], at: usize) -> Four
+pub(crate) fn second(s: &[u8; 256], p: [u8; 4], x: u32, k: &[u8], at: usize) -> [u8; 4]
     requires { ⌜ at + 12 ≤ length (now k) ⌝ }
-    ensures { λ r. ⌜ Linked (now (s .entry)) t (bytes4 x) 0 2 1 3 (now (k .entry)) (at + 4) (r .0) (r .1) (r .2) (r .3) ⌝ }
+    ensures { λ r. ⌜ r ≡ linksOver (now (s .entry)) (now (s .entry) ! (p ! 3)) (bytes4 x) (part at 12 (now (k .entry))) 4 ⌝ }
 {
-    links(s, t, x, Four(0, 2, 1, 3), k, at + 4)
+    let e = half_bytes(x);
+    let t = entry(s, p[3]);
+    links(
+        s,
+        t,
+        [e[0], e[2], e[1], e[3]],
+        [k[at + 7], k[at + 6], k[at + 5], k[at + 4]],
+    )
 }
 
 // T8 to T11, after T7.
-pub(crate) fn third(s: &[u8; 256], t: u8, x: u32, k: &[u8], at: usize) -> Four
+pub(crate) fn third(s: &[u8; 256], q: [u8; 4], x: u32, k: &[u8], at: usize) -> [u8; 4]
     requires { ⌜ at + 12 ≤ length (now k) ⌝ }
-    ensures { λ r. ⌜ Linked (now (s .entry)) t (bytes4 x) 2 0 3 1 (now (k .entry)) at (r .0) (r .1) (r .2) (r .3) ⌝ }
+    ensures { λ r. ⌜ r ≡ linksOver (now (s .entry)) (now (s .entry) ! (q ! 3)) (bytes4 x) (part at 12 (now (k .entry))) 8 ⌝ }
 {
-    links(s, t, x, Four(2, 0, 3, 1), k, at)
+    let e = half_bytes(x);
+    let t = entry(s, q[3]);
+    links(
+        s,
+        t,
+        [e[2], e[0], e[3], e[1]],
+        [k[at + 3], k[at + 2], k[at + 1], k[at]],
+    )
+}
+
+// Byte n of the word has bit n of the entries of S at four indexes.
+fn nibbles(w: &[u32; 256], i: [u8; 4]) -> u64
+    ensures { λ r. ⌜ (r ≡ nibblesOver (now (w .entry)) i) × (r < 64424509440) ⌝ }
+{
+    let a = spread(w, i[0]) as u64;
+    let b = spread(w, i[1]) as u64;
+    let c = spread(w, i[2]) as u64;
+    let d = spread(w, i[3]) as u64;
+    a + 2 * b + 4 * c + 8 * d
+}
+
+// Byte n, whose bit m T(m+4) has as bit n.
+pub(crate) fn gather(w: &[u32; 256], q: [u8; 4], r: [u8; 4]) -> u32
+    ensures { λ y. ⌜ y ≡ gatherOver (now (w .entry)) q r ⌝ }
+{
+    ((nibbles(w, q) + 16 * nibbles(w, r)) % 4294967296) as u32
 }
 
 // f of a half and the round key from index `at` on.
-fn f(s: &[u8; 256], x: u32, k: &[u8], at: usize) -> u32
+fn f(s: &[u8; 256], w: &[u32; 256], x: u32, k: &[u8], at: usize) -> u32
     requires { ⌜ at + 12 ≤ length (now k) ⌝ }
-    ensures { λ r. ⌜ bytes4 r ≡ fOver (now (s .entry)) (bytes4 x) (part at 12 (now (k .entry))) ⌝ }
+    ensures { λ r. ⌜ r ≡ fOver (now (s .entry)) (now (w .entry)) (bytes4 x) (part at 12 (now (k .entry))) ⌝ }
 {
     let p = first(s, x, k, at);
-    let q = second(s, p.3, x, k, at);
-    let r = third(s, q.3, x, k, at);
-    gather(q, r)
+    let q = second(s, p, x, k, at);
+    let r = third(s, q, x, k, at);
+    gather(w, q, r)
 }
 
-// A round under bytes 11 to 0 of a register, over a table of which the caller has a copy: S.
-pub fn round_under(s: &[u8; 256], h: Halves, q: &[u8; 16]) -> Halves
-    ensures { λ o. ⌜ (bytes4 (o .l), bytes4 (o .r)) ≡ roundOver (now (s .entry)) (part 4 12 (now (q .entry))) (bytes4 (h .l), bytes4 (h .r)) ⌝ }
+pub struct Halves {
+    pub l: u32,
+    pub r: u32,
+}
+
+// The end of a round: R goes to the left, L ⊕ f's result to the right.
+pub(crate) fn exchanged(h: Halves, y: u32) -> Halves
+    ensures { λ o. ⌜ o ≡ exchangedBy h y ⌝ }
 {
-    let register = &q[..];
-    let l = h.r;
-    let r = h.l ^ f(s, l, register, 4);
-    Halves { l, r }
+    Halves { l: h.r, r: h.l ^ y }
+}
+
+// A round under bytes 11 to 0 of a register, over tables of which the caller has copies: S and SPREAD.
+pub fn round_under(s: &[u8; 256], w: &[u32; 256], h: Halves, q: &[u8; 16]) -> Halves
+    ensures { λ o. ⌜ o ≡ roundOver (now (s .entry)) (now (w .entry)) (part 4 12 (now (q .entry))) h ⌝ }
+{
+    exchanged(h, f(s, w, h.r, &q[..], 4))
 }
 
 // The round key that round i takes.
@@ -120,11 +139,6 @@ pub(crate) fn place(back: bool, i: usize) -> usize
     if back { 15 - i } else { i }
 }
 
-pub struct Halves {
-    pub l: u32,
-    pub r: u32,
-}
-
 // The word of four bytes, the leftmost first.
 fn word(a: u8, b: u8, c: u8, d: u8) -> u32
     ensures { λ r. ⌜ bytes4 r ≡ a ∷ b ∷ c ∷ d ∷ [] ⌝ }
@@ -133,7 +147,7 @@ fn word(a: u8, b: u8, c: u8, d: u8) -> u32
 }
 
 pub fn split(block: [u8; 8]) -> Halves
-    ensures { λ h. ⌜ HalvesOf block (h .l) (h .r) ⌝ }
+    ensures { λ h. ⌜ HalvesOf block h ⌝ }
 {
     Halves {
         l: word(block[0], block[1], block[2], block[3]),
@@ -158,18 +172,17 @@ pub fn joined(h: Halves) -> [u8; 8]
 }
 
 fn rounds(keys: &[u8; 192], h: Halves, back: bool) -> Halves
-    ensures { λ o. ⌜ Turned back (now (keys .entry)) (h .l) (h .r) 16 (o .l) (o .r) ⌝ }
+    ensures { λ o. ⌜ o ≡ roundsOver back (now (keys .entry)) 16 h ⌝ }
 {
     let s = S;
+    let w = SPREAD;
     let laid = &keys[..];
-    let mut l = h.l;
-    let mut r = h.r;
+    let mut state = h;
     for i in 0..16 {
-        let next = l ^ f(&s, r, laid, place(back, i) * 12);
-        l = r;
-        r = next;
+        let y = f(&s, &w, state.r, laid, place(back, i) * 12);
+        state = exchanged(state, y);
     }
-    Halves { l, r }
+    state
 }
 
 // The block through sixteen rounds; `back` takes the round keys in reverse order.

@@ -1,7 +1,7 @@
 // The printed tables (02, 13): the inverse, made from S, and the running rotations, made from the sequence a.
+use hurdle::A;
 use hurdle::S;
 use lines::Line;
-use register::A;
 use standard::OUTPUT_SHORT;
 use standard::TextAnswer;
 ghost use mathlib.Core.Path.{_≡_};

@@ -3,7 +3,8 @@
 use mathlib.Core.Bool.{Bool, _&&_}
 use mathlib.Core.List.{List, [], _∷_}
 use Prim.Native.Nat.{ℕ}
-use Rattle.hurdle.specs.RoundSteps.{bytes4}
+use Rattle.hurdle.specs.RoundSteps.{halfBytes}
+use Rattle.hurdle.specs.declared.round.Halves.{Halves as Words}
 use Rattle.standard.specs.Bytes.{choose}
 use Rattle.standard.specs.Hurdle.{encrypt, decrypt}
 use Rattle.standard.specs.Refusals.{wrongLength, hasLength, first, answer8}
@@ -11,8 +12,8 @@ use Rattle.standard.specs.Register.{State}
 use Rattle.standard.specs.declared.Bytes8.{Bytes8}
 
 -- a register, and halves that are words
-abbrev pub stateOf : List ℕ → ℕ → ℕ → State
-stateOf q l r = record { register = q; halves = (bytes4 l, bytes4 r) }
+abbrev pub stateOf : List ℕ → Words → State
+stateOf q h = record { register = q; halves = halfBytes h }
 
 -- the block in either direction, and the call
 abbrev pub crypt : List ℕ → List ℕ → Bool → List ℕ

@@ -4,8 +4,11 @@ use arrays::array8;
 use arrays::array16;
 use arrays::have_lengths;
 use arrays::xor16;
+use hurdle::A;
+use hurdle::D;
 use hurdle::Halves;
 use hurdle::S;
+use hurdle::SPREAD;
 use hurdle::joined;
 use hurdle::round_under;
 use hurdle::split;
@@ -14,33 +17,11 @@ use standard::Bytes16;
 use standard::WRONG_LENGTH;
 ghost use mathlib.Core.Path.{_≡_};
 ghost use Prim.Native.Nat.{_-_, _≤_};
-ghost use Rattle.hurdle.specs.RoundSteps.{bytes4};
+ghost use Rattle.hurdle.specs.RoundSteps.{halfBytes};
 ghost use Rattle.standard.specs.Bytes.{xors};
 ghost use Rattle.standard.specs.Hurdle.{D as dOf, rotl, next, encryptCall, decryptCall};
 ghost use Rattle.standard.specs.Register.{turned as turnedOf, onward as onwardOf, backward as backwardOf, registerCall};
 ghost use Rattle.register.specs.RegisterStates.{stateOf, crypt as cryptOf, cryptCall};
-
-const D: [u8; 16] = [
-    0x3c,
-    0xa7,
-    0xec,
-    0x25,
-    0x79,
-    0x57,
-    0xdf,
-    0xc0,
-    0x38,
-    0x0a,
-    0x33,
-    0x1e,
-    0xf3,
-    0x8c,
-    0xf4,
-    0xf7,
-];
-
-// The rotations a1, a2, ..
-pub const A: [usize; 16] = [5, 5, 5, 5, 3, 7, 5, 5, 5, 5, 7, 3, 5, 5, 5, 5];
 
 // Rotated left by n bytes.
 fn rotated(q: &[u8; 16], n: usize) -> [u8; 16]
@@ -72,14 +53,15 @@ fn step_back(q: &[u8; 16], n: usize) -> [u8; 16]
 
 // Sixteen rounds of encryption: each a round, and then the step.
 fn onward(key: [u8; 16], block: Halves) -> Halves
-    ensures { λ o. ⌜ (bytes4 (o .l), bytes4 (o .r)) ≡ onwardOf 16 (stateOf key (block .l) (block .r)) .halves ⌝ }
+    ensures { λ o. ⌜ halfBytes o ≡ onwardOf 16 (stateOf key block) .halves ⌝ }
 {
     let s = S;
+    let w = SPREAD;
     let a = A;
     let mut q = key;
     let mut h = block;
     for i in 0..16 {
-        h = round_under(&s, h, &q);
+        h = round_under(&s, &w, h, &q);
         q = step(&q, a[i]);
     }
     h
@@ -87,15 +69,16 @@ fn onward(key: [u8; 16], block: Halves) -> Halves
 
 // Sixteen rounds of decryption: each the step back, and then a round.
 fn backward(key: [u8; 16], block: Halves) -> Halves
-    ensures { λ o. ⌜ (bytes4 (o .l), bytes4 (o .r)) ≡ backwardOf 16 (stateOf key (block .l) (block .r)) .halves ⌝ }
+    ensures { λ o. ⌜ halfBytes o ≡ backwardOf 16 (stateOf key block) .halves ⌝ }
 {
     let s = S;
+    let w = SPREAD;
     let a = A;
     let mut q = key;
     let mut h = block;
     for i in 0..16 {
         q = step_back(&q, a[15 - i]);
-        h = round_under(&s, h, &q);
+        h = round_under(&s, &w, h, &q);
     }
     h
 }

@@ -1,7 +1,7 @@
 //! The links of the guides: each relative one leads to a file or folder of the repository,
-//! and each anchor to a heading of its guide.
+//! and each anchor to a heading of its guide; and each guide is linked from another.
 
-use std::collections::HashMap;
+use std::collections::{HashMap, HashSet};
 use std::fs;
 use std::path::{Component, Path, PathBuf};
 
@@ -126,6 +126,7 @@ pub fn check(root: &Path) -> (usize, Vec<String>) {
         .collect();
     let mut right = 0;
     let mut faults = Vec::new();
+    let mut found = HashSet::from([PathBuf::from("README.md")]);
     for guide in &guides {
         for link in links(&texts[guide]) {
             if link.contains("://") {
@@ -141,6 +142,7 @@ pub fn check(root: &Path) -> (usize, Vec<String>) {
                 _ => plain(&folder.join(file)),
             };
             let there = target.filter(|path| root.join(path).exists());
+            found.extend(there.iter().filter(|path| *path != guide).cloned());
             let good = there.map_or(false, |path| match heading {
                 None => true,
                 Some(heading) => texts
@@ -154,6 +156,8 @@ pub fn check(root: &Path) -> (usize, Vec<String>) {
             }
         }
     }
+    let unlinked = guides.iter().filter(|guide| !found.contains(*guide));
+    faults.extend(unlinked.map(|guide| format!("{}: no guide links to it", guide.display())));
     (right, faults)
 }
 

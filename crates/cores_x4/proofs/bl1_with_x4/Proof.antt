@@ -3,7 +3,7 @@ use denote.Ref.{now}
 use borrow.Author.Needs.{needs}
 use Rattle.cores.proofs.CoreSteps.{bl1-steps}
 use Rattle.cores.specs.CoreOutputs.{counted16}
-use Rattle.cores_x4.proofs.LaneLaws.{four-same}
+use Rattle.cores_x4.proofs.LaneLaws.{four-same, lane-same}
 use Rattle.cores_x4.proofs.bl1_with_x4.Statement.{statement}
 use Rattle.cores_x4.proofs.bl1_with_x4.Tie as tie
 
@@ -12,13 +12,15 @@ returns c =
     let second = c .before in
     let first = second .before .before in
     let w = first .before .lefts .ensures in
-    let p = first .encrypt4-with .ensures in
+    let p = first .encrypt-with-x4 .ensures in
     let z = second .before .chains .ensures in
-    let q = second .encrypt4-with2 .ensures in
+    let q = second .encrypt-with-x42 .ensures in
     let x = first .before .before .args in
     c .joins .ensures
-    ∙ four-same counted16 (bl1-steps (now (x .ka)) (x .x .a) (w .0) (p .0) (z .0) (q .0)) (bl1-steps (now (x .kb)) (x .x .b) (w .1) (p .1) (z .1) (q .1))
-    (bl1-steps (now (x .kc)) (x .x .c) (w .2) (p .2) (z .2) (q .2)) (bl1-steps (now (x .kd)) (x .x .d) (w .3) (p .3) (z .3) (q .3))
+    ∙ four-same counted16 (bl1-steps (now (x .ka)) (x .x .a) (lane-same 0 w) (lane-same 0 p) (lane-same 0 z) (lane-same 0 q))
+    (bl1-steps (now (x .kb)) (x .x .b) (lane-same 1 w) (lane-same 1 p) (lane-same 1 z) (lane-same 1 q))
+    (bl1-steps (now (x .kc)) (x .x .c) (lane-same 2 w) (lane-same 2 p) (lane-same 2 z) (lane-same 2 q))
+    (bl1-steps (now (x .kd)) (x .x .d) (lane-same 3 w) (lane-same 3 p) (lane-same 3 z) (lane-same 3 q))
 
 pub bl1-with-x4-spec : {M : Type 1} → statement M
 bl1-with-x4-spec =

@@ -10,7 +10,11 @@ returns c =
     let second = third .before in
     let first = second .before in
     let x = first .before .before .before .before .before .args in
-    rw (c .bl1-with-x4 .ensures, bl1-under (x .k .a) (x .x .a) (first .schedule .ensures), bl1-under (x .k .b) (x .x .b) (second .schedule2 .ensures), bl1-under (x .k .c) (x .x .c) (third .schedule3 .ensures), bl1-under (x .k .d) (x .x .d) (fourth .schedule4 .ensures))
+    let e₀ = bl1-under (x .k .a) (x .x .a) (first .schedule .ensures) in
+    let e₁ = bl1-under (x .k .b) (x .x .b) (second .schedule2 .ensures) in
+    let e₂ = bl1-under (x .k .c) (x .x .c) (third .schedule3 .ensures) in
+    let e₃ = bl1-under (x .k .d) (x .x .d) (fourth .schedule4 .ensures) in
+    rw (c .bl1-with-x4 .ensures, e₀, e₁, e₂, e₃)
 
 pub bl1-x4-spec : {M : Type 1} → statement M
 bl1-x4-spec =

@@ -10,7 +10,11 @@ returns c =
     let second = third .before in
     let first = second .before in
     let x = first .before .before .before .before .before .args in
-    rw (c .bl2-with-x4 .ensures, bl2-under (x .k .a) (x .y .a) (first .schedule .ensures), bl2-under (x .k .b) (x .y .b) (second .schedule2 .ensures), bl2-under (x .k .c) (x .y .c) (third .schedule3 .ensures), bl2-under (x .k .d) (x .y .d) (fourth .schedule4 .ensures))
+    let e₀ = bl2-under (x .k .a) (x .y .a) (first .schedule .ensures) in
+    let e₁ = bl2-under (x .k .b) (x .y .b) (second .schedule2 .ensures) in
+    let e₂ = bl2-under (x .k .c) (x .y .c) (third .schedule3 .ensures) in
+    let e₃ = bl2-under (x .k .d) (x .y .d) (fourth .schedule4 .ensures) in
+    rw (c .bl2-with-x4 .ensures, e₀, e₁, e₂, e₃)
 
 pub bl2-x4-spec : {M : Type 1} → statement M
 bl2-x4-spec =

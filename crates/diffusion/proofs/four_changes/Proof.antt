@@ -1,7 +1,7 @@
 use Prim.Native.Nat.{_+_}
 use denote.Ref.{now}
 use borrow.Author.Needs.{needs}
-use Rattle.diffusion.proofs.CountLaws.{changed-is}
+use Rattle.diffusion.proofs.CountLaws.{changed-is, lane-same}
 use Rattle.diffusion.proofs.four_changes.Statement.{statement}
 use Rattle.diffusion.proofs.four_changes.Tie as tie
 
@@ -13,13 +13,13 @@ returns c =
     let i = given .args .i in
     let output = given .pre .0 in
     let x = c .before .before .flips .ensures in
-    let y = c .before .encrypt4-with .ensures in
+    let y = c .before .encrypt-with-x4 .ensures in
     let r = c .differences .ensures .0 in (
       (
-        changed-is keys block i output (x .0) (y .0) (r .0),
-        changed-is keys block (i + 1) output (x .1) (y .1) (r .1),
-        changed-is keys block (i + 2) output (x .2) (y .2) (r .2),
-        changed-is keys block (i + 3) output (x .3) (y .3) (r .3),
+        changed-is keys block i output (lane-same 0 x) (lane-same 0 y) (r .0),
+        changed-is keys block (i + 1) output (lane-same 1 x) (lane-same 1 y) (r .1),
+        changed-is keys block (i + 2) output (lane-same 2 x) (lane-same 2 y) (r .2),
+        changed-is keys block (i + 3) output (lane-same 3 x) (lane-same 3 y) (r .3),
       ),
       c .differences .ensures .1,
     )

@@ -2,6 +2,8 @@ use mathlib.Core.Path.{_≡_, refl, ap}
 use Prim.Native.Nat.{_-_, _≤_, zero-le}
 use native.Mathlib.Omega.{arith}
 use borrow.Author.Needs.{needs}
+use Rattle.hurdle.specs.RoundSteps.{spreads}
+use Rattle.standard.specs.Bytes.{bit}
 use Rattle.standard.specs.Hurdle.{S, a}
 use Rattle.standard.specs.Register.{State, backward}
 use Rattle.register.proofs.RegisterStateLaws.{rotation-most, backward-more}
@@ -10,10 +12,10 @@ use Rattle.register.proofs.backward.Statement.{statement}
 use Rattle.register.proofs.backward.Tie as tie
 
 abbrev Inv-loop : tie.InvT-loop
-Inv-loop s rots q₀ h₀ i₀ q h i = (i ≤ 16) × (rots ≡ a) × (stateOf q (h .l) (h .r) ≡ backward i (stateOf q₀ (h₀ .l) (h₀ .r)))
+Inv-loop s w rots q₀ h₀ i₀ q h i = (i ≤ 16) × (rots ≡ a) × (stateOf q h ≡ backward i (stateOf q₀ h₀))
 
 abbrev μ-loop : tie.MeasureT-loop
-μ-loop s rots q₀ h₀ i₀ q h i = 16 - i
+μ-loop s w rots q₀ h₀ i₀ q h i = 16 - i
 
 loop-holds : tie.Need-loop-holds Inv-loop μ-loop
 unfolding a backward
@@ -25,11 +27,15 @@ step-back-requires c κs =
     rotation-most _ (15 - at .i) (at .inv .1) (omega arith)
 
 loop-again : tie.Need-loop-again Inv-loop μ-loop
-unfolding S
+unfolding S spreads bit
 loop-again c =
-    let stepped = c .before .before .before in
-    let at = stepped .before .before .before .loop in
-    (omega arith, at .inv .1, backward-more _ (at .i) _ (at .q) (at .h .l) (at .h .r) (stepped .step-back .result) (c .round-under .result .l) (c .round-under .result .r) (at .inv .1) (at .inv .2) (stepped .step-back .ensures) (c .round-under .ensures))
+    let stepped = c .before .before .before .before in
+    let at = stepped .before .before .before .loop in (
+      omega arith,
+      at .inv .1,
+      backward-more _ (at .i) _ (at .q) (at .h) (stepped .step-back .result) (c .round-under .result) (at .inv .1) (at .inv .2)
+          (stepped .step-back .ensures) (c .round-under .ensures),
+    )
 
 returns : tie.Need-returns Inv-loop μ-loop
 returns c =

@@ -9,7 +9,7 @@ returns c =
     let halves = back .before .before in
     let x = halves .before .args in
     rw (back .before .if1 .taken)
-    (decrypted (x .key) (x .block) _ _ _ _ _ (search needs) (halves .split .ensures) (back .backward .ensures) (c .joined .ensures))
+    (decrypted (x .key) (x .block) _ _ _ (halves .split .ensures) (c .joined .ensures) (search needs) (back .backward .ensures))
 
 returns-2 : tie.Need-returns-2
 returns-2 c =
@@ -17,7 +17,7 @@ returns-2 c =
     let halves = on .before .before in
     let x = halves .before .args in
     rw (on .before .if1 .left)
-    (encrypted (x .key) (x .block) _ _ _ _ _ (halves .split .ensures) (on .onward .ensures) (c .joined2 .ensures))
+    (encrypted (x .key) (x .block) _ _ _ (halves .split .ensures) (c .joined2 .ensures) (on .onward .ensures))
 
 pub crypt-spec : {M : Type 1} → statement M
 crypt-spec =

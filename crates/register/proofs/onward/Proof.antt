@@ -2,6 +2,8 @@ use mathlib.Core.Path.{_≡_, refl, ap}
 use Prim.Native.Nat.{_-_, _≤_, zero-le}
 use native.Mathlib.Omega.{arith}
 use borrow.Author.Needs.{needs}
+use Rattle.hurdle.specs.RoundSteps.{spreads}
+use Rattle.standard.specs.Bytes.{bit}
 use Rattle.standard.specs.Hurdle.{S, a}
 use Rattle.standard.specs.Register.{State, onward}
 use Rattle.register.proofs.RegisterStateLaws.{rotation-most, onward-more}
@@ -10,10 +12,10 @@ use Rattle.register.proofs.onward.Statement.{statement}
 use Rattle.register.proofs.onward.Tie as tie
 
 abbrev Inv-loop : tie.InvT-loop
-Inv-loop s rots q₀ h₀ i₀ q h i = (i ≤ 16) × (rots ≡ a) × (stateOf q (h .l) (h .r) ≡ onward i (stateOf q₀ (h₀ .l) (h₀ .r)))
+Inv-loop s w rots q₀ h₀ i₀ q h i = (i ≤ 16) × (rots ≡ a) × (stateOf q h ≡ onward i (stateOf q₀ h₀))
 
 abbrev μ-loop : tie.MeasureT-loop
-μ-loop s rots q₀ h₀ i₀ q h i = 16 - i
+μ-loop s w rots q₀ h₀ i₀ q h i = 16 - i
 
 loop-holds : tie.Need-loop-holds Inv-loop μ-loop
 unfolding a onward
@@ -21,15 +23,19 @@ loop-holds c = (zero-le, refl, refl)
 
 step-requires : tie.Need-step-requires Inv-loop μ-loop
 step-requires c κs =
-    let at = c .before .before .before .before .before .loop in
+    let at = c .before .before .before .before .before .before .loop in
     rotation-most _ (at .i) (at .inv .1) (omega arith)
 
 loop-again : tie.Need-loop-again Inv-loop μ-loop
-unfolding S
+unfolding S spreads bit
 loop-again c =
     let rounded = c .before .before in
-    let at = rounded .before .before .before .before .loop in
-    (omega arith, at .inv .1, onward-more _ (at .i) _ (at .q) (at .h .l) (at .h .r) (c .step .result) (rounded .round-under .result .l) (rounded .round-under .result .r) (at .inv .1) (at .inv .2) (rounded .round-under .ensures) (c .step .ensures))
+    let at = rounded .before .before .before .before .before .loop in (
+      omega arith,
+      at .inv .1,
+      onward-more _ (at .i) _ (at .q) (at .h) (c .step .result) (rounded .round-under .result) (at .inv .1) (at .inv .2)
+          (rounded .round-under .ensures) (c .step .ensures),
+    )
 
 returns : tie.Need-returns Inv-loop μ-loop
 returns c =

@@ -1,45 +1,40 @@
-use mathlib.Core.Path.{_≡_}
+use mathlib.Core.Path.{_≡_, refl}
 use Prim.Native.Nat.{_-_, _≤_, zero-le}
 use native.Mathlib.Omega.{arith}
-use Rattle.hurdle.proofs.RoundLaws.{turned-none, turned-more}
-use Rattle.hurdle.specs.RoundSteps.{Turned}
+use denote.Ref.{now}
+use Rattle.hurdle.proofs.LaneLaws.{Turned, rounds-more-x4}
+use Rattle.hurdle.specs.Lanes.{byLane}
+use Rattle.hurdle.specs.RoundSteps.{roundsOver, spreads}
+use Rattle.standard.specs.Bytes.{bit}
 use Rattle.standard.specs.Hurdle.{S}
 use Rattle.hurdle.proofs.lanes.rounds.Statement.{statement}
 use Rattle.hurdle.proofs.lanes.rounds.Tie as tie
 
 abbrev Inv-loop : tie.InvT-loop
-Inv-loop ka kb kc kd back s a b c d l₀ r₀ i₀ l r i =
-    (i ≤ 16)
-    × Turned back ka (l₀ .a) (r₀ .a) i (l .a) (r .a)
-    × Turned back kb (l₀ .b) (r₀ .b) i (l .b) (r .b)
-    × Turned back kc (l₀ .c) (r₀ .c) i (l .c) (r .c)
-    × Turned back kd (l₀ .d) (r₀ .d) i (l .d) (r .d)
+Inv-loop ka kb kc kd back s w a b c d state₀ i₀ state i = (i ≤ 16) × Turned back (byLane ka kb kc kd) state₀ i state
 
 abbrev μ-loop : tie.MeasureT-loop
-μ-loop ka kb kc kd back s a b c d l₀ r₀ i₀ l r i = 16 - i
+μ-loop ka kb kc kd back s w a b c d state₀ i₀ state i = 16 - i
 
 loop-holds : tie.Need-loop-holds Inv-loop μ-loop
-loop-holds c = (zero-le, turned-none, turned-none, turned-none, turned-none)
+unfolding roundsOver
+loop-holds c = (zero-le, (refl, refl, refl, refl))
 
 loop-again : tie.Need-loop-again Inv-loop μ-loop
-unfolding S
+unfolding S spreads bit
 loop-again c =
-    let y = c .before in
-    let placed = y .before in
-    let at = placed .before .before .before .loop in
-    let e = placed .place .ensures .0 in (
-      omega arith,
-      turned-more (y .fs .result .a) e (y .fs .ensures .0) (c .xors .ensures .0) (at .inv .1),
-      turned-more (y .fs .result .b) e (y .fs .ensures .1) (c .xors .ensures .1) (at .inv .2),
-      turned-more (y .fs .result .c) e (y .fs .ensures .2) (c .xors .ensures .2) (at .inv .3),
-      turned-more (y .fs .result .d) e (y .fs .ensures .3) (c .xors .ensures .3) (at .inv .4),
-    )
+    let made = c .before in
+    let placed = made .before in
+    let head = placed .before .before .before .before in
+    let x = head .before .before .before .before .before .args in
+    let K = byLane (now (x .ka)) (now (x .kb)) (now (x .kc)) (now (x .kd)) in
+    let more = rounds-more-x4 (x .back) K (x .h) (head .loop .i) (placed .place .result) (head .loop .state) (c .exchanges .result) (made .f-x4 .result) in
+    (omega arith, more (placed .place .ensures .0) (head .loop .inv .1) (made .f-x4 .ensures) (c .exchanges .ensures))
 
 returns : tie.Need-returns Inv-loop μ-loop
 returns c =
     let e : c .before .loop .i ≡ 16 = omega arith in
-    let inv = c .before .loop .inv in
-    (rw e at (inv .1), rw e at (inv .2), rw e at (inv .3), rw e at (inv .4))
+    rw e at (c .before .loop .inv .1)
 
 pub rounds-spec : {M : Type 1} → statement M
 rounds-spec =

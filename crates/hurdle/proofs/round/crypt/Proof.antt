@@ -1,10 +1,15 @@
+use mathlib.Core.Path.{_∙_}
+use denote.Ref.{now}
 use borrow.Author.Needs.{needs}
 use Rattle.hurdle.proofs.RoundLaws.{crypted}
 use Rattle.hurdle.proofs.round.crypt.Statement.{statement}
 use Rattle.hurdle.proofs.round.crypt.Tie as tie
 
 returns : tie.Need-returns
-returns c = crypted (c .before .before .split .ensures) (c .before .rounds .ensures) (c .joined .ensures)
+returns c =
+    let cut = c .before .before in
+    let x = cut .before .args in
+    c .joined .ensures ∙ crypted (x .back) (now (x .keys)) (cut .split .ensures) (c .before .rounds .ensures)
 
 pub crypt-spec : {M : Type 1} → statement M
 crypt-spec = tie.close (tie.spec (λ c κs. search needs) (λ c κs. search needs) (λ c κs. search needs) returns)

@@ -3,7 +3,7 @@ use Rattle.hurdle.proofs.round.link.Statement.{statement}
 use Rattle.hurdle.proofs.round.link.Tie as tie
 
 returns : tie.Need-returns
-returns c = cc
+returns c = rw (c .wrapping-add-u8 .ensures)
 
 pub link-spec : {M : Type 1} → statement M
-link-spec = tie.close (tie.spec (λ c κs. search needs) (λ c κs. search needs) (λ c κs. search needs) returns)
+link-spec = tie.close (tie.spec (λ c κs. search needs) returns)

@@ -1,26 +1,35 @@
 use mathlib.Core.Path.{_≡_, refl}
 use Prim.Native.Nat.{_-_, _≤_, zero-le}
 use native.Mathlib.Omega.{arith}
-use Rattle.hurdle.proofs.RoundLaws.{turned-none, turned-more}
-use Rattle.hurdle.specs.RoundSteps.{Turned}
+use denote.Ref.{now}
+use Rattle.hurdle.proofs.RoundLaws.{rounds-more}
+use Rattle.hurdle.specs.RoundSteps.{roundsOver, spreads}
+use Rattle.standard.specs.Bytes.{bit}
 use Rattle.standard.specs.Hurdle.{S}
 use Rattle.hurdle.proofs.round.rounds.Statement.{statement}
 use Rattle.hurdle.proofs.round.rounds.Tie as tie
 
 abbrev Inv-loop : tie.InvT-loop
-Inv-loop keys back s laid l₀ r₀ i₀ l r i = (i ≤ 16) × Turned back keys l₀ r₀ i l r
+Inv-loop keys back s w laid state₀ i₀ state i = (i ≤ 16) × (state ≡ roundsOver back keys i state₀)
 
 abbrev μ-loop : tie.MeasureT-loop
-μ-loop keys back s laid l₀ r₀ i₀ l r i = 16 - i
+μ-loop keys back s w laid state₀ i₀ state i = 16 - i
 
 loop-holds : tie.Need-loop-holds Inv-loop μ-loop
-loop-holds c = (zero-le, turned-none)
+unfolding roundsOver
+loop-holds c = (zero-le, refl)
 
 loop-again : tie.Need-loop-again Inv-loop μ-loop
-unfolding S
+unfolding S spreads bit
 loop-again c =
-    let placed = c .before in
-    (omega arith, turned-more (c .f .result) (placed .place .ensures .0) (c .f .ensures) refl (placed .before .before .before .loop .inv .1))
+    let made = c .before in
+    let placed = made .before in
+    let head = placed .before .before .before .before in
+    let x = head .before .before .args in (
+      omega arith,
+      rounds-more (x .back) (now (x .keys)) (head .loop .i) _ (x .h) (placed .place .ensures .0) (head .loop .inv .1) (made .f .ensures)
+          (c .exchanged .ensures),
+    )
 
 returns : tie.Need-returns Inv-loop μ-loop
 returns c =
@@ -37,6 +46,7 @@ rounds-spec =
     (λ c κs. omega arith)
     (λ c. omega arith)
     (λ c κs. omega arith)
+    (λ c κs. tt)
     (λ c. omega arith)
     (λ c. omega arith)
     loop-again

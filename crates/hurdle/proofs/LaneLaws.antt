@@ -1,0 +1,39 @@
+-- f, the rounds and the blocks in each of four lanes, where lane j's round key or round keys are K j.
+-- Assumes nothing.
+use mathlib.Core.Bool.{Bool}
+use mathlib.Core.List.{List, _++_}
+use mathlib.Core.Path.{_≡_, ap, _∙_}
+use Prim.Native.Nat.{ℕ, _+_}
+use Rattle.hurdle.specs.declared.round.Halves.{Halves as Words}
+use Rattle.standard.specs.Bytes.{_!_}
+use Rattle.standard.specs.Hurdle.{S, crypt, roundKey}
+use Rattle.hurdle.specs.Lanes.{lanes, lane, eachLane}
+use Rattle.hurdle.specs.RoundSteps.{bytes4, linksOver, gatherOver, fOver, exchangedBy, roundOver, roundsOver, spreads, halvesAt, HalvesOf, place}
+use Rattle.hurdle.proofs.RoundLaws.{round-more, crypted}
+
+-- the three fours of the chain, gathered, of the halves X j
+pub f-lanes : (s w : List ℕ) (X K : ℕ → List ℕ) (p q r : List (List ℕ)) (y : List ℕ) → p ≡ lanes (λ j. linksOver s 0 (X j) (K j) 0)
+    → q ≡ lanes (λ j. linksOver s (s ! (lane p j ! 3)) (X j) (K j) 4) → r ≡ lanes (λ j. linksOver s (s ! (lane q j ! 3)) (X j) (K j) 8)
+    → y ≡ lanes (λ j. gatherOver w (lane q j) (lane r j)) → y ≡ lanes (λ j. fOver s w (X j) (K j))
+unfolding fOver
+f-lanes s w X K p q r y firsts seconds thirds gathers = rw (gathers, thirds, seconds, firsts)
+
+module _ (back : Bool) (K : ℕ → List ℕ) (h : List Words) where
+  abbrev pub Turned : ℕ → List Words → Type 0
+  Turned i state = eachLane (λ j. halvesAt state j ≡ roundsOver back (K j) i (halvesAt h j))
+
+  -- one round more in each lane
+  pub rounds-more-x4 : (i n : ℕ) (state next : List Words) (y : List ℕ) → n ≡ place back i → Turned i state
+      → y ≡ lanes (λ j. fOver S spreads (bytes4 (halvesAt state j .r)) (roundKey (K j) n)) → next ≡ lanes (λ j. exchangedBy (halvesAt state j) (y ! j))
+      → Turned (i + 1) next
+  rounds-more-x4 i n state next y e p q r = rw (r, q) (one 0 (p .0), one 1 (p .1), one 2 (p .2), one 3 (p .3))
+    where
+      one : (j : ℕ) → halvesAt state j ≡ roundsOver back (K j) i (halvesAt h j)
+          → roundOver S spreads (roundKey (K j) n) (halvesAt state j) ≡ roundsOver back (K j) (i + 1) (halvesAt h j)
+      one j t = ap (roundOver S spreads (roundKey (K j) n)) t ∙ round-more back (K j) i n (halvesAt h j) e
+
+  -- the halves, the rounds and the halves exchanged are the blocks
+  pub crypted-x4 : (x : List (List ℕ)) (o : List Words) → eachLane (λ j. HalvesOf (lane x j) (halvesAt h j)) → Turned 16 o
+      → lanes (λ j. bytes4 (halvesAt o j .r) ++ bytes4 (halvesAt o j .l)) ≡ lanes (λ j. crypt (λ i. roundKey (K j) (place back i)) (lane x j))
+  crypted-x4 x o s t =
+      rw (crypted back (K 0) (s .0) (t .0), crypted back (K 1) (s .1) (t .1), crypted back (K 2) (s .2) (t .2), crypted back (K 3) (s .3) (t .3))

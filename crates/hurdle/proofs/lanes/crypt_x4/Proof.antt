@@ -1,0 +1,17 @@
+use mathlib.Core.Path.{_∙_}
+use denote.Ref.{now}
+use borrow.Author.Needs.{needs}
+use Rattle.hurdle.proofs.LaneLaws.{crypted-x4}
+use Rattle.hurdle.specs.Lanes.{byLane}
+use Rattle.hurdle.proofs.lanes.crypt_x4.Statement.{statement}
+use Rattle.hurdle.proofs.lanes.crypt_x4.Tie as tie
+
+returns : tie.Need-returns
+returns c =
+    let cut = c .before .before in
+    let x = cut .before .args in
+    let K = byLane (now (x .ka)) (now (x .kb)) (now (x .kc)) (now (x .kd)) in
+    c .joins .ensures ∙ crypted-x4 (x .back) K (cut .splits .result) (x .x) (c .before .rounds .result) (cut .splits .ensures) (c .before .rounds .ensures)
+
+pub crypt-x4-spec : {M : Type 1} → statement M
+crypt-x4-spec = tie.close (tie.spec (λ c κs. search needs) (λ c κs. search needs) (λ c κs. search needs) returns)

@@ -1,0 +1,32 @@
+use borrow.Author.Needs.{needs}
+use Rattle.hurdle.specs.RoundSteps.{linksOver}
+use Rattle.hurdle.proofs.round.second.Statement.{statement}
+use Rattle.hurdle.proofs.round.second.Tie as tie
+
+returns : tie.Need-returns
+unfolding linksOver
+returns c =
+    let t = c .before .before .before .before .before in
+    rw (c .links .ensures, t .entry .ensures, t .before .half-bytes .ensures)
+
+pub second-spec : {M : Type 1} → statement M
+second-spec =
+    tie.close
+    (tie.spec
+    (λ c κs. search needs)
+    (λ c. search needs)
+    (λ c κs. search needs)
+    (λ c. search needs)
+    (λ c. search needs)
+    (λ c. search needs)
+    (λ c. search needs)
+    (λ c. search needs)
+    (λ c. search needs)
+    (λ c. search needs)
+    (λ c. search needs)
+    (λ c. search needs)
+    (λ c. search needs)
+    (λ c. search needs)
+    (λ c. search needs)
+    (λ c κs. search needs)
+    returns)
