@@ -8,7 +8,8 @@ returns : tie.Need-returns
 returns c =
     let third = c .before in
     let second = third .before in
-    four-same (λ (o : CoreOutput15). o) (second .before .bl2-output .ensures) (second .bl2-output2 .ensures) (third .bl2-output3 .ensures) (c .bl2-output4 .ensures)
+    four-same (λ (o : CoreOutput15). o) (second .before .bl2-output .ensures) (second .bl2-output2 .ensures)
+    (third .bl2-output3 .ensures) (c .bl2-output4 .ensures)
 
 pub joins7-spec : {M : Type 1} → statement M
 joins7-spec =

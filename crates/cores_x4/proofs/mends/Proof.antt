@@ -9,7 +9,8 @@ returns : tie.Need-returns
 returns c =
     let third = c .before in
     let second = third .before in
-    four-same (λ (o : List ℕ). o) (second .before .bl2-left-input .ensures) (second .bl2-left-input2 .ensures) (third .bl2-left-input3 .ensures) (c .bl2-left-input4 .ensures)
+    four-same (λ (o : List ℕ). o) (second .before .bl2-left-input .ensures) (second .bl2-left-input2 .ensures)
+    (third .bl2-left-input3 .ensures) (c .bl2-left-input4 .ensures)
 
 pub mends-spec : {M : Type 1} → statement M
 mends-spec =

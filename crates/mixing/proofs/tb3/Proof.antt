@@ -25,7 +25,12 @@ returns-3 : tie.Need-returns-3
 unfolding tb3Call
 returns-3 c =
     let x = c .before .before .before in
-    rw (c .refused3 .ensures, eq-eqb _ _ (x .before .before .if1 .left), passed (x .before .wide .ensures) (x .if2 .left), failed (c .before .before .fits-in .ensures) (c .before .if3 .taken))
+    rw (
+      c .refused3 .ensures,
+      eq-eqb _ _ (x .before .before .if1 .left),
+      passed (x .before .wide .ensures) (x .if2 .left),
+      failed (c .before .before .fits-in .ensures) (c .before .if3 .taken),
+    )
 
 tb1-of-requires : tie.Need-tb1-of-requires
 tb1-of-requires c κs =
@@ -38,7 +43,14 @@ unfolding tb3Call tb3
 returns-4 c =
     let x = c .before .before .before in
     let y = x .before .before in
-    rw (c .xor16 .ensures, c .before .tb1-of .ensures, c .before .before .array16 .ensures, eq-eqb _ _ (y .before .before .if1 .left), passed (y .before .wide .ensures) (y .if2 .left), passed (x .before .fits-in .ensures) (x .if3 .left))
+    rw (
+      c .xor16 .ensures,
+      c .before .tb1-of .ensures,
+      c .before .before .array16 .ensures,
+      eq-eqb _ _ (y .before .before .if1 .left),
+      passed (y .before .wide .ensures) (y .if2 .left),
+      passed (x .before .fits-in .ensures) (x .if3 .left),
+    )
 
 pub tb3-spec : {M : Type 1} → statement M
 tb3-spec =
