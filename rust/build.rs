@@ -1,6 +1,7 @@
-//! Links the engine's archive, libengine.a. Its folder is that which TAA1_ARCHIVE_DIR
-//! names; else it is the repository's, where the engine is proved and compiled if a
-//! source is newer than the archive and the Rattle kit is installed.
+//! Links the engine's archive: libengine.a, or libtaa1.a as ./install names it. Its folder
+//! is that which TAA1_ARCHIVE_DIR names; else it is the repository's, where the engine is
+//! proved and compiled if a source is newer than the archive and the Rattle kit is
+//! installed.
 
 use std::env;
 use std::fs;
@@ -15,24 +16,26 @@ const HOW: &str =
 
 fn main() {
     println!("cargo:rerun-if-env-changed={FOLDER}");
-    let archives = match env::var_os(FOLDER) {
+    let (archives, name) = match env::var_os(FOLDER) {
         Some(folder) => named(folder.into()),
-        None => made(),
+        None => (made(), "engine"),
     };
     println!("cargo:rustc-link-search=native={}", archives.display());
-    println!("cargo:rustc-link-lib=static=engine");
+    println!("cargo:rustc-link-lib=static={name}");
 }
 
-/// The folder that the environment names.
-fn named(folder: PathBuf) -> PathBuf {
-    let archive = folder.join("libengine.a");
+/// The folder that the environment names, and the archive's name there.
+fn named(folder: PathBuf) -> (PathBuf, &'static str) {
+    let archive = |name: &str| folder.join(format!("lib{name}.a"));
+    let found = ["engine", "taa1"]
+        .into_iter()
+        .find(|name| archive(name).exists());
     let shown = folder.display();
-    assert!(
-        archive.exists(),
-        "no libengine.a in {shown}, which {FOLDER} names; {HOW}"
-    );
-    println!("cargo:rerun-if-changed={}", archive.display());
-    folder
+    let name = found.unwrap_or_else(|| {
+        panic!("no libengine.a in {shown}, which {FOLDER} names, nor libtaa1.a; {HOW}")
+    });
+    println!("cargo:rerun-if-changed={}", archive(name).display());
+    (folder, name)
 }
 
 /// The repository's folder, with an archive of the engine as it is now.
