@@ -19,7 +19,7 @@
  * others, record by record.
  *
  * An output is a pointer and a length too, and must not overlap an input. It may
- * be longer than the result: the bytes behind those written stay as they are. For
+ * be longer than the result: the bytes after those written stay as they are. For
  * an output of no bytes, null will do. A refusal leaves it unchanged.
  *
  * A Rust host declares `*const u8, usize` for a byte string, `*mut u8, usize`
@@ -470,7 +470,7 @@ taa1_bytes10 taa1_tb5(const uint8_t *cipher_key, size_t cipher_key_length,
 taa1_bytes10 taa1_tb6(const uint8_t *cipher_key, size_t cipher_key_length,
                       uint64_t carrier, uint64_t identity);
 
-/* A group key [12], with the xor of each three bytes behind them. Refuses 11. */
+/* A group key [12], with the xor of each three bytes after them. Refuses 11. */
 taa1_bytes16 taa1_tb7(const uint8_t *group_key, size_t group_key_length);
 
 /*
@@ -571,7 +571,7 @@ taa1_book_answer taa1_check_plain(const uint8_t *plain, size_t plain_length);
  *
  * A record has 22 bytes: the operation, the indexes of its two parents (two bytes
  * each, the high one first), a length, and a value [16]. Operation 0 has the key
- * itself as the value, 10 or 16 bytes as the length says, with zeros behind it and
+ * itself as the value, 10 or 16 bytes as the length says, with zeros after it and
  * as the parents. The others derive the key from the parents, two records before
  * it, and have zeros as length and value: 1 by TA11, 2 by TA21 and 3 by TA41, from
  * a key [16] and a key [10] to one of 16 bytes; 4 by TB4 and 5 by TA71, from two
@@ -579,7 +579,7 @@ taa1_book_answer taa1_check_plain(const uint8_t *plain, size_t plain_length);
  */
 
 /*
- * The key of each record; writes TAA1_SHEET_VALUE_BYTES for each, zeros behind a
+ * The key of each record; writes TAA1_SHEET_VALUE_BYTES for each, zeros after a
  * key [10]. Refuses 1, 2, 12; of a record 14, 15, 16.
  */
 taa1_book_answer taa1_lineage(const uint8_t *sheet, size_t sheet_length,
