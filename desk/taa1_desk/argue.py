@@ -22,7 +22,7 @@ WHOLE = (
 def argument_sheet(
     desk: Desk, sitting: Sitting, ring: Ring, heading: Heading, plain: bytes
 ) -> Document:
-    """The claims with room for marks, and behind them their instances."""
+    """The claims with room for marks, and after them their instances."""
     made = Instances(desk, sitting, ring, plain)
     tick, points = Boxes(1, tick=True), Boxes(1)
     rows = [(c.label, c.sentence, c.verdict, tick, tick, points) for c in CLAIMS]

@@ -1,7 +1,7 @@
 """Candidates' names: from a list, or from the names of their files.
 
 A list has a line `FILE = Name` for each candidate. FILE is the name of the hand-in's
-file, with or without what stands behind a point.
+file, with or without what stands after a point.
 """
 
 from __future__ import annotations
@@ -47,7 +47,7 @@ def named(
     files: Sequence[str], pages: Sequence[str], listed: dict[str, str], left_out: Sequence[str] = ()
 ) -> Named:
     """Each hand-in's candidate. Where two have the same name, their pages' names, which
-    differ, stand behind it."""
+    differ, stand after it."""
     names, used = [], {}
     for file in files:
         key = _listed(os.path.basename(file), listed)

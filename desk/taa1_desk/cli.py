@@ -100,7 +100,7 @@ def _digits(count: int) -> Callable[[str], int]:
 
 
 def _bytes(text: str) -> bytes:
-    """Bytes in hexadecimal, or those of the file behind an @."""
+    """Bytes in hexadecimal, or those of the file after an @."""
     if text.startswith("@"):
         return files.read_bytes(text[1:])
     try:

@@ -12,7 +12,7 @@ from .working import EXP3_GROUPS, FOURS, PAIRS, Steps
 ANOTHER = 0x5A  # what is ⊕ into a redundancy byte
 ABOVE = 0x20  # what is put above a number's five bits
 
-# For each algorithm that seals, the expansion and how many bytes it puts a ⊕ behind.
+# For each algorithm that seals, the expansion and how many bytes it puts a ⊕ after.
 EXPANSIONS = {
     "ta31": ("exp1", PAIRS),
     "ta51": ("exp3", EXP3_GROUPS),
@@ -51,7 +51,7 @@ def damaged(desk: Desk, ring: Ring, plain: list[Entry], sealed: bytes, wanted: l
 
 
 def _failing(desk: Desk, ring: Ring, entry: Entry, check: int) -> bytes:
-    """An entry's text of which one check fails: an inserted byte is another or, behind the
+    """An entry's text of which one check fails: an inserted byte is another or, after the
     last one, a bit stands above the number's five."""
     expansion, sizes = EXPANSIONS[KINDS[entry.kind].seal]
     at = sum(sizes[: check + 1]) + check

@@ -43,7 +43,7 @@ class Table(NamedTuple):
 
 
 class Fields(NamedTuple):
-    """Places to write on behind names."""
+    """Places to write on after names."""
 
     names: Sequence[str]
 
@@ -110,7 +110,7 @@ def columns(rows: Iterable[Any], heads: Sequence[str] = ()) -> list[str]:
 
 
 def _lines(block: Block) -> list[str]:
-    """A block's lines, and a blank one behind it."""
+    """A block's lines, and a blank one after it."""
     if isinstance(block, Head):
         if block.level == 3:
             return textwrap.wrap(block.words, WIDTH, break_on_hyphens=False)

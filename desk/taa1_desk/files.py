@@ -96,7 +96,7 @@ def read(name: str) -> bytes:
 
 
 def text(data: bytes) -> Optional[str]:
-    """The lines of text that these bytes are, in UTF-8 or behind UTF-16's mark, or None.
+    """The lines of text that these bytes are, in UTF-8 or after UTF-16's mark, or None.
     No ring, book or sheet of bytes is text, but for the empty one: each has a byte below 7
     in front, or is not UTF-8."""
     try:

@@ -28,7 +28,7 @@ FILES = (  # by their first bytes
 def text_of(data: bytes) -> Optional[tuple[str, str]]:
     """The text that these bytes are, and its code if that is to be said; None if they are
     none."""
-    codes = {"utf-8": "", "utf-8-sig": " behind a byte order mark", "latin-1": " in Latin-1"}
+    codes = {"utf-8": "", "utf-8-sig": " after a byte order mark", "latin-1": " in Latin-1"}
     if data[:2] in (b"\xff\xfe", b"\xfe\xff"):
         codes = {"utf-16": " in UTF-16"}
     elif len(data) % 2 == 0 and not any(data[1::2]):
@@ -132,7 +132,7 @@ def _addressed(lines: list[str], value: Callable[[str], bytes], base: int) -> Op
             return bytes(made[:address]) if 0 <= len(made) - address < 8 else None
         if len(made) != address:
             return None
-        # the bytes as letters stand behind two spaces, or between | or >
+        # the bytes as letters stand after two spaces, or between | or >
         values = found[3].partition("  ")[0] if found[2] else re.split(r"[|>]", found[3])[0]
         last = b"".join(map(value, values.split()))
         made += last

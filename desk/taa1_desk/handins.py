@@ -247,7 +247,7 @@ class Reader:
             how = f"{reading.how or BYTES}, but for {plural(front, 'byte')} in front"
             return reading._replace(book=book[front:], how=how)
         if front:
-            problem = f"a book behind {plural(front, 'byte')}, or one whose first record is cut short"
+            problem = f"a book after {plural(front, 'byte')}, or one whose first record is cut short"
         problem = problem or self._other_size(book, found)
         if not problem and found and left and whole + 1 < len(self.marker.model):
             problem = f"a book that was cut short: {plural(whole, 'record')} and {plural(left, 'byte')}"

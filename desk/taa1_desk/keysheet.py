@@ -106,7 +106,7 @@ def read(where: str, data: bytes) -> KeyFile:
 
 
 def _parted(line: str) -> tuple[str, str, str]:
-    """A line's name, what stands behind it, and the value; the = may be missing where a
+    """A line's name, what stands after it, and the value; the = may be missing where a
     name and a value of its length are all that there is."""
     left, equals, right = re.sub(r"[=:]", "=", line, count=1).partition("=")
     words = line.split()

@@ -104,7 +104,7 @@ class Sheet(NamedTuple):
     size: int  # entries of the model
     entries: tuple[Marked, ...] = ()
     missing: tuple[int, ...] = ()
-    left: int = 0  # bytes behind the last whole record
+    left: int = 0  # bytes after the last whole record
     slips: tuple[Explained, ...] = ()
     read_as: str = ""  # the hand-in's form, but for bytes as they are
     again: int = 0  # further answers, about entries that have one or that there are none of
@@ -278,7 +278,7 @@ class Marker:
 
     def _signs(self, record: bytes) -> dict[int, int]:
         """The entries that a record shows signs of, and their weight. An identity weighs
-        more than a text: who exchanges two texts writes each behind the other's."""
+        more than a text: who exchanges two texts writes each after the other's."""
         weights: Counter[int] = Counter()
         parts = parts_of(record)
         key = self._open(record).key

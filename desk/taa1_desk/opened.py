@@ -189,7 +189,7 @@ class OpenedMarker:
             if words[:1] == ["entry"] and words[1:] and words[1].isdecimal() and len(words[1]) < 10:
                 index, words = int(words[1]), words[2:]
             elif words[:1] == ["entry"]:
-                problems.append(f"line {number}: no number behind entry")
+                problems.append(f"line {number}: no number after entry")
                 continue
             elif not is_answer(line):
                 if words[:1] != ["entries"]:
@@ -444,7 +444,7 @@ def _state(truth: Opened, answer: Answer) -> str:
 
 
 def _answer(words: list[str], line: int) -> Answer:
-    """What a line says of an entry, in its words behind the index: the flag, set unless it
+    """What a line says of an entry, in its words after the index: the flag, set unless it
     is said to be clear, the entry's fields, or both. Of a line that can't be read, nothing."""
     flag: Optional[bool] = False
     said = next((at for at, word in enumerate(words) if word in FLAGS), None)

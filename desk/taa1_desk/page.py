@@ -2,7 +2,7 @@
 
 A page is whole in itself, without script, font or picture from elsewhere. It is black
 on white, prints on A4 and Letter, and below 40 em, as on a phone, the rows of its wide
-tables stand as blocks, each cell behind its head.
+tables stand as blocks, each cell after its head.
 """
 
 from __future__ import annotations
@@ -171,7 +171,7 @@ def pairs(rows: Iterable[tuple[str, Any]], class_: str = "") -> Html:
 
 
 def fields(names: Iterable[str]) -> Html:
-    """Places to write on behind names."""
+    """Places to write on after names."""
     places = "".join(tag("p", text("b", name) + "<span></span>") for name in names)
     return tag("div", places, class_="fields")
 

@@ -190,7 +190,7 @@ def question_paper(of: Examination) -> Document:
             Words(
                 "Bytes are in hexadecimal, the leftmost first; the one at the right end of a "
                 f"string is B0. {_decimals(kinds)} "
-                "Write the answers on the form, and the argument behind them."
+                "Write the answers on the form, and the argument after them."
             ),
             Head("What is given"),
             _given(of.sitting),
@@ -243,7 +243,7 @@ _PASSED_ON = {WORKED[method][0] for method in ("inputs", "entry", "sealed_as", "
 
 
 def _flat(step: Step, top: bool = True) -> Iterator[tuple[Step, bool]]:
-    """A step behind those that it is made of; one that only hands them on is left out."""
+    """A step after those that it is made of; one that only hands them on is left out."""
     for inner in step.steps:
         yield from _flat(inner, False)
     outputs = tuple(inner.output for inner in step.steps)
@@ -276,7 +276,7 @@ def _what(step: Step) -> str:
 def _steps(
     title: str, steps: list[Step], results: dict[str, str], given: Sequence[tuple[str, bytes]] = ()
 ) -> Table:
-    """The steps as a table, behind what they take; a result's step has the name of what it
+    """The steps as a table, after what they take; a result's step has the name of what it
     gives."""
     rows = [Row((None, name, None, value, "taken")) for name, value in given]
     shown = [each for step in steps for each in _flat(step) if step.name not in _PASSED_ON]
@@ -314,7 +314,7 @@ def solution(of: Examination) -> Document:
         if step.name in _MADE:
             takes, gives = ([both(name) for name in names] for names in _MADE[step.name])
             title = f"{step.name}: {' and '.join(gives)}"
-            given = list(zip(takes, step.inputs.values()))  # masks stand behind them
+            given = list(zip(takes, step.inputs.values()))  # masks stand after them
             blocks.append(_steps(title, [step], {step.name: " | ".join(gives)}, given))
     blocks += [
         *_idle(of.sitting.sides),

@@ -72,7 +72,7 @@ class Part(NamedTuple):
 
 
 def bar(parts: Sequence[Part], most: int) -> Html:
-    """A bar of parts, one behind the other, where `most` fills the place."""
+    """A bar of parts, one after the other, where `most` fills the place."""
     x, made = 0.0, []
     for part in parts:
         width = 100 * part.number / most

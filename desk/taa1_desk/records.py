@@ -79,7 +79,7 @@ class Entry(NamedTuple):
 
     @property
     def line(self) -> str:
-        """As plainlist prints it, behind the index."""
+        """As plainlist prints it, after the index."""
         number = "-" if self.number is None else self.number
         return (
             f"kind {self.kind} identity {self.identity:06x} version {self.version} "

@@ -229,7 +229,7 @@ def others(sheet: Sheet) -> list[str]:
             "(entry I flag kind K identity I version V key HEX number N)"
         )
     if sheet.left:
-        more = f"{plural(sheet.left, 'more byte')} behind the last record"
+        more = f"{plural(sheet.left, 'more byte')} after the last record"
         cut = f"the last record is cut short: {sheet.left} of {SEALED} bytes"
         said.append(cut if len(sheet.entries) < sheet.size else more)
     return said

@@ -397,7 +397,7 @@ def _places(expansion: str, group: str) -> list[tuple[str, Callable[..., bytes]]
     """The names of an expansion with its bytes in other places, or as sums."""
     return [
         (f"{expansion}'s ⊕ bytes before their {group}", _before),
-        (f"{expansion}'s ⊕ bytes behind the first byte of their {group}", _inside),
+        (f"{expansion}'s ⊕ bytes after the first byte of their {group}", _inside),
         (f"{expansion}'s ⊕ bytes all at the end", _at_the_end),
         (f"{expansion}'s ⊕ bytes all in front", _in_front),
         (f"{expansion} with sums for ⊕", _summing),
@@ -438,7 +438,7 @@ _EXP4: dict[str, Callable[[Steps, bytes], bytes]] = {
     "EXP4's sums those of the outermost bytes": lambda steps, data: _exp4(
         groups(data, PAIRS), _outermost(data)
     ),
-    "EXP4's sums behind their pairs": lambda steps, data: _exp4_behind(data),
+    "EXP4's sums after their pairs": lambda steps, data: _exp4_behind(data),
     "EXP4's ⊕ of the sums at the right": lambda steps, data: _back(Steps.exp4(steps, data)),
     "EXP4 with ⊕ for sums": lambda steps, data: _exp4(groups(data, PAIRS), made=xored),
     "EXP4's first byte as a sum": lambda steps, data: (

@@ -1,6 +1,6 @@
 """Sittings, rings, books and lineage sheets as text that can be written in an editor.
 
-Blank lines count for nothing, nor does what stands behind a #. Every bad line is
+Blank lines count for nothing, nor does what stands after a #. Every bad line is
 reported with its number.
 """
 
@@ -263,7 +263,7 @@ def is_names(text: str) -> bool:
 
 
 def _fields(words: list[str]) -> dict[str, list[str]]:
-    """What stands behind each word of a line; a key may have spaces. Raises ValueError."""
+    """What stands after each word of a line; a key may have spaces. Raises ValueError."""
     fields: dict[str, list[str]] = {}
     last = ""
     for word in words:
@@ -309,7 +309,7 @@ def _entry(fields: dict[str, list[str]], any_number: bool = False) -> Entry:
 
 
 def entry_of(words: list[str]) -> Entry:
-    """The entry of a line's words behind the index, in any order, as a candidate may write
+    """The entry of a line's words after the index, in any order, as a candidate may write
     it: its number may be too high for its kind. Raises ValueError."""
     return _entry(_fields(words), any_number=True)
 

@@ -22,7 +22,7 @@ def without_0x(text: str) -> str:
 
 
 def decimal(text: str, most: int) -> int:
-    """A decimal number up to another, or a hexadecimal one behind 0x."""
+    """A decimal number up to another, or a hexadecimal one after 0x."""
     digits = without_0x(text)
     base = 10 if digits is text else 16
     if digits.isascii() and digits.isalnum() and len(digits) <= 40:

@@ -84,7 +84,7 @@ STEPS: dict[str, tuple[str, str]] = {
     "ta91": ("TA91", "5.16"),
     "number_byte": ("number byte", "5.10.1"),
     "joined": ("key and number joined", "5.10.1"),
-    "zero_behind": ("zero byte behind", "5.8.1"),
+    "zero_behind": ("zero byte after", "5.8.1"),
     "short_key": ("key derivation", "5.8.2"),
     "long_key": ("key derivation", "5.10.2"),
     "repeated": ("version repeated", "5.8.2"),
@@ -555,7 +555,7 @@ class Steps:
         return text[:7] + b"\0" + text[7:]
 
     def shrunk(self, data: bytes, sizes: tuple[int, ...]) -> bytes:
-        """The groups without the bytes inserted behind them."""
+        """The groups without the bytes inserted after them."""
         return b"".join(group[:-1] for group in groups(data, [size + 1 for size in sizes]))
 
     def failed(self, data: bytes, sizes: tuple[int, ...]) -> int:

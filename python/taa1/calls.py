@@ -192,7 +192,7 @@ _ALL = (
         (_CIPHER_KEY, _value("carrier"), _identity("identity")),
         "a cipher key for one identity on a carrier",
     ),
-    Call("tb7", "bytes16", (_GROUP_KEY,), "a group key as on a card: the xor behind each three bytes"),
+    Call("tb7", "bytes16", (_GROUP_KEY,), "a group key as on a card: the xor after each three bytes"),
     Call("tb1_inverse", "value", (_bytes("result", 16), _WIDTH), "the value that tb1 repeated"),
     Call(
         "tb3_inverse",

@@ -253,7 +253,7 @@ class Engine:
         return self._call("tb6", cipher_key, carrier, identity)
 
     def tb7(self, group_key: Bytes) -> bytes:
-        """A group key of 12 bytes, with the xor of each three bytes behind them."""
+        """A group key of 12 bytes, with the xor of each three bytes after them."""
         return self._call("tb7", group_key)
 
     def tb1_inverse(self, result: Bytes, width: int) -> int:
@@ -301,7 +301,7 @@ class Engine:
         return self._call("check_plain", plain).records
 
     def lineage(self, sheet: Bytes) -> list[bytes]:
-        """The key of each record of a lineage sheet, with zeros behind one of 10 bytes."""
+        """The key of each record of a lineage sheet, with zeros after one of 10 bytes."""
         return _split(self._call("lineage", sheet).content, SHEET_VALUE_BYTES)
 
     def plain_to_columns(self, plain: Bytes) -> Book:

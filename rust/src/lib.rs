@@ -417,7 +417,7 @@ pub fn tb6(cipher_key: &[u8], carrier: u64, identity: u64) -> Result<[u8; 10], R
     bytes(call!(tb6([cipher_key], carrier, identity)))
 }
 
-/// A group key of 12 bytes, with the xor of each three bytes behind them.
+/// A group key of 12 bytes, with the xor of each three bytes after them.
 pub fn tb7(group_key: &[u8]) -> Result<[u8; 16], Refusal> {
     bytes(call!(tb7([group_key])))
 }
@@ -522,7 +522,7 @@ pub fn check_plain(plain: &[u8]) -> Result<usize, BookRefusal> {
 }
 
 /// The key of each record of a lineage sheet of up to [`MOST_RECORDS`], with zeros
-/// behind one of 10 bytes.
+/// after one of 10 bytes.
 pub fn lineage(sheet: &[u8]) -> Result<Vec<[u8; SHEET_VALUE_BYTES]>, BookRefusal> {
     let mut out = vec![0; sheet.len() / SHEET_RECORD_BYTES * SHEET_VALUE_BYTES];
     let answer = call!(lineage([sheet], { out }));

@@ -18,7 +18,7 @@ const RESPONSE_MASK: u16 = 0xf000;
 const KEY_MASK: u16 = 0x0ffc;
 
 // The expansions of the bytes 01 02 .. upward: the cases a to f of the engine's
-// paper, with the zero byte that sealing puts behind EXP1 and EXP3.
+// paper, with the zero byte that sealing puts after EXP1 and EXP3.
 const EXP1_ZERO: [u8; 16] = [1, 2, 3, 3, 4, 7, 5, 6, 3, 7, 8, 15, 9, 10, 3, 0];
 const EXP2: [u8; 16] = [1, 2, 3, 3, 4, 7, 5, 6, 3, 7, 8, 15, 9, 10, 3, 31];
 const EXP4: [u8; 16] = [19, 3, 1, 2, 7, 3, 4, 11, 5, 6, 15, 7, 8, 19, 9, 10];
@@ -78,7 +78,7 @@ fn derived(operation: u8, first: u16, second: u16) -> [u8; SHEET_RECORD_BYTES] {
     from_fn(|i| head.get(i).copied().unwrap_or(0))
 }
 
-/// A key with zeros behind it.
+/// A key with zeros after it.
 fn value(key: &[u8]) -> [u8; SHEET_VALUE_BYTES] {
     from_fn(|i| key.get(i).copied().unwrap_or(0))
 }
@@ -375,7 +375,7 @@ fn failed_checks_are_told_apart() {
     failed(X16, [4, 9, 14], |text| {
         taa1::ta92(&text, &key, VERSION).unwrap().failed_checks
     });
-    // bits 5 to 7 of the number byte, and the byte inserted behind it with them
+    // bits 5 to 7 of the number byte, and the byte inserted after it with them
     let mut wide = EXP3_ZERO;
     wide[13] ^= 0x80;
     wide[14] ^= 0x80;

@@ -204,7 +204,7 @@ def _plain(text: str) -> str:
 
 
 def _words(text: str) -> list[str]:
-    """A text's words, which may be broken behind a hyphen."""
+    """A text's words, which may be broken after a hyphen."""
     return re.findall("[^ -]+-?|-", _plain(text))
 
 
@@ -262,7 +262,7 @@ class Picture(NamedTuple):
 
 
 def pictures(data: bytes) -> list[Picture]:
-    """The pictures that pdftoppm writes one behind the other."""
+    """The pictures that pdftoppm writes one after the other."""
     made = []
     while data:
         match = re.match(rb"P([56])\s+(\d+)\s+(\d+)\s+255\s", data)

@@ -92,7 +92,7 @@ def total(string: bytes) -> int:
 
 
 def before(parts: Sequence[bytes], made: Callable[[bytes], int] = fold) -> bytes:
-    """Each part behind its byte."""
+    """Each part after its byte."""
     return b"".join(bytes([made(part)]) + part for part in parts)
 
 
@@ -102,7 +102,7 @@ def behind(parts: Sequence[bytes], made: Callable[[bytes], int] = fold) -> bytes
 
 
 def at_end(parts: Sequence[bytes], made: Callable[[bytes], int] = fold) -> bytes:
-    """All the bytes behind all the parts."""
+    """All the bytes after all the parts."""
     return b"".join(parts) + bytes(made(part) for part in parts)
 
 
@@ -124,7 +124,7 @@ def outermost(data: bytes) -> List[bytes]:
 
 
 def exp4_of(parts: Sequence[bytes], pairs: Sequence[bytes]) -> bytes:
-    """EXP4 where these parts stand behind the sums of these pairs."""
+    """EXP4 where these parts stand after the sums of these pairs."""
     sums = bytes(total(pair) for pair in pairs)
     return bytes([fold(sums)]) + b"".join(
         bytes([one]) + part for one, part in zip(sums, parts)
@@ -132,7 +132,7 @@ def exp4_of(parts: Sequence[bytes], pairs: Sequence[bytes]) -> bytes:
 
 
 def exp4_after(data: bytes) -> bytes:
-    """EXP4 with each sum behind its pair."""
+    """EXP4 with each sum after its pair."""
     parts = groups(data, PAIRS)
     return bytes([fold(bytes(total(part) for part in parts))]) + behind(parts, total)
 
@@ -380,7 +380,7 @@ def expansions() -> List[Slip]:
             "EXP4's sums of the outermost bytes, the bytes where they were",
             lambda _, data: exp4_of(groups(data, PAIRS), outermost(data)),
         ),
-        ("exp4-after", "EXP4's sums behind their pairs", lambda _, data: exp4_after(data)),
+        ("exp4-after", "EXP4's sums after their pairs", lambda _, data: exp4_after(data)),
         ("exp4-right", "EXP4's ⊕ of the sums at the right", lambda _, data: exp4_right(data)),
         ("exp4-xor", "EXP4 with ⊕ for the sums", lambda _, data: exp4_xor(data)),
     ):
@@ -637,7 +637,7 @@ def versions() -> List[Slip]:
         ),
         slip(
             "version-five",
-            "the version five times in the long keys too, zeros behind it",
+            "the version five times in the long keys too, zeros after it",
             version_bytes=lambda _, version, length: (once(version) * 5).ljust(length, ZERO),
         ),
         slip(

@@ -71,7 +71,7 @@ def _texts(of: Exam) -> Iterator[HandIn]:
         ("hex-0x-commas", "0x and commas, as in C", _spaced(book, ", ", "0x") + ","),
         ("hex-0X-upper", "0X and capital digits", _spaced(book, ", ", "0x").upper()),
         ("hex-commas", "commas between bytes", _spaced(book, ",")),
-        ("hex-comments", "comments behind #", commented),
+        ("hex-comments", "comments after #", commented),
         ("hex-crlf", "hexadecimal with 0d 0a line ends", lines.replace("\n", "\r\n")),
         ("hex-cr", "hexadecimal with old Mac line ends", lines.replace("\n", "\r")),
     ):
@@ -124,8 +124,8 @@ def _odd_texts(of: Exam) -> Iterator[HandIn]:
         ("hex-counted", "index and colon before each record", counted, "numbered records"),
         ("hex-quoted", "a mail's marks before each line", _by_record(book, "> {}\n"), "a mail"),
         ("hex-fenced", "a fence of backquotes around it", f"```\n{lines}```\n", "a fenced text"),
-        ("hex-slashes", "comments behind //", f"// candidate 17\n{lines}", "a comment"),
-        ("hex-ctrl-z", "a control-Z behind it", f"{lines}\x1a", "a DOS text's end"),
+        ("hex-slashes", "comments after //", f"// candidate 17\n{lines}", "a comment"),
+        ("hex-ctrl-z", "a control-Z after it", f"{lines}\x1a", "a DOS text's end"),
         ("decimal-list", "a list of decimal numbers", str(list(book)), "decimal numbers"),
         ("fields", "kind, identity, version and text, two in decimal", _by_fields(book), "fields"),
         ("headed", "a line of heads over fields in digits", _headed(book), "digits under heads"),
@@ -332,7 +332,7 @@ def _damaged(of: Exam) -> Iterator[HandIn]:
         ),
         ("zeros-lost", "the zero bytes lost", book.replace(b"\0", b""), "not marked: no records"),
         ("cut-at-zero", "cut at the first zero byte", book[: book.index(0)], "not marked: short"),
-        ("cut", "cut behind 100 bytes", book[:100], f"{looks} a cut book: 4 records, 16 bytes"),
+        ("cut", "cut after 100 bytes", book[:100], f"{looks} a cut book: 4 records, 16 bytes"),
     ):
         yield HandIn(f"damaged/{name}", "damaged", of, content, done, None, False, say)
     seven = bytes(byte & 0x7F for byte in book)
@@ -359,14 +359,14 @@ def _damaged(of: Exam) -> Iterator[HandIn]:
     )
     header = b"Candidate 17\n"
     for name, done, content, say in (
-        ("newline-behind", "a line end behind the book", book + b"\n", "one byte more: 0a"),
-        ("crlf-behind", "0d 0a behind the book", book + b"\r\n", "two bytes more: 0d 0a"),
-        ("padded", "zeros up to 512 bytes", book.ljust(512, b"\0"), "zeros behind the book"),
+        ("newline-behind", "a line end after the book", book + b"\n", "one byte more: 0a"),
+        ("crlf-behind", "0d 0a after the book", book + b"\r\n", "two bytes more: 0d 0a"),
+        ("padded", "zeros up to 512 bytes", book.ljust(512, b"\0"), "zeros after the book"),
         ("header", "a line of text in front", header + book, "a header of 13 bytes"),
         ("header-16", "sixteen bytes in front", drawn(draw, 16) + book, "a header of 16 bytes"),
         ("header-count", "the number of records in front", b"\0\x14" + book, "a header of 2 bytes"),
         ("header-21", "a line of 21 characters in front", b"Candidate 17, July 1\n" + book, "21"),
-        ("footer", "a line of text behind", book + b"end of book\n", "more behind the book"),
+        ("footer", "a line of text after", book + b"end of book\n", "more after the book"),
         ("bom", "a byte order mark in front of the bytes", b"\xef\xbb\xbf" + book, "EF BB BF"),
     ):
         say = f"never a silent 0: {say}"

@@ -289,7 +289,7 @@ def _edited(of: Exam) -> Iterator[KeyFile]:
         "a digit of session key 1 wrong in the file only",
         mistyped("session key 1"),
         book,
-        "what is behind it is right under the model: only session key 1 costs",
+        "what is after it is right under the model: only session key 1 costs",
     )
     yield plant("d-miscopied", "a digit of D wrong in the file only", mistyped("D"), book)
     yield plant("o-miscopied", "a digit of O wrong in the file only", mistyped("O"), book)

@@ -358,13 +358,13 @@ def _edited(out: HandedOut) -> Iterator[OpenedBook]:
     )
     yield plant(
         "stopped",
-        "nothing opened behind the first flag",
+        "nothing opened after the first flag",
         {place: truth[place] for place in places if place <= flagged[0]},
-        f"the entries behind entry {flagged[0]} are missing",
+        f"the entries after entry {flagged[0]} are missing",
     )
     yield plant(
         "flags-only-behind",
-        "every entry behind the first flag flagged",
+        "every entry after the first flag flagged",
         {place: truth[place] if place < flagged[0] else None for place in places},
         "flags invented",
     )

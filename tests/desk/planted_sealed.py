@@ -304,7 +304,7 @@ def _edited(of: Exam) -> Iterator[SealedBook]:
     texts = [record[6:] for record in model]
     yield planted(
         "texts-shifted",
-        "each text in the record of the entry behind it",
+        "each text in the record of the entry after it",
         (record[:6] + text for record, text in zip(model, texts[-1:] + texts)),
         "the texts stand one entry too late",
     )
@@ -361,7 +361,7 @@ def _edited(of: Exam) -> Iterator[SealedBook]:
     draw = random.Random(f"edited {of.name}")
     yield planted(
         "random",
-        "bytes drawn at random behind the kinds",
+        "bytes drawn at random after the kinds",
         (record[:1] + drawn(draw, 20) for record in model),
         "nothing is right and no slip is claimed",
     )

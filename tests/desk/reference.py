@@ -162,7 +162,7 @@ class Working:
         return output.to_bytes(4, "big")
 
     def rounds(self, block: bytes, round_keys: Iterable[bytes]) -> bytes:
-        """The sixteen rounds and the exchange of the halves behind them."""
+        """The sixteen rounds and the exchange of the halves after them."""
         left, right = block[:4], block[4:]
         for round_key in round_keys:
             left, right = right, xor(left, self.f(right, round_key))
@@ -200,11 +200,11 @@ class Working:
         return self.exp1(data) + bytes([sum(fold(pair) for pair in groups(data, [2] * 5)) % 256])
 
     def exp3(self, data: bytes) -> bytes:
-        """11 bytes to 15: two bytes and three times three, each part with its ⊕ behind it."""
+        """11 bytes to 15: two bytes and three times three, each part with its ⊕ after it."""
         return b"".join(part + bytes([fold(part)]) for part in groups(data, [2, 3, 3, 3]))
 
     def exp4(self, data: bytes) -> bytes:
-        """10 bytes to 16: each pair behind its sum, and the ⊕ of the sums leftmost."""
+        """10 bytes to 16: each pair after its sum, and the ⊕ of the sums leftmost."""
         pairs = groups(data, [2] * 5)
         sums = bytes(sum(pair) % 256 for pair in pairs)
         return bytes([fold(sums)]) + b"".join(
@@ -212,7 +212,7 @@ class Working:
         )
 
     def x16(self, data: bytes) -> bytes:
-        """12 bytes to 16: each four with their ⊕ behind them, then a zero byte."""
+        """12 bytes to 16: each four with their ⊕ after them, then a zero byte."""
         return b"".join(part + bytes([fold(part)]) for part in groups(data, [4] * 3)) + ZERO
 
     def tb4(self, left: bytes, right: bytes) -> bytes:
@@ -220,7 +220,7 @@ class Working:
         return xor(left, right)
 
     def tb7(self, group_key: bytes) -> bytes:
-        """12 bytes to 16: each three with their ⊕ behind them (the last clause of 5)."""
+        """12 bytes to 16: each three with their ⊕ after them (the last clause of 5)."""
         return b"".join(part + bytes([fold(part)]) for part in groups(group_key, [3] * 4))
 
     def tb5(self, key: bytes, location_area: int, carrier: int, colour_code: int) -> bytes:

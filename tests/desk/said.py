@@ -74,9 +74,9 @@ SEALING = {
         "EXP4's sums those of the outermost bytes, in TA31 and TA32 alone"
     ),
     "exp4-outermost-sums-in-ta61": "EXP4's sums those of the outermost bytes, in TA61 alone",
-    "exp4-after": "EXP4's sums behind their pairs",
-    "exp4-after-in-ta31": "EXP4's sums behind their pairs, in TA31 and TA32 alone",
-    "exp4-after-in-ta61": "EXP4's sums behind their pairs, in TA61 alone",
+    "exp4-after": "EXP4's sums after their pairs",
+    "exp4-after-in-ta31": "EXP4's sums after their pairs, in TA31 and TA32 alone",
+    "exp4-after-in-ta61": "EXP4's sums after their pairs, in TA61 alone",
     "exp4-right": "EXP4's ⊕ of the sums at the right",
     "exp4-right-in-ta31": "EXP4's ⊕ of the sums at the right, in TA31 and TA32 alone",
     "exp4-right-in-ta61": "EXP4's ⊕ of the sums at the right, in TA61 alone",

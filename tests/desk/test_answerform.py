@@ -59,7 +59,7 @@ class Forms(unittest.TestCase):
             ("as printed", text.encode(), ""),
             ("DOS", text.replace("\n", "\r\n").encode(), ""),
             ("UTF-16", text.encode("utf-16"), " in UTF-16"),
-            ("a byte order mark", text.encode("utf-8-sig"), " behind a byte order mark"),
+            ("a byte order mark", text.encode("utf-8-sig"), " after a byte order mark"),
             ("capitals", filled(written="{:02X}".format).encode(), ""),
             ("no zero in front", filled(written="{:x}".format).encode(), ""),
             ("0x", filled(written="0x{:02x}".format).encode(), ""),

@@ -46,7 +46,7 @@ def _make(folder: Path) -> None:
     records = split(seal(), SEALED)
     books["e" * 80] = seal()
     books["noise"] = b"\x8f" * 100
-    # Bytes that differ within a group of four digits, in front and behind.
+    # Bytes that differ within a group of four digits, in front and after.
     wrong = bytes(8) + b"\x55\0\0\xaa" + bytes(8) + b"\x55"
     books["all-wrong"] = b"".join(xor(record, wrong) for record in records)
     books["many"] = b"".join([*records, *records[:3]])

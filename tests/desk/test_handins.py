@@ -64,7 +64,7 @@ CERTAIN: dict[str, tuple[Any, str]] = {
     "escapes": ("".join(f"\\x{byte:02x}" for byte in BOOK), HEX),
     "comments": ("# mine\n" + lines(21).replace("\n", "  # a record\n"), HEX),
     "C's comments": ("/* my\nbook */\n" + lines(21).replace("\n", " // a record\n"), HEX),
-    "a byte order mark": ("\ufeff" + lines(21), f"{HEX} behind a byte order mark"),
+    "a byte order mark": ("\ufeff" + lines(21), f"{HEX} after a byte order mark"),
     "UTF-16": (lines(21).encode("utf-16"), f"{HEX} in UTF-16"),
     "UTF-16 without its mark": (lines(21).encode("utf-16-le"), f"{HEX} in UTF-16"),
     "UTF-16, the high byte first": (b"\xfe\xff" + lines(21).encode("utf-16-be"), f"{HEX} in UTF-16"),
@@ -175,7 +175,7 @@ STRANGE: dict[str, tuple[bytes, str, str]] = {
     "cut": (BOOK[:50], "this looks like a book that was cut short: 2 records and 8 bytes", "bytes"),
     "the first byte lost": (
         BOOK[1:],
-        "this looks like a book behind 20 bytes, or one whose first record is cut short",
+        "this looks like a book after 20 bytes, or one whose first record is cut short",
         "bytes",
     ),
     "by columns": (
@@ -371,7 +371,7 @@ class Forms(unittest.TestCase):
             self.assertIn(f"the last record is cut short: {21 - cut} of 21 bytes", others(sheet))
         sheet = READER.mark("a", BOOK + b"\n")
         self.assertEqual((sheet.problem, sheet.right, sheet.left), (None, 12, 1))
-        self.assertEqual(others(sheet), ["1 more byte behind the last record"])
+        self.assertEqual(others(sheet), ["1 more byte after the last record"])
 
     def test_wrong_but_ours(self) -> None:
         """A book of this sitting is marked, however wrong: one right identity is enough."""

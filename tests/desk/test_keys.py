@@ -110,7 +110,7 @@ class Values(unittest.TestCase):
             self.assertEqual((slip.name, slip.others), (name, ()))
 
     def test_slips_under_own_keys(self) -> None:
-        """A slip behind a wrong D is found with the D that was handed in, and joined with
+        """A slip after a wrong D is found with the D that was handed in, and joined with
         what it gives elsewhere."""
         own = bytes([VALUES["D"][0] ^ 1]) + VALUES["D"][1:]
         ring = RING._replace(d=own)

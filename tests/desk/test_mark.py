@@ -305,7 +305,7 @@ class Books(unittest.TestCase):
         self.assertTrue(moved.perfect)
 
     def test_missing(self) -> None:
-        """The entries behind a missing one are not in another order."""
+        """The entries after a missing one are not in another order."""
         sheet = self.mark(MODEL[:3] + MODEL[4:])
         self.assertEqual((sheet.right, sheet.missing, sheet.perfect), (11, (3,), False))
         self.assertFalse(any(entry.moved for entry in sheet.entries))

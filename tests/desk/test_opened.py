@@ -74,7 +74,7 @@ class Lines(unittest.TestCase):
         self.assertTrue(mark(*TRUE[::-1]).perfect)
 
     def test_flags(self) -> None:
-        """A flag may be called set or clear, and have the fields behind it."""
+        """A flag may be called set or clear, and have the fields after it."""
         fields = TRUE[3].partition(" kind ")[2]
         behind = f"{TRUE[2]} kind {fields}"
         for line in ("entry 2 flag set", "entry 2: flag true", "ENTRY 2 FLAG 1", behind):
@@ -86,7 +86,7 @@ class Lines(unittest.TestCase):
         self.assertIn("  entry 3: flag invented\n", sheet_text(sheet))
 
     def test_fields_behind_a_flag(self) -> None:
-        """Flags alone show no slip; the bytes behind them do."""
+        """Flags alone show no slip; the bytes after them do."""
         slip = next(slip for slip in SLIPS if slip.name == "RSO reversed")
         steps = Steps(DESK, slip.altered)
         keys = steps.keys(SITTING)
@@ -118,7 +118,7 @@ class Lines(unittest.TestCase):
         self.assertIn(words, sheet_text(sheet))
         sheet = but(4, "entry four flag")
         self.assertEqual((sheet.right, sheet.missing), (11, (4,)))
-        self.assertIn("  line 5: no number behind entry\n", sheet_text(sheet))
+        self.assertIn("  line 5: no number after entry\n", sheet_text(sheet))
 
     def test_number_alone(self) -> None:
         """A line may begin with the entry's number, without the word."""
@@ -177,7 +177,7 @@ class Lines(unittest.TestCase):
         self.assertEqual((found.name, len(found.entries)), ("identity reversed", 9))
 
     def test_slips_under_own_keys(self) -> None:
-        """A slip behind a wrong D is found with the D that was handed in."""
+        """A slip after a wrong D is found with the D that was handed in."""
         ring = RING._replace(d=bytes([RING.d[0] ^ 1]) + RING.d[1:])
         slip = next(slip for slip in OPENING_SLIPS if slip.name == "no chaining in BL2")
         made = opened(Steps(DESK, slip.altered), ring, split(DAMAGED, SEALED))

@@ -103,7 +103,7 @@ class KeyFiles(unittest.TestCase):
     """Files of keys beside a book."""
 
     def test_slips(self) -> None:
-        """A slip's values are wrong; behind the first wrong one, the others follow."""
+        """A slip's values are wrong; after the first wrong one, the others follow."""
         for file in planted.key_files():
             if file.slips:
                 self.assertTrue(file.wrong, file.name)

@@ -143,7 +143,7 @@ class Working(unittest.TestCase):
         self.assertEqual(ta31.output, PLAIN_STEPS.text(ENTRIES[0], ring))
         self.assertEqual(
             [step.name for step in ta31.steps],
-            ["EXP1", "zero byte behind", "key derivation", "BL1", "byte 8 dropped"],
+            ["EXP1", "zero byte after", "key derivation", "BL1", "byte 8 dropped"],
         )
         self.assertEqual(PLAIN_STEPS.trace, [])
         altered = Steps(DESK, {"last_byte": lambda steps, inserted: 0}, trace=True)

@@ -170,7 +170,7 @@ fn functions(
             Some(name) => name,
             None => continue,
         };
-        // The body starts at a brace of its own, or behind the head if there is
+        // The body starts at a brace of its own, or after the head if there is
         // no contract.
         let mut clauses: Vec<String> = Vec::new();
         let mut last = line.trim();

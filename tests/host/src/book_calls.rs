@@ -337,7 +337,7 @@ fn sealed_records(random: &mut Random, ring: &[u8; RING]) -> Vec<[u8; SEALED]> {
     records
 }
 
-/// Each fault at every place, alone and with each fault behind it.
+/// Each fault at every place, alone and with each fault after it.
 fn placed_faults(group: &mut Group, random: &mut Random, records: usize) {
     let book = Book::random(random, records);
     let wrong_ends = ENDS[KINDS.len()..].iter();
@@ -390,7 +390,7 @@ fn long_faults(group: &mut Group, random: &mut Random, records: usize) {
 }
 
 /// Faults in every record from an index on. The record whose flag is set counts, one
-/// of a wrong kind does not, nor do those behind it; what is not sealed counts nothing.
+/// of a wrong kind does not, nor do those after it; what is not sealed counts nothing.
 fn runs(group: &mut Group, book: &Book) {
     let Book {
         ring,

@@ -103,7 +103,7 @@ fn right(group: &mut Group, random: &mut Random, key: [u8; 12], unreadable: u16)
     compare!(group, restore_card([card], unreadable), wanted);
 }
 
-/// A wrong byte shows only in a group that is all readable, and behind 18.
+/// A wrong byte shows only in a group that is all readable, and after 18.
 fn one_wrong(group: &mut Group, random: &mut Random, key: [u8; 12], unreadable: u16) {
     let whole = engine::tb7(&key).bytes;
     for i in 0..16 {

@@ -45,7 +45,7 @@ pub fn lengths<const N: usize>(
 }
 
 /// Numbers of records: few, the most and some fewer, and one more. Books and classes
-/// go four at a time, then the rest: every rest is there, behind few and many.
+/// go four at a time, then the rest: every rest is there, after few and many.
 pub fn counts() -> impl Iterator<Item = usize> {
     (0..=9).chain(MOST - 4..=MOST + 1)
 }

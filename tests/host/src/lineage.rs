@@ -83,7 +83,7 @@ fn value(records: &[Record], index: usize, known: &mut [Option<Vec<u8>>]) -> Vec
     known[index].clone().unwrap()
 }
 
-/// The value of each record of a sheet, with zeros behind the shorter ones.
+/// The value of each record of a sheet, with zeros after the shorter ones.
 pub fn lineage(sheet: &[u8], out: &mut [u8]) -> BookAnswer {
     answer(written(sheet, out))
 }

@@ -60,7 +60,7 @@ pub fn run(tally: &mut Tally, random: &mut Random) {
             faults(group, random, count);
         }
     });
-    tally.group("lineage (parents before and behind)", |group| {
+    tally.group("lineage (parents before and after)", |group| {
         parents(group, random);
     });
     tally.group("lineage (each byte changed to every other)", |group| {
@@ -112,7 +112,7 @@ fn single(group: &mut Group, sheet: &[Record]) {
 }
 
 /// Another given key of the same length in the place of each record that is no
-/// ancestor of one, and records behind it cut: its value stays.
+/// ancestor of one, and records after it cut: its value stays.
 fn same_ancestors(group: &mut Group, random: &mut Random, sheet: &[Record], index: usize) {
     let mut kept = vec![false; sheet.len()];
     kept[index] = true;
@@ -152,7 +152,7 @@ fn faults(group: &mut Group, random: &mut Random, count: usize) {
             for (refusal, record) in wrong(index) {
                 sheet[index] = record;
                 LINEAGE.want_refused(group, &sheet.concat(), room, (refusal, index));
-                // A second fault, of another number, behind it.
+                // A second fault, of another number, after it.
                 if index + 1 < count {
                     let mut sheet = sheet.clone();
                     let later = wrong(count - 1);
