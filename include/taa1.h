@@ -9,10 +9,11 @@
  * stands first. A length in brackets, in the comments below, is the one that
  * the call accepts.
  *
- * Every answer, but for that of taa1_release, is a struct by value whose first field
- * is 0 or the number of a refusal. On a refusal all its other fields are zero, but for the index in a
- * book's answer and the runs of a refused opening. Compare fields and not whole
- * structs: padding is no part of an answer.
+ * Every answer, but for that of taa1_release, is a struct by value whose first
+ * field is 0 or the number of a refusal. On a refusal all its other fields are
+ * zero, but for the index in the answer of a book or a sheet and the runs of a
+ * refused opening. Compare fields and not whole structs: padding is no part of
+ * an answer.
  *
  * A call's comment ends with the refusals that it tests for, in the order of the
  * tests: the first that applies is the answer. Those of a record are tested after the
