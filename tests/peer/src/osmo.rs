@@ -22,7 +22,7 @@ impl Default for RoundKeys {
 impl RoundKeys {
     pub fn set(&mut self, key: &[u8; 16]) {
         // SAFETY: a key has 16 bytes.
-        unsafe { hurdle_set_key(key.as_ptr().cast_mut(), self) };
+        unsafe { hurdle_set_key(key.as_ptr() as *mut u8, self) };
     }
 
     pub fn encrypt(&mut self, block: &mut [u8; 8]) {
@@ -71,7 +71,7 @@ macro_rules! functions {
                 $(let mut $output = [0; $size];)*
                 // SAFETY: the lengths are right, and the inputs are only read.
                 unsafe {
-                    raw::$name($($input.as_ptr().cast_mut(),)* $($output.as_mut_ptr()),*);
+                    raw::$name($($input.as_ptr() as *mut u8,)* $($output.as_mut_ptr()),*);
                 }
                 ($($output),*)
             }

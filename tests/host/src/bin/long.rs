@@ -88,9 +88,9 @@ fn main() -> ExitCode {
     let failed = counts.iter().filter(|count| count.differ > 0).count();
     println!("{} passed, {failed} failed", made - failed);
     ExitCode::from(match (failed, interrupted) {
-        (1.., _) => 1,
-        (0, true) => 130,
         (0, false) => 0,
+        (0, true) => 130,
+        _ => 1,
     })
 }
 
