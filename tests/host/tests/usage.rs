@@ -121,8 +121,8 @@ fn an_interrupt_ends_the_long_run() {
     output.read_line(&mut said).unwrap();
     assert_eq!(said, "seed 1\n");
     sleep(Duration::from_millis(500));
-    let id = run.id().to_string();
-    let killed = Command::new("kill").args(["-INT", &id]).status().unwrap();
+    let kill = format!("kill -INT {}", run.id()); // the shell's own: there may be no program
+    let killed = Command::new("sh").args(["-c", &kill]).status().unwrap();
     assert!(killed.success());
     output.read_to_string(&mut said).unwrap();
     let last = said.lines().last().unwrap();

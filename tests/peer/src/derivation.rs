@@ -116,8 +116,8 @@ fn class_of(
     response_mask: u16,
 ) -> [Authentication; CLASS] {
     let mut out = [0; AUTHENTICATION * CLASS];
-    let challenges = challenges.as_flattened();
-    let answer = call(session_key, challenges, response_mask, KEY_MASK, &mut out);
+    let challenges = challenges.concat();
+    let answer = call(session_key, &challenges, response_mask, KEY_MASK, &mut out);
     from_fn(|i| {
         let record = &out[AUTHENTICATION * i..];
         Authentication {
