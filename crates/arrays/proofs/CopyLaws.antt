@@ -1,14 +1,10 @@
 -- A copy over the front of a list: of a string, of its end over zeros, of two strings one after the other.
 -- Assumes nothing.
-use mathlib.Core.List.{List, [], _∷_, _++_, append-nil}
-use mathlib.Core.Logic.{_⊎_, inl, inr}
-use mathlib.Core.Path.{_≡_, refl, sym, ap, ap₂, _∙_}
-use Prim.Native.Nat.{ℕ, zero, suc, _+_, _-_, _<_, _≤_}
-use native.Mathlib.Nat.{zero-add}
-use native.Mathlib.Numerals.{add-one}
-use native.Mathlib.Omega.{arith}
-use lib.ListN.{length, getD, take, drop, set, length-append, length-drop, drop-of-length-le, List·getD-eq-default}
-use lib.Seq.{take-all, take-at, drop-at, getD-drop, paste-suc}
+use Rattle.standard.proofs.Prelude.{_≡_, refl, sym, ap, ap₂, _∙_, _⊎_, inl, inr, List, [], _∷_, _++_, append-nil, ℕ, zero, suc, _+_, _-_, _≤_, _<_}
+use Rattle.standard.proofs.Prelude.{zero-add, add-one, arith, length, take, drop, set, length-append, length-drop, drop-of-length-le, take-all}
+use Rattle.standard.proofs.Prelude.{take-at, drop-at}
+use lib.ListN.{getD, List·getD-eq-default}
+use lib.Seq.{getD-drop, paste-suc}
 use borrow.Rule.Slice.PartMut.{midOf, putMid}
 use Rattle.standard.proofs.BytesLaws.{table-same, spelled}
 use Rattle.standard.specs.Bytes.{_!_, table, part, zeros}

@@ -1,9 +1,6 @@
 -- The bytes of the number that four bytes spell.
 -- Assumes nothing.
-use mathlib.Core.List.{[], _∷_}
-use mathlib.Core.Path.{_≡_}
-use Prim.Native.Nat.{ℕ, _+_, _*_, _/_, _%_, _^_, _<_}
-use native.Mathlib.Omega.{arith}
+use Rattle.standard.proofs.Prelude.{_≡_, [], _∷_, ℕ, _+_, _*_, _/_, _%_, _^_, _<_, arith}
 use Rattle.standard.specs.Bytes.{bytesOf}
 
 pub word-bytes : (a b c d : ℕ) → a < 256 → b < 256 → c < 256 → d < 256 → bytesOf 4 (16777216 * a + 65536 * b + 256 * c + d) ≡ a ∷ b ∷ c ∷ d ∷ []

@@ -1,11 +1,6 @@
 -- The cases of a book call, as its code comes to them.
 -- Assumes nothing.
-use mathlib.Core.List.{List, _++_}
-use mathlib.Core.Path.{_≡_, refl, sym, ap₂, _∙_}
-use Prim.Native.Nat.{ℕ, _+_, _*_, _/_, _<_, _≤_}
-use native.Mathlib.Omega.{arith}
-use lib.ListN.{length, drop}
-use borrow.Author.Tests.{eq-eqb, ne-eqb, leb-true}
+use Rattle.standard.proofs.Prelude.{_≡_, refl, sym, ap₂, _∙_, List, _++_, ℕ, _+_, _*_, _/_, _≤_, _<_, arith, length, drop, eq-eqb, ne-eqb, leb-true}
 use Rattle.lists.proofs.ListReturnLaws.{call-refused, call-stopped, call-done}
 use Rattle.lists.specs.Walks.{Clean, Stopped}
 use Rattle.standard.proofs.AnswerLaws.{no-fault}

@@ -1,12 +1,6 @@
 -- Sealing and opening, in the terms of the definitions.
 -- Assumes nothing.
-use mathlib.Core.Bool.{Bool, true, false}
-use mathlib.Core.List.{List}
-use mathlib.Core.Path.{_≡_, refl, ap, ap₂, _∙_}
-use Prim.Native.Nat.{ℕ, _+_, _*_, _-_, _<_, _≤_}
-use native.Mathlib.Omega.{arith}
-use lib.Dec.{eqb}
-use lib.ListN.{length, take, drop}
+use Rattle.standard.proofs.Prelude.{_≡_, refl, ap, ap₂, _∙_, Bool, true, false, List, ℕ, _+_, _-_, _*_, _≤_, _<_, arith, eqb, length, take, drop}
 use Rattle.cores.specs.CoreOutputs.{counted15}
 use Rattle.cores.specs.declared.CoreOutput15.{CoreOutput15}
 use Rattle.lists.proofs.WalkLaws.{end-fits, first-fit, lent, Wrote, wrote-none, wrote-one, wrote-x4}

@@ -1,14 +1,8 @@
 -- Kinds 2 and 5: the three zero bits of the number byte. EXP3 takes any number byte, so that without their check eight would do.
 -- Assumes nothing.
-use mathlib.Core.Bool.{Bool, true, false}
-use mathlib.Core.List.{List, [], _∷_, _++_}
-use mathlib.Core.Logic.{_↔_, Iff·rfl}
-use mathlib.Core.Path.{_≡_, refl, sym, ap, _∙_}
-use Prim.Native.Nat.{ℕ, _+_, _-_, _*_, _/_, _%_, _<_, _≤_}
-use native.Mathlib.Omega.{arith}
-use lib.Dec.{eqb}
-use lib.ListN.{length}
-use borrow.Author.Tests.{eqb-true, eqb-false, eq-eqb, ne-eqb}
+use Rattle.standard.proofs.Prelude.{_≡_, refl, sym, ap, _∙_, Bool, true, false, _↔_, List, [], _∷_, _++_, ℕ, _+_, _-_, _*_, _/_, _%_, _≤_, _<_, arith}
+use Rattle.standard.proofs.Prelude.{eqb, length, eqb-true, eqb-false, eq-eqb, ne-eqb}
+use mathlib.Core.Logic.{Iff·rfl}
 use Rattle.standard.specs.Bytes.{_!_, part, zeros, same, choose, Bytes}
 use Rattle.standard.specs.Expansions.{grouped, inserted, expected, exp3Groups, exp3, shr2}
 use Rattle.standard.specs.Seals.{form51, checks, failed, key16, opened, unseal, fails, ta52Call}

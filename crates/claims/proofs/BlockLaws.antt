@@ -1,7 +1,6 @@
 -- BL1 on all sixteen bytes is undone, block by block.
 -- Assumes nothing.
-use mathlib.Core.List.{List, _++_}
-use Prim.Native.Nat.{ℕ}
+use Rattle.standard.proofs.Prelude.{List, _++_, ℕ}
 use Rattle.standard.specs.Bytes.{part, xors, Bytes}
 use Rattle.standard.specs.Cores.{bl1}
 use Rattle.standard.specs.Hurdle.{encrypt, decrypt}

@@ -1,15 +1,7 @@
 -- One byte of a string changed, and the ⊕ of a group that has it.
 -- Assumes nothing.
-use mathlib.Core.Bool.{Bool, true, false}
-use mathlib.Core.List.{List}
-use mathlib.Core.Logic.{_⊎_, inl, inr}
-use mathlib.Core.Path.{_≡_, refl, sym, ap, _∙_}
-use Prim.Native.Nat.{ℕ, zero, suc, _+_, _<_, _≤_}
-use native.Mathlib.Nat.{eq-or-lt-of-le}
-use native.Mathlib.Omega.{arith}
-use lib.Bits.{xor-comm}
-use lib.Dec.{eqb}
-use borrow.Author.Tests.{eq-eqb, ne-eqb}
+use Rattle.standard.proofs.Prelude.{_≡_, refl, sym, ap, _∙_, Bool, true, false, _⊎_, inl, inr, List, ℕ, zero, suc, _+_, _≤_, _<_, eq-or-lt-of-le}
+use Rattle.standard.proofs.Prelude.{arith, xor-comm, eqb, eq-eqb, ne-eqb}
 use Rattle.standard.specs.Bytes.{_!_, _⊕_, xors, choose}
 use Rattle.standard.specs.Expansions.{xorOn, xorOf}
 use Rattle.standard.proofs.BytesLaws.{table-at, table-same}

@@ -1,11 +1,6 @@
 -- The cipher is undone, and f is not.
 -- Assumes nothing.
-use mathlib.Core.List.{List}
-use mathlib.Core.Path.{_≡_, refl, sym, ap, _∙_}
-use Prim.Native.Nat.{ℕ}
-use native.Mathlib.Omega.{arith}
-use lib.ListN.{length}
-use borrow.Author.Tests.{eq-eqb}
+use Rattle.standard.proofs.Prelude.{_≡_, refl, sym, ap, _∙_, List, ℕ, arith, length, eq-eqb}
 use Rattle.standard.specs.Bytes.{_!_, bit, zeros}
 use Rattle.standard.specs.Hurdle.{S, T, f, encrypt, decrypt, encryptCall, decryptCall}
 use Rattle.standard.proofs.HurdleLaws.{length-crypt, decrypt-encrypt, encrypt-decrypt}

@@ -1,12 +1,7 @@
 -- How many texts open: as many as there are legal bodies, which are numbered.
 -- Assumes nothing.
-use mathlib.Core.List.{List}
+use Rattle.standard.proofs.Prelude.{_≡_, refl, ap, _∙_, List, ℕ, _+_, _*_, _/_, _%_, _^_, _<_, arith, length, le-leb}
 use mathlib.Core.Logic.{Iff·rfl, Iff·symm}
-use mathlib.Core.Path.{_≡_, refl, ap, _∙_}
-use Prim.Native.Nat.{ℕ, _+_, _*_, _/_, _%_, _^_, _<_}
-use native.Mathlib.Omega.{arith}
-use lib.ListN.{length}
-use borrow.Author.Tests.{le-leb}
 use Rattle.standard.specs.Bytes.{_!_, part, bytesOf, number, Bytes}
 use Rattle.standard.specs.Facts.{sealingSize}
 use Rattle.standard.specs.Seals.{formOf, body31, body51, seal, unseal}

@@ -1,15 +1,8 @@
 -- One text, one entry: the checks, a text, a record, a book. Each is `of-image` of two maps that are inverse.
 -- Assumes nothing.
-use mathlib.Core.Bool.{Bool, true, false}
-use mathlib.Core.List.{List, [], _∷_, _++_}
-use mathlib.Core.Logic.{_↔_, Iff·symm}
-use mathlib.Core.Path.{_≡_, refl, sym, ap, _∙_}
-use Prim.Native.Nat.{ℕ, _≤_}
-use native.Mathlib.Omega.{arith}
-use lib.Dec.{eqb}
-use lib.ListN.{length, take, drop}
-use lib.Seq.{take-at}
-use borrow.Author.Tests.{eqb-true, eqb-false, eq-eqb, le-leb}
+use Rattle.standard.proofs.Prelude.{_≡_, refl, sym, ap, _∙_, Bool, true, false, _↔_, List, [], _∷_, _++_, ℕ, _≤_, arith, eqb, length, take, drop}
+use Rattle.standard.proofs.Prelude.{take-at, eqb-true, eqb-false, eq-eqb, le-leb}
+use mathlib.Core.Logic.{Iff·symm}
 use Rattle.standard.specs.Books.{plainFault, sealRecord, openFault, openRecord, bookCall, openBook}
 use Rattle.standard.specs.Bytes.{part, same, Bytes, Passed}
 use Rattle.standard.specs.Demand3.{IsSealedForm}

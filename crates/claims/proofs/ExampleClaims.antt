@@ -1,10 +1,6 @@
 -- Texts that open twice: examples, by computation. BL2's output is computed once for each; the call's answer is read off it.
 -- Assumes nothing.
-use mathlib.Core.List.{List, [], _∷_, _++_}
-use mathlib.Core.Path.{_≡_, refl, ap, _∙_}
-use Prim.Native.Nat.{ℕ}
-use lib.ListN.{length}
-use borrow.Author.Tests.{eq-eqb}
+use Rattle.standard.proofs.Prelude.{_≡_, refl, ap, _∙_, List, [], _∷_, _++_, ℕ, length, eq-eqb}
 use Rattle.standard.specs.Bytes.{bit, part}
 use Rattle.standard.specs.Cores.{bl2}
 use Rattle.standard.specs.Expansions.{grouped, x16Groups}

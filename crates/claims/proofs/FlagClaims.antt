@@ -1,14 +1,7 @@
 -- What the flag says of a text, and what it does not.
 -- Assumes nothing.
-use mathlib.Core.Bool.{Bool, true, false}
-use mathlib.Core.List.{List, [], _∷_, _++_}
-use mathlib.Core.Path.{_≡_, refl, sym, ap, _∙_, subst}
-use Prim.Native.Nat.{ℕ, _+_, _%_, _<_, _≤_}
-use native.Mathlib.Omega.{arith}
-use lib.Bits.{xor-comm, xor-self, xor-zero-r}
-use lib.Dec.{ltb}
-use lib.ListN.{length}
-use borrow.Author.Tests.{eqb-true, eq-eqb, le-leb, ltb-true, ltb-false}
+use Rattle.standard.proofs.Prelude.{_≡_, refl, sym, ap, _∙_, subst, Bool, true, false, List, [], _∷_, _++_, ℕ, _+_, _%_, _≤_, _<_, arith, xor-comm}
+use Rattle.standard.proofs.Prelude.{xor-self, xor-zero-r, ltb, length, eqb-true, eq-eqb, le-leb, ltb-true, ltb-false}
 use Rattle.standard.specs.Bytes.{_!_, _⊕_, part, xors, Bytes}
 use Rattle.standard.specs.Cores.{bl2}
 use Rattle.standard.specs.Expansions.{xorOf, exp1Groups, exp3Groups, x16Groups, shr2}

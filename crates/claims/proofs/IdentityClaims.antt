@@ -1,8 +1,6 @@
 -- The flag is of the text alone: it knows neither the identity of a record nor whose text it is.
 -- Assumes nothing.
-use mathlib.Core.List.{List}
-use mathlib.Core.Path.{_≡_, refl, sym, ap, _∙_}
-use Prim.Native.Nat.{ℕ}
+use Rattle.standard.proofs.Prelude.{_≡_, refl, sym, ap, _∙_, List, ℕ}
 use Rattle.standard.specs.Books.{commonKey, openFault, openRecord}
 use Rattle.standard.specs.Bytes.{part, Bytes}
 use Rattle.standard.specs.Identity.{ta61, ta61⁻¹}

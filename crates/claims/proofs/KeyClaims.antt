@@ -1,12 +1,6 @@
 -- Sealing key and version enter by their ⊕ alone.
 -- Assumes nothing.
-use mathlib.Core.List.{List}
-use mathlib.Core.Path.{_≡_, refl, sym, ap, _∙_}
-use Prim.Native.Nat.{ℕ}
-use native.Mathlib.Omega.{arith}
-use lib.Bits.{xor-comm, xor-self}
-use lib.ListN.{length}
-use borrow.Author.Tests.{eq-eqb}
+use Rattle.standard.proofs.Prelude.{_≡_, refl, sym, ap, _∙_, List, ℕ, arith, xor-comm, xor-self, length, eq-eqb}
 use Rattle.standard.specs.Bytes.{_!_, _⊕_}
 use Rattle.standard.specs.Facts.{sealingSize}
 use Rattle.standard.specs.Seals.{formOf, failed, key10, key16, sealed, opened, seal, unseal, fails}

@@ -1,12 +1,6 @@
 -- Kinds that open the same texts.
 -- Assumes nothing.
-use mathlib.Core.Bool.{Bool, true, false}
-use mathlib.Core.List.{List, [], _∷_}
-use mathlib.Core.Path.{_≡_, refl, sym, ap, _∙_}
-use Prim.Native.Nat.{ℕ}
-use native.Mathlib.Omega.{arith}
-use lib.ListN.{length}
-use borrow.Author.Tests.{eqb-true, eq-eqb}
+use Rattle.standard.proofs.Prelude.{_≡_, refl, sym, ap, _∙_, Bool, true, false, List, [], _∷_, ℕ, arith, length, eqb-true, eq-eqb}
 use Rattle.standard.specs.Bytes.{Bytes}
 use Rattle.standard.specs.Refusals.{hasLength}
 use Rattle.standard.specs.Seals.{seal, sealed, ta51Call, ta52Call, ta81Call, ta82Call, ta91Call, ta92Call}

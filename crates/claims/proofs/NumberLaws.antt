@@ -1,14 +1,10 @@
 -- The strings of n bytes stand one to one with the numbers below 256 ^ n.
 -- Assumes nothing.
-use mathlib.Core.List.{List, [], _∷_}
-use mathlib.Core.Path.{_≡_, refl, sym, ap, _∙_}
-use Prim.Native.Nat.{ℕ, zero, suc, _+_, _*_, _/_, _%_, _^_, _<_}
-use native.Mathlib.Nat.{suc-inj, suc-ne-zero, pow-suc, mod-eq-of-lt}
+use Rattle.standard.proofs.Prelude.{_≡_, refl, sym, ap, _∙_, List, [], _∷_, ℕ, zero, suc, _+_, _*_, _/_, _%_, _^_, _<_, mod-eq-of-lt, suc-inj}
+use Rattle.standard.proofs.Prelude.{suc-ne-zero, arith, length, pow-add}
+use native.Mathlib.Nat.{pow-suc}
 use native.Mathlib.Numerals.{one-add}
-use native.Mathlib.Omega.{arith}
 use lib.Arith.{digits-lt}
-use lib.ListN.{length}
-use lib.Pow.{pow-add}
 use Rattle.standard.specs.Bytes.{_!_, bytesOf, numberOn, number, Bytes}
 use Rattle.standard.proofs.BytesLaws.{bytes-of}
 use Rattle.standard.proofs.FindLaws.{number-bytes}

@@ -1,9 +1,6 @@
 -- From two maps that are inverse to "exactly one" and "exactly so many".
 -- Assumes nothing.
-use mathlib.Core.List.{List}
-use mathlib.Core.Logic.{_↔_}
-use mathlib.Core.Path.{_≡_, sym, ap, _∙_, subst}
-use Prim.Native.Nat.{ℕ, _<_}
+use Rattle.standard.proofs.Prelude.{_≡_, sym, ap, _∙_, subst, _↔_, List, ℕ, _<_}
 use Rattle.standard.proofs.InverseLaws.{Inverse, is-image, of-one}
 use Rattle.claims.specs.Entries.{Only, OfOne, Count}
 

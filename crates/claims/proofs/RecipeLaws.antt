@@ -1,12 +1,6 @@
 -- The ring recipe with any expansion of ten bytes to sixteen gives a ring of bytes.
 -- Assumes nothing.
-use mathlib.Core.Bool.{Bool, true, false, not}
-use mathlib.Core.List.{List, [], _∷_}
-use Prim.Native.Nat.{ℕ, zero, suc, _-_, _<_}
-use native.Mathlib.Omega.{arith}
-use mathlib.Core.Path.{refl}
-use lib.Dec.{eqb}
-use lib.ListN.{length}
+use Rattle.standard.proofs.Prelude.{refl, Bool, true, false, not, List, [], _∷_, ℕ, zero, suc, _-_, _<_, arith, eqb, length}
 use Rattle.standard.specs.Bytes.{_!_, byte, bit, choose, Bytes}
 use Rattle.standard.specs.Cores.{bl1}
 use Rattle.standard.specs.Derivation.{chosenOf, chosen, half}

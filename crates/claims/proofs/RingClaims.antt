@@ -1,13 +1,6 @@
 -- A whole ring and the versions of a book enter by their ⊕ alone.
 -- Assumes nothing.
-use mathlib.Core.Bool.{Bool, true, false}
-use mathlib.Core.List.{List}
-use mathlib.Core.Path.{_≡_, refl, sym, ap, _∙_}
-use Prim.Native.Nat.{ℕ, _*_, _/_, _%_, _<_}
-use native.Mathlib.Omega.{arith}
-use lib.Bits.{xor-self}
-use lib.Dec.{eqb}
-use lib.ListN.{length}
+use Rattle.standard.proofs.Prelude.{_≡_, refl, sym, ap, _∙_, Bool, true, false, List, ℕ, _*_, _/_, _%_, _<_, arith, xor-self, eqb, length}
 use Rattle.standard.specs.Books.{sealingKey, named, plainFault, sealRecord, WellFormed, sealedForm}
 use Rattle.standard.specs.Bytes.{_!_, _⊕_, part, xors, zeros, choose, Bytes}
 use Rattle.standard.specs.Lists.{recordAt, each}

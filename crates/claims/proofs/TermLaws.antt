@@ -1,14 +1,7 @@
 -- The calls over the algorithm, in the terms of the forms: what the laws of `standard` are about.
 -- Assumes nothing.
-use mathlib.Core.Bool.{true, _&&_}
-use mathlib.Core.List.{List, [], _∷_}
-use mathlib.Core.Logic.{_↔_}
-use mathlib.Core.Path.{_≡_, refl, sym, ap, _∙_}
-use Prim.Native.Nat.{ℕ, zero, suc, _<_}
-use native.Mathlib.Omega.{arith}
-use lib.Dec.{leb, ltb}
-use lib.ListN.{length}
-use borrow.Author.Tests.{eqb-true, eq-eqb, le-leb, ltb-true}
+use Rattle.standard.proofs.Prelude.{_≡_, refl, sym, ap, _∙_, true, _&&_, _↔_, List, [], _∷_, ℕ, zero, suc, _<_, arith, leb, ltb, length, eqb-true}
+use Rattle.standard.proofs.Prelude.{eq-eqb, le-leb, ltb-true}
 use Rattle.standard.specs.Bytes.{_!_, bytesOf, Bytes}
 use Rattle.standard.specs.Expansions.{x16Groups}
 use Rattle.standard.specs.Facts.{sealingSize}

@@ -1,12 +1,7 @@
 -- The mistakes that 01 lists: where each answers otherwise, and what would be false of it.
 -- Assumes nothing.
-use mathlib.Core.List.{List, [], _∷_, _++_}
-use mathlib.Core.Path.{_≡_, refl, sym, ap, _∙_}
-use Prim.Native.Nat.{ℕ, suc, _<_}
-use native.Mathlib.Omega.{arith}
+use Rattle.standard.proofs.Prelude.{_≡_, refl, sym, ap, _∙_, List, [], _∷_, _++_, ℕ, suc, _<_, arith, length, eq-eqb}
 use lib.Count.{ones, onesIn}
-use lib.ListN.{length}
-use borrow.Author.Tests.{eq-eqb}
 use Rattle.standard.specs.Bytes.{_!_, bit, zeros, Bytes}
 use Rattle.standard.specs.Cores.{bl1, bl1With, bl2}
 use Rattle.standard.specs.Derivation.{core, chosen, split, ring, ta12Call, ta41Call}

@@ -1,12 +1,6 @@
 -- A class's records are those of single calls, and the ways in which the call returns.
 -- Assumes nothing.
-use mathlib.Core.Bool.{Bool}
-use mathlib.Core.List.{List, _++_}
-use mathlib.Core.Path.{_≡_, refl, sym, ap, _∙_}
-use Prim.Native.Nat.{ℕ, _*_, _/_, _≤_}
-use native.Mathlib.Omega.{arith}
-use lib.ListN.{length, drop}
-use borrow.Author.Tests.{eq-eqb, ne-eqb, leb-true}
+use Rattle.standard.proofs.Prelude.{_≡_, refl, sym, ap, _∙_, Bool, List, _++_, ℕ, _*_, _/_, _≤_, arith, length, drop, eq-eqb, ne-eqb, leb-true}
 use Rattle.lists.proofs.ListReturnLaws.{call-refused, call-done}
 use Rattle.standard.proofs.BookLaws.{each-same}
 use Rattle.standard.proofs.FirstLaws.{all-pass, first-append}

@@ -1,12 +1,7 @@
 -- A transposition by code, column by column, and the ways in which the call returns.
 -- Assumes nothing.
-use mathlib.Core.List.{List, _++_}
-use mathlib.Core.Path.{_≡_, refl, sym, ap, _∙_}
-use Prim.Native.Nat.{ℕ, _+_, _-_, _*_, _/_, _<_, _≤_}
-use native.Mathlib.Nat.{mul-comm}
-use native.Mathlib.Omega.{arith}
-use lib.ListN.{length, take, drop}
-use borrow.Author.Tests.{leb-true}
+use Rattle.standard.proofs.Prelude.{_≡_, refl, sym, ap, _∙_, List, _++_, ℕ, _+_, _-_, _*_, _/_, _≤_, _<_, mul-comm, arith, length, take, drop}
+use Rattle.standard.proofs.Prelude.{leb-true}
 use Rattle.lists.proofs.ListReturnLaws.{call-refused, call-done}
 use Rattle.lists.proofs.WalkLaws.{ends, PrefixWritten, prefix-none, own-length, prefix-next}
 use Rattle.standard.proofs.ColumnsLaws.{column-length}

@@ -1,8 +1,6 @@
 -- The steps of the cores, one after the other.
 -- Assumes nothing.
-use mathlib.Core.List.{List, [], _∷_, _++_}
-use mathlib.Core.Path.{_≡_}
-use Prim.Native.Nat.{ℕ}
+use Rattle.standard.proofs.Prelude.{_≡_, List, [], _∷_, _++_, ℕ}
 use Rattle.standard.specs.Bytes.{_!_, _⊕_, part, xors}
 use Rattle.standard.specs.Cores.{bl1With, bl1, bl2}
 use Rattle.standard.specs.Hurdle.{schedule, encryptWith, decryptWith, decrypt}

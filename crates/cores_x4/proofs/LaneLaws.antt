@@ -1,8 +1,6 @@
 -- Four lanes, each by itself.
 -- Assumes nothing.
-use mathlib.Core.List.{List, [], _∷_}
-use mathlib.Core.Path.{_≡_, ap}
-use Prim.Native.Nat.{ℕ}
+use Rattle.standard.proofs.Prelude.{_≡_, ap, List, [], _∷_, ℕ}
 use Rattle.hurdle.specs.Lanes.{lane}
 
 pub four-same : {A B : Type 0} (f : A → B) {x₀ x₁ x₂ x₃ y₀ y₁ y₂ y₃ : A} → x₀ ≡ y₀ → x₁ ≡ y₁ → x₂ ≡ y₂ → x₃ ≡ y₃

@@ -1,16 +1,11 @@
 -- Flips and the bits that change, under round keys laid out first; sums and extremes that go on from turn to turn; and the ways in which
 -- the call returns.
 -- Assumes nothing.
-use mathlib.Core.List.{List, [], _∷_, _++_, foldl, foldl-append}
-use mathlib.Core.Path.{_≡_, refl, sym, ap, ap₂, _∙_, subst}
-use Prim.Native.Nat.{ℕ, _+_, _*_, _/_, _%_, _^_, _<_, min, max}
-use native.Mathlib.Nat.{add-zero, one-mul}
-use native.Mathlib.Numerals.{add-one}
-use native.Mathlib.Omega.{arith}
+use Rattle.standard.proofs.Prelude.{_≡_, refl, sym, ap, ap₂, _∙_, subst, List, [], _∷_, _++_, ℕ, _+_, _*_, _/_, _%_, _^_, _<_, add-zero, one-mul}
+use Rattle.standard.proofs.Prelude.{add-one, arith, length, length-append, shl-exact, ne-eqb}
+use mathlib.Core.List.{foldl, foldl-append}
+use Prim.Native.Nat.{min, max}
 use lib.Count.{ones, ones-cat}
-use lib.ListN.{length, length-append}
-use lib.Pow.{shl-exact}
-use borrow.Author.Tests.{ne-eqb}
 use Rattle.hurdle.specs.Lanes.{lane}
 use Rattle.standard.proofs.BytesLaws.{table-same, table-add}
 use Rattle.standard.proofs.DiffusionLaws.{length-changes, least-from}

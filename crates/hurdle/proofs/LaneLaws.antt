@@ -1,9 +1,6 @@
 -- f, the rounds and the blocks in each of four lanes, where lane j's round key or round keys are K j.
 -- Assumes nothing.
-use mathlib.Core.Bool.{Bool}
-use mathlib.Core.List.{List, _++_}
-use mathlib.Core.Path.{_≡_, ap, _∙_}
-use Prim.Native.Nat.{ℕ, _+_}
+use Rattle.standard.proofs.Prelude.{_≡_, ap, _∙_, Bool, List, _++_, ℕ, _+_}
 use Rattle.hurdle.specs.declared.round.Halves.{Halves as Words}
 use Rattle.standard.specs.Bytes.{_!_}
 use Rattle.standard.specs.Hurdle.{S, crypt, roundKey}

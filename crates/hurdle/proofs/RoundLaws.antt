@@ -1,13 +1,9 @@
 -- The steps of the code add up to f, to the rounds and to the block.
 -- Assumes nothing.
-use mathlib.Core.Bool.{Bool}
-use mathlib.Core.List.{List, [], _∷_, _++_, map}
-use mathlib.Core.Path.{_≡_, refl, sym, ap, ap₂, _∙_}
-use Prim.Native.Nat.{ℕ, zero, suc, _+_, _*_, _/_, _%_, _^_, _<_}
-use native.Mathlib.Nat.{mod-eq-of-lt}
-use native.Mathlib.Numerals.{add-one}
-use native.Mathlib.Omega.{arith}
-use lib.Bits.{bitXor, xor-zero-r, xor-shr, xor-mod}
+use Rattle.standard.proofs.Prelude.{_≡_, refl, sym, ap, ap₂, _∙_, Bool, List, [], _∷_, _++_, ℕ, zero, suc, _+_, _*_, _/_, _%_, _^_, _<_, mod-eq-of-lt}
+use Rattle.standard.proofs.Prelude.{add-one, arith, xor-zero-r}
+use mathlib.Core.List.{map}
+use lib.Bits.{bitXor, xor-shr, xor-mod}
 use lib.ListN.{getD}
 use Rattle.hurdle.specs.declared.round.Halves.{Halves as Words}
 use Rattle.standard.specs.Bytes.{_!_, byte, bit, _⊕_, _⊞_, part, xors}

@@ -1,12 +1,7 @@
 -- The round keys from the constants of the code: the schedule is linear in the key.
 -- Assumes nothing.
-use mathlib.Core.Bool.{true, _&&_}
-use mathlib.Core.List.{List, [], _∷_}
-use mathlib.Core.Path.{_≡_, refl, sym, ap, ap₂, _∙_}
-use Prim.Native.Nat.{ℕ, _+_, _*_, _/_, _%_, _<_}
-use native.Mathlib.Omega.{arith}
-use lib.Dec.{eqb, ltb}
-use borrow.Author.Tests.{eqb-true, ltb-true}
+use Rattle.standard.proofs.Prelude.{_≡_, refl, sym, ap, ap₂, _∙_, true, _&&_, List, [], _∷_, ℕ, _+_, _*_, _/_, _%_, _<_, arith, eqb, ltb, eqb-true}
+use Rattle.standard.proofs.Prelude.{ltb-true}
 use Rattle.standard.specs.Bytes.{_!_, _⊕_, table, zeros}
 use Rattle.standard.specs.Hurdle.{D, a, Q, laid, schedule}
 use Rattle.standard.specs.Tables.{runningSum, turn, rotations as printed}

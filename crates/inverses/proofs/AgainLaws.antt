@@ -1,11 +1,6 @@
 -- What TB1, TB3, TB5 and TB6 make of the fields that were read off: each fits its width, so the call refuses none.
 -- Assumes nothing.
-use mathlib.Core.Bool.{true, _&&_}
-use mathlib.Core.List.{List}
-use mathlib.Core.Path.{_≡_}
-use Prim.Native.Nat.{ℕ}
-use lib.ListN.{length}
-use borrow.Author.Tests.{eqb-true, lt-ltb}
+use Rattle.standard.proofs.Prelude.{_≡_, true, _&&_, List, ℕ, length, eqb-true, lt-ltb}
 use Rattle.standard.proofs.BytesLaws.{and-split}
 use Rattle.standard.proofs.FindLaws.{field-lt}
 use Rattle.standard.specs.Inverses.{field}

@@ -1,12 +1,8 @@
 -- Eight bytes as a number, and the bits cut out of it.
 -- Assumes nothing.
-use mathlib.Core.List.{List}
-use mathlib.Core.Path.{_≡_, ap, _∙_}
-use Prim.Native.Nat.{ℕ, _+_, _*_, _%_, _^_, _<_, _≤_}
-use native.Mathlib.Nat.{one-mul, mod-lt, lt-of-lt-of-le}
-use native.Mathlib.Omega.{arith}
-use lib.ListN.{length}
-use lib.Pow.{pow-pos, pow-mono, shl-exact}
+use Rattle.standard.proofs.Prelude.{_≡_, ap, _∙_, List, ℕ, _+_, _*_, _%_, _^_, _≤_, _<_, one-mul, mod-lt, arith, length, pow-pos, shl-exact}
+use native.Mathlib.Nat.{lt-of-lt-of-le}
+use lib.Pow.{pow-mono}
 use Rattle.standard.proofs.BytesLaws.{spelled}
 use Rattle.standard.specs.Bytes.{_!_, table, number}
 

@@ -1,12 +1,6 @@
 -- Two strings compared byte by byte.
 -- Assumes nothing.
-use mathlib.Core.Bool.{Bool, _&&_}
-use mathlib.Core.List.{List}
-use mathlib.Core.Path.{_≡_, ap, ap₂, _∙_}
-use Prim.Native.Nat.{ℕ, _+_, _<_}
-use native.Mathlib.Numerals.{add-one}
-use lib.Dec.{eqb}
-use lib.ListN.{length, drop}
+use Rattle.standard.proofs.Prelude.{_≡_, ap, ap₂, _∙_, Bool, _&&_, List, ℕ, _+_, _<_, add-one, eqb, length, drop}
 use lib.Seq.{drop-cons, drop-length}
 use Rattle.standard.specs.Bytes.{_!_, sameOn}
 

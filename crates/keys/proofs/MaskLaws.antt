@@ -1,14 +1,9 @@
 -- The bytes that a mask chooses: the loop that gathers them, and how many they are.
 -- Assumes nothing.
-use mathlib.Core.List.{List, [], _∷_, _++_}
-use mathlib.Core.Path.{_≡_, refl, sym, ap, ap₂, _∙_, subst}
-use Prim.Native.Nat.{ℕ, suc, _+_, _-_, _^_, _<_, _≤_}
-use native.Mathlib.Nat.{zero-add, add-zero}
-use native.Mathlib.Omega.{arith}
+use Rattle.standard.proofs.Prelude.{_≡_, refl, sym, ap, ap₂, _∙_, subst, List, [], _∷_, _++_, ℕ, suc, _+_, _-_, _^_, _≤_, _<_, add-zero, zero-add}
+use Rattle.standard.proofs.Prelude.{arith, length, take, drop, set, take-all, drop-drop, eq-eqb, ne-eqb}
 use lib.Count.{ones}
-use lib.ListN.{length, take, drop, set}
-use lib.Seq.{take-all, getD-drop, drop-drop}
-use borrow.Author.Tests.{eq-eqb, ne-eqb}
+use lib.Seq.{getD-drop}
 use Rattle.arrays.proofs.CopyLaws.{copy-next, over-zeros}
 use Rattle.standard.proofs.BytesLaws.{spelled}
 use Rattle.standard.proofs.DerivationLaws.{length-chosen}

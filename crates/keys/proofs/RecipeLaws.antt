@@ -1,8 +1,6 @@
 -- The ring from its two halves.
 -- Assumes nothing.
-use mathlib.Core.List.{List, _++_}
-use mathlib.Core.Path.{_≡_, refl, ap₂, _∙_}
-use Prim.Native.Nat.{ℕ}
+use Rattle.standard.proofs.Prelude.{_≡_, refl, ap₂, _∙_, List, _++_, ℕ}
 use Rattle.standard.specs.Bytes.{part}
 use Rattle.standard.specs.Derivation.{ta41, half1, half2, ring}
 use Rattle.standard.specs.Mixing.{tb4, tb7}

@@ -1,13 +1,9 @@
 -- Lines that grow at the end, and texts put over an output one after the other.
 -- Assumes nothing.
-use mathlib.Core.List.{List, [], _∷_, _++_, append-nil}
-use mathlib.Core.Path.{_≡_, refl, sym, ap, ap₂, _∙_}
-use Prim.Native.Nat.{ℕ, zero, suc, _+_, _*_, _-_, _<_, _≤_}
-use native.Mathlib.Numerals.{add-one}
-use native.Mathlib.Omega.{arith}
-use lib.ListN.{length, take, drop, set, length-append, length-take, length-drop, length-set, drop-of-length-le}
-use lib.Seq.{take-all, take-suc, take-suc-set, take-nil, drop-nil, append-snoc}
-use borrow.Author.Tests.{lt-ltb, le-ltb}
+use Rattle.standard.proofs.Prelude.{_≡_, refl, sym, ap, ap₂, _∙_, List, [], _∷_, _++_, append-nil, ℕ, zero, suc, _+_, _-_, _*_, _≤_, _<_, add-one}
+use Rattle.standard.proofs.Prelude.{arith, length, take, drop, set, length-append, length-set, length-take, length-drop, drop-of-length-le, take-all}
+use Rattle.standard.proofs.Prelude.{lt-ltb, le-ltb}
+use lib.Seq.{take-suc, take-suc-set, take-nil, drop-nil, append-snoc}
 use Rattle.standard.specs.Bytes.{_!_}
 use Rattle.standard.specs.Lists.{joined}
 use Rattle.standard.specs.Text.{textCall}

@@ -1,13 +1,6 @@
 -- The cases of a call on a list, as its code comes to them: `head` is the refusal by its tests, g the fault of each of n records.
 -- Assumes nothing.
-use mathlib.Core.Bool.{true}
-use mathlib.Core.List.{List, _++_}
-use mathlib.Core.Path.{_≡_, refl, sym, ap, _∙_}
-use Prim.Native.Nat.{ℕ, _<_}
-use native.Mathlib.Omega.{arith}
-use lib.Dec.{eqb}
-use lib.ListN.{drop}
-use borrow.Author.Tests.{ne-eqb}
+use Rattle.standard.proofs.Prelude.{_≡_, refl, sym, ap, _∙_, true, List, _++_, ℕ, _<_, arith, eqb, drop, ne-eqb}
 use Rattle.standard.proofs.AnswerLaws.{accepted}
 use Rattle.standard.specs.Lists.{firstFault, refused, answer, written}
 use Rattle.lists.specs.Walks.{Clean, Stopped}

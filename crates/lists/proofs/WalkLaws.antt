@@ -1,14 +1,9 @@
 -- The steps of the two loops over a list, for records of any size: a scan that looks for a fault, and a pass that writes.
 -- Assumes nothing.
-use mathlib.Core.List.{List, _++_, append-assoc, append-nil}
-use mathlib.Core.Logic.{_⊎_, inl, inr}
-use mathlib.Core.Path.{_≡_, refl, sym, ap, _∙_, subst}
-use Prim.Native.Nat.{ℕ, _+_, _*_, _-_, _<_, _≤_}
-use native.Mathlib.Nat.{eq-or-lt-of-le, le-of-suc-le-suc, mul-suc, mul-zero, mul-le-mul-left, add-sub-cancel-left}
-use native.Mathlib.Numerals.{add-one}
-use native.Mathlib.Omega.{arith}
-use lib.ListN.{length, take, drop, length-append, length-take, length-drop, drop-of-length-le}
-use lib.Seq.{take-at, take-all, drop-at, drop-drop}
+use Rattle.standard.proofs.Prelude.{_≡_, refl, sym, ap, _∙_, subst, _⊎_, inl, inr, List, _++_, append-nil, ℕ, _+_, _-_, _*_, _≤_, _<_}
+use Rattle.standard.proofs.Prelude.{add-sub-cancel-left, mul-zero, mul-suc, mul-le-mul-left, le-of-suc-le-suc, eq-or-lt-of-le, add-one, arith, length}
+use Rattle.standard.proofs.Prelude.{take, drop, length-append, length-take, length-drop, drop-of-length-le, take-all, take-at, drop-at, drop-drop}
+use mathlib.Core.List.{append-assoc}
 use Rattle.standard.proofs.AnswerLaws.{first-fault, first-one}
 use Rattle.standard.proofs.BookLaws.{joined-length, joined-at}
 use Rattle.standard.proofs.BytesLaws.{part-lent, part-left}

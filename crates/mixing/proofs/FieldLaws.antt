@@ -1,11 +1,6 @@
 -- A width that passes its test, and TB5 and TB6 made in two halves of 40 bits.
 -- Assumes nothing.
-use mathlib.Core.Bool.{true}
-use mathlib.Core.List.{List, _++_}
-use mathlib.Core.Path.{_≡_, sym, ap, _∙_}
-use Prim.Native.Nat.{ℕ, _+_, _*_, _/_, _%_, _^_, _<_, _≤_}
-use native.Mathlib.Omega.{arith}
-use borrow.Author.Tests.{leb-true}
+use Rattle.standard.proofs.Prelude.{_≡_, sym, ap, _∙_, true, List, _++_, ℕ, _+_, _*_, _/_, _%_, _^_, _≤_, _<_, arith, leb-true}
 use Rattle.standard.proofs.BytesLaws.{and-split}
 use Rattle.standard.proofs.MixingLaws.{bytes-cat}
 use Rattle.standard.specs.Bytes.{xors, bytesOf}

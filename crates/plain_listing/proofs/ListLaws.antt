@@ -1,14 +1,7 @@
 -- The lines of the listing: none is longer than a line may be, and the book's lines one after the other.
 -- Assumes nothing.
-use mathlib.Core.Bool.{Bool, true, false}
-use mathlib.Core.List.{List, _++_}
-use mathlib.Core.Path.{_≡_, refl, ap, _∙_}
-use Prim.Native.Nat.{ℕ, _+_, _*_, _/_, _≤_}
-use native.Mathlib.Omega.{arith}
-use lib.Dec.{eqb}
-use lib.ListN.{length, length-append}
-use lib.Seq.{take-all}
-use borrow.Author.Tests.{eqb-true, eq-eqb, ne-eqb}
+use Rattle.standard.proofs.Prelude.{_≡_, refl, ap, _∙_, Bool, true, false, List, _++_, ℕ, _+_, _*_, _/_, _≤_, arith, eqb, length, length-append}
+use Rattle.standard.proofs.Prelude.{take-all, eqb-true, eq-eqb, ne-eqb}
 use Rattle.standard.proofs.AnswerLaws.{is-accepted, lengths-fine}
 use Rattle.standard.proofs.BytesLaws.{length-table}
 use Rattle.standard.specs.Books.{recordKind, plainFault, checkPlain}

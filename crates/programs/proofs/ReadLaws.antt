@@ -1,12 +1,8 @@
 -- Pieces of input, one after the other, in the front of a buffer.
 -- Assumes nothing.
-use mathlib.Core.Bool.{true, false, true≢false}
-use mathlib.Core.List.{List, _++_, append-nil}
-use mathlib.Core.Path.{_≡_, refl, sym, ap, _∙_}
-use Prim.Native.Nat.{ℕ, _+_, _-_, _≤_, zero-le}
-use native.Mathlib.Omega.{arith}
-use lib.ListN.{length, take, drop}
-use lib.Seq.{length-take-le, take-all, drop-at, drop-drop}
+use Rattle.standard.proofs.Prelude.{_≡_, refl, sym, ap, _∙_, true, false, true≢false, List, _++_, append-nil, ℕ, _+_, _-_, _≤_, zero-le, arith}
+use Rattle.standard.proofs.Prelude.{length, take, drop, take-all, drop-at, drop-drop}
+use lib.Seq.{length-take-le}
 use Rattle.lines.proofs.LineLaws.{lent-rest, lent-none}
 use Rattle.programs.specs.Reading.{Gathered, Read}
 use Rattle.programs.specs.declared.Input.{Input}

@@ -1,10 +1,6 @@
 -- What the steps on one record add up to.
 -- Assumes nothing.
-use mathlib.Core.Bool.{Bool, true, false, not}
-use mathlib.Core.List.{List, _∷_, _++_}
-use mathlib.Core.Path.{_≡_, refl, sym, ap, _∙_}
-use Prim.Native.Nat.{ℕ}
-use lib.ListN.{length, take, drop}
+use Rattle.standard.proofs.Prelude.{_≡_, refl, sym, ap, _∙_, Bool, true, false, not, List, _∷_, _++_, ℕ, length, take, drop}
 use Rattle.standard.specs.Books.{sealingKey, named, plainFault, openFault, inspectionRuns}
 use Rattle.standard.specs.Bytes.{_!_, part, bytesOf}
 use Rattle.standard.specs.Identity.{encryptIdentity, decryptIdentity}

@@ -1,11 +1,6 @@
 -- The loops of the code turn the register and the halves as the definitions do.
 -- Assumes nothing.
-use mathlib.Core.List.{List, _++_}
-use mathlib.Core.Path.{_≡_, sym, ap, ap₂, _∙_}
-use Prim.Native.Nat.{ℕ, _+_, _-_, _%_, _<_, _≤_}
-use native.Mathlib.Nat.{mod-eq-of-lt}
-use native.Mathlib.Numerals.{add-one}
-use lib.ListN.{length}
+use Rattle.standard.proofs.Prelude.{_≡_, sym, ap, ap₂, _∙_, List, _++_, ℕ, _+_, _-_, _%_, _≤_, _<_, mod-eq-of-lt, add-one, length}
 use Rattle.hurdle.proofs.RoundLaws.{round-word}
 use Rattle.hurdle.specs.RoundSteps.{bytes4, halfBytes, roundOver, spreads, HalvesOf}
 use Rattle.hurdle.specs.declared.round.Halves.{Halves as Words}

@@ -1,13 +1,7 @@
 -- The line about an answer: none is longer than a line may be; and the ways in which the line is made.
 -- Assumes nothing.
-use mathlib.Core.Bool.{Bool, true, false, _&&_}
-use mathlib.Core.List.{List, [], _∷_}
-use mathlib.Core.Path.{_≡_, refl, sym, ap, _∙_}
-use Prim.Native.Nat.{ℕ, _≤_}
-use native.Mathlib.Omega.{arith}
-use lib.Dec.{eqb, leb}
-use lib.ListN.{length, length-append}
-use borrow.Author.Tests.{leb-true, eq-eqb, ne-eqb}
+use Rattle.standard.proofs.Prelude.{_≡_, refl, sym, ap, _∙_, Bool, true, false, _&&_, List, [], _∷_, ℕ, _≤_, arith, eqb, leb, length, length-append}
+use Rattle.standard.proofs.Prelude.{eq-eqb, ne-eqb, leb-true}
 use Rattle.standard.proofs.BytesLaws.{and-split}
 use Rattle.standard.specs.Bytes.{choose}
 use Rattle.standard.specs.Programs.{beside, meanings, meaning, meaningText, wroteText, answerText, answerLine, countedLine}

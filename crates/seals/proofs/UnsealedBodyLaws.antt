@@ -1,10 +1,7 @@
 -- Typed arrays serve as the strings that they were made from. Key, number and failed checks taken out of an unsealed body are the answer, also
 -- where a length was wrong: the body then is zeros.
 -- Assumes nothing.
-use mathlib.Core.Bool.{Bool, true, false}
-use mathlib.Core.List.{List, [], _∷_}
-use mathlib.Core.Path.{_≡_, refl}
-use Prim.Native.Nat.{ℕ}
+use Rattle.standard.proofs.Prelude.{_≡_, refl, Bool, true, false, List, [], _∷_, ℕ}
 use Rattle.standard.specs.Bytes.{part, zeros}
 use Rattle.standard.specs.Refusals.{wrongLength, first, unsealed, unsealedNumbered, unsealedGroup}
 use Rattle.standard.specs.Seals.{Form, failed, key10, key16, opened}

@@ -1,10 +1,6 @@
 -- The recipe's inputs, read off a sitting of the right length.
 -- Assumes nothing.
-use mathlib.Core.List.{List}
-use mathlib.Core.Path.{_≡_, refl, sym, _∙_}
-use Prim.Native.Nat.{ℕ, _+_, _*_}
-use lib.ListN.{length}
-use borrow.Author.Tests.{eq-eqb}
+use Rattle.standard.proofs.Prelude.{_≡_, refl, sym, _∙_, List, ℕ, _+_, _*_, length, eq-eqb}
 use Rattle.standard.proofs.DerivationLaws.{ring-long}
 use Rattle.standard.specs.Bytes.{_!_, part}
 use Rattle.standard.specs.Derivation.{ringOf, ringCall}

@@ -1,16 +1,10 @@
 -- The answers of the book calls: when they are 0, and what they are then.
 -- Assumes nothing.
-use mathlib.Core.Bool.{Bool, true, false}
-use mathlib.Core.List.{List, [], _∷_, _++_}
-use mathlib.Core.Logic.{_⊎_, inl, inr}
-use mathlib.Core.Path.{_≡_, refl, sym, ap, ap₂, _∙_, subst}
-use Prim.Native.Nat.{ℕ, zero, suc, _+_, _*_, _/_, _%_, _<_, _≤_}
-use native.Mathlib.Nat.{eq-or-lt-of-le, le-of-suc-le-suc, div-add-mod, add-zero, add-mul, mul-zero, mul-suc, mul-mod-right, mul-le-mul-left, div-le-of-le-mul}
-use native.Mathlib.Numerals.{add-one}
-use native.Mathlib.Omega.{arith}
-use lib.Dec.{ltb, leb, eqb}
-use lib.ListN.{length, drop}
-use borrow.Author.Tests.{ltb-true, ltb-false, eqb-true, eqb-false, leb-true, eq-eqb, ne-eqb, le-leb}
+use Rattle.standard.proofs.Prelude.{_≡_, refl, sym, ap, ap₂, _∙_, subst, Bool, true, false, _⊎_, inl, inr, List, [], _∷_, _++_, ℕ, zero, suc}
+use Rattle.standard.proofs.Prelude.{_+_, _*_, _/_, _%_, _≤_, _<_, add-zero, add-mul, mul-zero, mul-suc, mul-le-mul-left, le-of-suc-le-suc}
+use Rattle.standard.proofs.Prelude.{eq-or-lt-of-le, add-one, arith, eqb, leb, ltb, length, drop, eqb-true, eqb-false, eq-eqb, ne-eqb, leb-true}
+use Rattle.standard.proofs.Prelude.{le-leb, ltb-true, ltb-false}
+use native.Mathlib.Nat.{div-add-mod, mul-mod-right, div-le-of-le-mul}
 use Rattle.standard.specs.Books.{Conversion, bookCall}
 use Rattle.standard.specs.Bytes.{_!_, choose, Bytes}
 use Rattle.standard.specs.Lists.{recordAt, each, firstFault, refused, answer, lengthTests, listTests, written}

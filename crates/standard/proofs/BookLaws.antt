@@ -1,13 +1,9 @@
 -- Books: what is inverse on records is inverse on books of them, for any record sizes.
 -- Assumes nothing.
-use mathlib.Core.Path.{_≡_, refl, sym, ap, ap₂, _∙_, subst}
-use mathlib.Core.Logic.{_⊎_, inl, inr, _↔_}
-use mathlib.Core.List.{List, [], _∷_, _++_, append-assoc, append-nil}
-use mathlib.Core.Bool.{Bool, true}
-use Prim.Native.Nat.{ℕ, zero, suc, _+_, _*_, _/_, _<_, _≤_}
-use native.Mathlib.Nat.{add-zero, add-suc, mul-suc, mul-zero, mul-div-cancel-left, mul-le-mul-left, eq-or-lt-of-le, le-of-suc-le-suc}
-use native.Mathlib.Omega.{arith}
-use lib.ListN.{length, length-append}
+use Rattle.standard.proofs.Prelude.{_≡_, refl, sym, ap, ap₂, _∙_, subst, Bool, true, _⊎_, inl, inr, _↔_, List, [], _∷_, _++_, append-nil, ℕ}
+use Rattle.standard.proofs.Prelude.{zero, suc, _+_, _*_, _/_, _≤_, _<_, add-zero, add-suc, mul-zero, mul-suc, mul-le-mul-left}
+use Rattle.standard.proofs.Prelude.{mul-div-cancel-left, le-of-suc-le-suc, eq-or-lt-of-le, arith, length, length-append}
+use mathlib.Core.List.{append-assoc}
 use Rattle.standard.specs.Bytes.{_!_, part, table, Bytes, Passed}
 use Rattle.standard.specs.Lists.{recordAt, joined, each}
 use Rattle.standard.specs.Sizes.{mostRecords}

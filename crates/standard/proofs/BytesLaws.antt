@@ -1,15 +1,12 @@
 -- Strings of a known length: `table`, and what `Bytes` gives.
 -- Assumes nothing.
-use mathlib.Core.Bool.{Bool, true, false, _&&_, not, true≢false}
-use mathlib.Core.List.{List, [], _∷_, _++_}
-use mathlib.Core.Path.{_≡_, refl, sym, ap, ap₂, _∙_}
-use Prim.Native.Nat.{ℕ, zero, suc, _+_, _-_, _*_, _/_, _%_, _^_, _<_, _≤_}
-use native.Mathlib.Nat.{suc-inj, suc-ne-zero, le-of-suc-le-suc, not-suc-le-zero, zero-add, add-zero, suc-add, add-suc, add-sub-cancel-left}
-use native.Mathlib.Omega.{arith}
-use lib.Dec.{eqb}
-use lib.ListN.{length, take, drop, length-append, List·getD-append}
+use Rattle.standard.proofs.Prelude.{_≡_, refl, sym, ap, ap₂, _∙_, Bool, true, false, not, _&&_, true≢false, List, [], _∷_, _++_, ℕ, zero, suc}
+use Rattle.standard.proofs.Prelude.{_+_, _-_, _*_, _/_, _%_, _^_, _≤_, _<_, add-zero, zero-add, add-suc, add-sub-cancel-left, suc-inj}
+use Rattle.standard.proofs.Prelude.{suc-ne-zero, le-of-suc-le-suc, arith, eqb, length, take, drop, length-append, eqb-true, eq-eqb, not-true}
+use Rattle.standard.proofs.Prelude.{not-false}
+use native.Mathlib.Nat.{not-suc-le-zero, suc-add}
+use lib.ListN.{List·getD-append}
 use lib.Seq.{drop-cons, getD-append-add}
-use borrow.Author.Tests.{eqb-true, eq-eqb, not-true, not-false}
 use Rattle.standard.specs.Bytes.{_!_, _⊕_, table, part, xors, bytesOf, sameOn, same, Bytes}
 use Rattle.standard.specs.Refusals.{hasLength}
 use Rattle.standard.proofs.XorLaws.{xor-byte}

@@ -1,14 +1,8 @@
 -- Sealing and unsealing in the terms of the single calls: what a sealing call answers for legal input, the unsealing call takes back
 -- with no check failed; and a text of which no check fails is what the sealing call answers for that key and number. TA61 likewise.
 -- Assumes nothing.
-use mathlib.Core.Bool.{Bool, true}
-use mathlib.Core.List.{List, [], _∷_, _++_}
-use mathlib.Core.Path.{_≡_, refl, sym, ap, ap₂, _∙_}
-use Prim.Native.Nat.{ℕ, _+_, _*_, _/_, _%_, _^_, _<_, _≤_}
-use native.Mathlib.Omega.{arith}
-use lib.Dec.{eqb, leb}
-use lib.ListN.{length}
-use borrow.Author.Tests.{eqb-true, eq-eqb, le-leb, lt-ltb}
+use Rattle.standard.proofs.Prelude.{_≡_, refl, sym, ap, ap₂, _∙_, Bool, true, List, [], _∷_, _++_, ℕ, _+_, _*_, _/_, _%_, _^_, _≤_, _<_, arith}
+use Rattle.standard.proofs.Prelude.{eqb, leb, length, eqb-true, eq-eqb, le-leb, lt-ltb}
 use Rattle.standard.specs.Bytes.{_!_, part, table, zeros, bytesOf, number3, choose, Bytes}
 use Rattle.standard.specs.Identity.{ta61, ta61⁻¹, ta61Call, ta61⁻¹Call}
 use Rattle.standard.specs.Refusals.{hasLength, unsealed}

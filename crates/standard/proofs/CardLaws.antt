@@ -1,15 +1,9 @@
 -- A card of four groups: what it can have been, and what the call answers.
 -- Assumes nothing.
-use mathlib.Core.Bool.{Bool, true, false, not, _&&_, _||_}
-use mathlib.Core.List.{List, [], _∷_, _++_}
-use mathlib.Core.Logic.{_⊎_, inl, inr}
-use mathlib.Core.Path.{_≡_, refl, sym, ap, ap₂, _∙_, subst}
-use Prim.Native.Nat.{ℕ, zero, suc, _+_, _-_, _/_, _^_, _<_}
-use native.Mathlib.Nat.{suc-ne-zero, mod-lt, zero-lt-suc}
-use native.Mathlib.Omega.{arith}
-use lib.Bits.{xor-self}
-use lib.Dec.{eqb, leb}
-use borrow.Author.Tests.{eqb-false, eq-eqb, ne-eqb}
+use Rattle.standard.proofs.Prelude.{_≡_, refl, sym, ap, ap₂, _∙_, subst, Bool, true, false, not, _&&_, _⊎_, inl, inr, List, [], _∷_, _++_, ℕ}
+use Rattle.standard.proofs.Prelude.{zero, suc, _+_, _-_, _/_, _^_, _<_, mod-lt, suc-ne-zero, zero-lt-suc, arith, xor-self, eqb, leb, eqb-false}
+use Rattle.standard.proofs.Prelude.{eq-eqb, ne-eqb}
+use mathlib.Core.Bool.{_||_}
 use Rattle.standard.specs.Bytes.{_!_, bit, _⊕_, part, choose, Bytes}
 use Rattle.standard.specs.Cards.{unreadable, readable, erasuresOn, erasures, atMostOne, agrees, everyGroup, restored, keyOf, restoreCall}
 use Rattle.standard.specs.Cards.{SameReadable, FormOf, OnlyOne, None, Several, CardLaw}

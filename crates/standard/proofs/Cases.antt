@@ -1,8 +1,6 @@
 -- The worked cases of 01 (Cases to prove), a to k, as one theorem, by computation.
 -- Assumes nothing.
-use mathlib.Core.List.{List, [], _∷_}
-use mathlib.Core.Path.{_≡_, refl}
-use Prim.Native.Nat.{ℕ, suc}
+use Rattle.standard.proofs.Prelude.{_≡_, refl, List, [], _∷_, ℕ, suc}
 use Rattle.standard.specs.Bytes.{bit, table, zeros}
 use Rattle.standard.specs.Expansions.{exp1, exp2, exp3, exp4, x16}
 use Rattle.standard.specs.Hurdle.{S, T, f, D, a, Q, laid, schedule, roundKey}

@@ -1,15 +1,9 @@
 -- The checks of a text: no bit of their number is set exactly if each finds what it wants, and exactly if their or is 0 (02, 3, 6).
 -- Assumes nothing.
-use mathlib.Core.Bool.{Bool, true, false, _&&_}
-use mathlib.Core.List.{List, [], _∷_}
-use mathlib.Core.Path.{_≡_, refl, sym, ap, ap₂, subst, _∙_}
-use Prim.Native.Nat.{ℕ, zero, suc, _+_, _*_, _/_, _%_, _^_, _<_}
-use native.Mathlib.Nat.{suc-inj, suc-ne-zero, pow-succ', div-div-eq-div-mul}
-use native.Mathlib.Omega.{arith}
-use lib.Bits.{bitAnd, or-add-and, and-le-l, and-le-r, xor-self}
-use lib.Dec.{eqb}
-use lib.ListN.{length}
-use borrow.Author.Tests.{eqb-true, eqb-false, eq-eqb, ne-eqb}
+use Rattle.standard.proofs.Prelude.{_≡_, refl, sym, ap, ap₂, _∙_, subst, Bool, true, false, _&&_, List, [], _∷_, ℕ, zero, suc, _+_, _*_, _/_}
+use Rattle.standard.proofs.Prelude.{_%_, _^_, _<_, suc-inj, suc-ne-zero, arith, xor-self, eqb, length, eqb-true, eqb-false, eq-eqb, ne-eqb}
+use native.Mathlib.Nat.{pow-succ', div-div-eq-div-mul}
+use lib.Bits.{bitAnd, or-add-and, and-le-l, and-le-r}
 use Rattle.standard.specs.Bytes.{_!_, bit, _⊕_, _∣_, sameOn, same, choose}
 use Rattle.standard.specs.Seals.{differences, failedOf, clear, orOn, orOf, formOf}
 use Rattle.standard.specs.declared.Algorithm.{Algorithm}

@@ -1,13 +1,8 @@
 -- Rows and their columns: transposing with the sizes exchanged undoes it, and so do the calls.
 -- Assumes nothing.
-use mathlib.Core.List.{List, _++_}
-use mathlib.Core.Path.{_≡_, refl, sym, ap, _∙_}
-use Prim.Native.Nat.{ℕ, _+_, _*_, _/_, _<_, _≤_}
-use native.Mathlib.Nat.{mul-comm, mul-mod-right, mul-div-cancel-left, mul-le-mul-left}
-use native.Mathlib.Omega.{arith}
-use lib.ListN.{length, drop}
-use lib.Seq.{take-at}
-use borrow.Author.Tests.{eq-eqb, le-leb}
+use Rattle.standard.proofs.Prelude.{_≡_, refl, sym, ap, _∙_, List, _++_, ℕ, _+_, _*_, _/_, _≤_, _<_, mul-comm, mul-le-mul-left}
+use Rattle.standard.proofs.Prelude.{mul-div-cancel-left, arith, length, drop, take-at, eq-eqb, le-leb}
+use native.Mathlib.Nat.{mul-mod-right}
 use Rattle.standard.specs.Bytes.{_!_}
 use Rattle.standard.specs.Columns.{column, transposed, toColumns, fromColumns, columnsCall, Undoes, ColumnsLaw}
 use Rattle.standard.specs.Lists.{recordAt, listTests, written}

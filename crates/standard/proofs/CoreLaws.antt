@@ -1,8 +1,6 @@
 -- The sealing and the unsealing core are inverse on all strings of 15 bytes: the discarded byte 8 is recovered, and never free.
 -- Assumes nothing.
-use mathlib.Core.List.{List, [], _∷_, _++_}
-use mathlib.Core.Path.{_≡_, refl, ap, _∙_}
-use Prim.Native.Nat.{ℕ}
+use Rattle.standard.proofs.Prelude.{_≡_, refl, ap, _∙_, List, [], _∷_, _++_, ℕ}
 use Rattle.standard.specs.Bytes.{_!_, _⊕_, part, xors, Bytes}
 use Rattle.standard.specs.Cores.{bl1With, bl1, bl2}
 use Rattle.standard.specs.Hurdle.{encrypt, decrypt}

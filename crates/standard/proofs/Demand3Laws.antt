@@ -1,14 +1,7 @@
 -- Demand 3, proved: for every ring of its size, all bytes of any length and every output long enough.
 -- Assumes nothing.
-use mathlib.Core.List.{List, _++_}
-use mathlib.Core.Logic.{_↔_}
-use mathlib.Core.Path.{_≡_, refl, sym, ap, _∙_}
-use Prim.Native.Nat.{ℕ, _*_, _/_, _<_, _≤_}
-use native.Mathlib.Omega.{arith}
-use lib.Dec.{eqb}
-use lib.ListN.{length, take, drop}
-use lib.Seq.{take-at}
-use borrow.Author.Tests.{eq-eqb, le-leb}
+use Rattle.standard.proofs.Prelude.{_≡_, refl, sym, ap, _∙_, _↔_, List, _++_, ℕ, _*_, _/_, _≤_, _<_, arith, eqb, length, take, drop, take-at}
+use Rattle.standard.proofs.Prelude.{eq-eqb, le-leb}
 use Rattle.standard.specs.Books.{plainFault, sealRecord, openFault, openRecord, WellFormed, sealedForm}
 use Rattle.standard.specs.Books.{sealing, opening, bookCall, sealBook, openBook, checkPlain}
 use Rattle.standard.specs.Bytes.{_!_, Bytes}

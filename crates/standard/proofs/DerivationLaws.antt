@@ -1,17 +1,11 @@
 -- Masks: what their tests tell, and how many bytes they choose. The ring recipe on strings of the right lengths.
 -- Assumes nothing.
-use mathlib.Core.Bool.{Bool, true, false, _&&_}
-use mathlib.Core.List.{List, [], _∷_}
-use mathlib.Core.Path.{_≡_, refl, sym, ap, _∙_}
-use Prim.Native.Nat.{ℕ, zero, suc, _+_, _/_, _%_, _^_, _<_}
-use native.Mathlib.Nat.{mod-lt, mod-eq-of-lt, zero-lt-suc, zero-add, mod-one}
+use Rattle.standard.proofs.Prelude.{_≡_, refl, sym, ap, _∙_, Bool, true, false, _&&_, List, [], _∷_, ℕ, zero, suc, _+_, _/_, _%_, _^_, _<_}
+use Rattle.standard.proofs.Prelude.{zero-add, mod-lt, mod-eq-of-lt, zero-lt-suc, arith, eqb, length, pow-pos, eqb-true}
+use native.Mathlib.Nat.{mod-one}
 use native.Mathlib.Numerals.{one-add}
-use native.Mathlib.Omega.{arith}
 use lib.Count.{ones, onesIn, ones-cat}
-use lib.Dec.{eqb}
-use lib.ListN.{length}
-use lib.Pow.{pow-pos, mod-pow-add}
-use borrow.Author.Tests.{eqb-true}
+use lib.Pow.{mod-pow-add}
 use Rattle.standard.specs.Bytes.{byte, bit, part, choose}
 use Rattle.standard.specs.Derivation.{chosenOf, chosen, ringOf, haveLengths, ringCall}
 use Rattle.standard.specs.Refusals.{hasLength, maskTests, first}

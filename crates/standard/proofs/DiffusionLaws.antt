@@ -1,16 +1,12 @@
 -- The figures of a diffusion tally: the bounds that their sum and extremes keep, and why no flip changes nothing.
 -- Assumes nothing.
-use mathlib.Core.Bool.{Bool, true, not, true≢false}
-use mathlib.Core.List.{List, [], _∷_, _++_, foldl}
-use mathlib.Core.Path.{_≡_, refl, sym, ap, _∙_}
-use Prim.Native.Nat.{ℕ, zero, suc, _+_, _*_, _/_, _%_, _^_, _<_, _≤_, min, max, zero-le}
+use Rattle.standard.proofs.Prelude.{_≡_, refl, sym, ap, _∙_, Bool, true, not, true≢false, List, [], _∷_, _++_, ℕ, zero, suc, _+_, _*_, _/_}
+use Rattle.standard.proofs.Prelude.{_%_, _^_, _≤_, _<_, zero-le, arith, xor-self, length, ne-eqb}
+use mathlib.Core.List.{foldl}
+use Prim.Native.Nat.{min, max}
 use native.Mathlib.Nat.{min-eq-right}
-use native.Mathlib.Omega.{arith}
 use lib.Arith.{bin-ind}
-use lib.Bits.{xor-self}
 use lib.Count.{ones, ones-step, ones-le}
-use lib.ListN.{length}
-use borrow.Author.Tests.{ne-eqb}
 use Rattle.standard.specs.Bytes.{_!_, _⊕_, table, part, xors, zeros, bytesOf, same, Bytes}
 use Rattle.standard.specs.Diffusion.{flipped, bitsSet, change, recordChanges, total, least, greatest, tally, diffusionCall, Figures, DiffusionHolds}
 use Rattle.standard.specs.Hurdle.{encrypt, decrypt}

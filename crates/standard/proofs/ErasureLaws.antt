@@ -1,18 +1,11 @@
 -- What a group with gaps can have been, for groups of any length whose ⊕ is 0; and tests that decide whether exactly one string has a
 -- property.
 -- Assumes nothing.
-use mathlib.Core.Bool.{Bool, true, false, not, _&&_, _||_}
-use mathlib.Core.List.{List, [], _∷_, _++_}
-use mathlib.Core.Logic.{_⊎_, inl, inr}
-use mathlib.Core.Path.{_≡_, refl, sym, ap, ap₂, _∙_, subst}
-use Prim.Native.Nat.{ℕ, zero, suc, _<_, _≤_}
-use native.Mathlib.Nat.{suc-inj, suc-ne-zero}
-use native.Mathlib.Omega.{arith}
-use lib.Bits.{xor-comm, xor-self, xor-zero-r}
-use lib.Dec.{eqb, leb}
-use lib.ListN.{length, take, drop}
-use lib.Seq.{take-at, drop-at}
-use borrow.Author.Tests.{eqb-true, eqb-false, eq-eqb, leb-true, leb-false}
+use Rattle.standard.proofs.Prelude.{_≡_, refl, sym, ap, ap₂, _∙_, subst, Bool, true, false, not, _&&_, _⊎_, inl, inr, List, [], _∷_, _++_, ℕ}
+use Rattle.standard.proofs.Prelude.{zero, suc, _≤_, _<_, suc-inj, suc-ne-zero, arith, xor-comm, xor-self, xor-zero-r, eqb, leb, length, take}
+use Rattle.standard.proofs.Prelude.{drop, take-at, drop-at, eqb-true, eqb-false, eq-eqb, leb-true}
+use mathlib.Core.Bool.{_||_}
+use borrow.Author.Tests.{leb-false}
 use Rattle.standard.specs.Bytes.{_!_, _⊕_, choose}
 use Rattle.standard.specs.Cards.{OnlyOne, None, Several}
 use Rattle.standard.proofs.XorLaws.{xor-assoc, xor-cancel-r, xor-byte}

@@ -1,8 +1,6 @@
 -- What goes through the expansions stays a string of bytes, for any groups.
 -- Assumes nothing.
-use mathlib.Core.List.{List, [], _∷_, _++_}
-use Prim.Native.Nat.{ℕ, zero, suc, _+_, _<_}
-use native.Mathlib.Omega.{arith}
+use Rattle.standard.proofs.Prelude.{List, [], _∷_, _++_, ℕ, zero, suc, _+_, _<_, arith}
 use Rattle.standard.specs.Bytes.{_!_, _⊕_, part, Bytes}
 use Rattle.standard.specs.Expansions.{xorOn, grouped, ungrouped}
 use Rattle.standard.proofs.XorLaws.{xor-byte}

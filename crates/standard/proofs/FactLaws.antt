@@ -1,16 +1,9 @@
 -- The facts that the requests ask for (02), and one of 01's, proved.
 -- Assumes nothing.
-use mathlib.Core.Bool.{Bool, true, false, _&&_}
-use mathlib.Core.List.{List, [], _∷_, _++_}
-use mathlib.Core.Logic.{_↔_}
-use mathlib.Core.Path.{_≡_, refl, sym, ap, ap₂, subst, fun-ext, _∙_}
-use Prim.Native.Nat.{ℕ, zero, suc, _*_, _/_, _^_, _<_}
-use native.Mathlib.Nat.{suc-ne-zero}
-use native.Mathlib.Omega.{arith}
-use lib.Dec.{eqb}
-use lib.ListN.{length, drop, List·getD-append}
-use lib.Pow.{pow-pos}
-use borrow.Author.Tests.{eqb-true, eqb-false, eq-eqb, ne-eqb, le-leb}
+use Rattle.standard.proofs.Prelude.{_≡_, refl, sym, ap, ap₂, _∙_, subst, Bool, true, false, _&&_, _↔_, List, [], _∷_, _++_, ℕ, zero, suc, _*_}
+use Rattle.standard.proofs.Prelude.{_/_, _^_, _<_, suc-ne-zero, arith, eqb, length, drop, pow-pos, eqb-true, eqb-false, eq-eqb, ne-eqb, le-leb}
+use mathlib.Core.Path.{fun-ext}
+use lib.ListN.{List·getD-append}
 use Rattle.standard.specs.Books.{recordKind, sealingKey, plainFault, openRecord, openFault, inspectionRuns, bookCall, sealBook, openBook, checkPlain}
 use Rattle.standard.specs.Bytes.{_!_, bit, part, zeros, bytesOf, choose}
 use Rattle.standard.specs.Classes.{classRecord, ta12ClassCall}

@@ -1,12 +1,7 @@
 -- A loop that fills a list with a table from the front, one store a turn: after j turns the first j elements are the table's.
 -- Assumes nothing.
-use mathlib.Core.List.{List, [], _∷_, _++_}
-use mathlib.Core.Path.{_≡_, sym, ap, ap₂, _∙_}
-use Prim.Native.Nat.{ℕ, suc, _+_, _<_}
-use native.Mathlib.Numerals.{add-one}
-use native.Mathlib.Omega.{arith}
-use lib.ListN.{length, take, set}
-use lib.Seq.{take-suc-set, take-all}
+use Rattle.standard.proofs.Prelude.{_≡_, sym, ap, ap₂, _∙_, List, [], _∷_, _++_, ℕ, suc, _+_, _<_, add-one, arith, length, take, set, take-all}
+use lib.Seq.{take-suc-set}
 use Rattle.standard.specs.Bytes.{table}
 use Rattle.standard.proofs.BytesLaws.{table-snoc}
 

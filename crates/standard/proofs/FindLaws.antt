@@ -1,15 +1,12 @@
 -- The inverses of TB1, TB3, TB5 and TB6 find the only input (02, 10).
 -- Assumes nothing.
-use mathlib.Core.Bool.{Bool, true, false, true≢false}
-use mathlib.Core.List.{List, [], _∷_}
-use mathlib.Core.Logic.{_↔_, Iff·trans, Iff·not}
-use mathlib.Core.Path.{_≡_, refl, sym, ap, _∙_}
-use Prim.Native.Nat.{ℕ, zero, suc, _+_, _-_, _*_, _/_, _%_, _^_, _<_, _≤_}
-use native.Mathlib.Nat.{add-zero, zero-add, add-assoc, zero-mul, mul-one, add-mul, mul-assoc, div-one, mod-one, mod-lt}
-use native.Mathlib.Omega.{arith}
+use Rattle.standard.proofs.Prelude.{_≡_, refl, sym, ap, _∙_, Bool, true, false, true≢false, _↔_, List, [], _∷_, ℕ, zero, suc, _+_, _-_, _*_}
+use Rattle.standard.proofs.Prelude.{_/_, _%_, _^_, _≤_, _<_, add-zero, zero-add, add-mul, div-one, mod-lt, arith, pow-add, pow-pos, eq-eqb}
+use Rattle.standard.proofs.Prelude.{le-leb}
+use mathlib.Core.Logic.{Iff·trans, Iff·not}
+use native.Mathlib.Nat.{add-assoc, zero-mul, mul-one, mul-assoc, mod-one}
 use lib.ListN.{replicate}
-use lib.Pow.{pow-add, pow-pos, shr-shr, split, high, low, mod-pow-add}
-use borrow.Author.Tests.{eq-eqb, le-leb}
+use lib.Pow.{shr-shr, split, high, low, mod-pow-add}
 use Rattle.standard.specs.Bytes.{_!_, _⊕_, part, xors, bytesOf, numberOn, number, same}
 use Rattle.standard.specs.Inverses.{field, tb1⁻¹Call, tb3⁻¹Call, tb5⁻¹Call, tb6⁻¹Call, FindsOnly, FindsTb1, FindsTb3, FindsTb5, FindsTb6}
 use Rattle.standard.specs.Mixing.{joinOn, join, tb1, tb3, tb5, tb6}

@@ -1,12 +1,8 @@
 -- `first`, the number of the first test that fails: it is 0 exactly if every test passes, and of two lists of tests the first goes
 -- before the second.
 -- Assumes nothing.
-use mathlib.Core.Bool.{Bool, true, false, _&&_, not}
-use mathlib.Core.List.{List, [], _∷_, _++_}
-use mathlib.Core.Path.{_≡_, refl, sym, ap, _∙_}
-use Prim.Native.Nat.{ℕ, zero, suc}
-use lib.Dec.{eqb}
-use borrow.Author.Tests.{not-true, eqb-false}
+use Rattle.standard.proofs.Prelude.{_≡_, refl, sym, ap, _∙_, Bool, true, false, not, _&&_, List, [], _∷_, _++_, ℕ, zero, suc, eqb, eqb-false}
+use Rattle.standard.proofs.Prelude.{not-true}
 use Rattle.standard.specs.Bytes.{choose}
 use Rattle.standard.specs.Refusals.{first}
 use Rattle.standard.proofs.BytesLaws.{and-split}

@@ -1,13 +1,7 @@
 -- HURDLE-II: S and its inverse undo each other; decryption undoes encryption, and encryption decryption.
 -- Assumes nothing.
-use mathlib.Core.Bool.{Bool, true, _&&_}
-use mathlib.Core.List.{List, [], _∷_, _++_}
-use mathlib.Core.Path.{_≡_, refl, sym, ap, ap₂, _∙_}
-use Prim.Native.Nat.{ℕ, zero, suc, _+_, _-_, _*_, _<_}
-use native.Mathlib.Omega.{arith}
-use lib.Dec.{eqb, ltb}
-use lib.ListN.{length, length-append}
-use borrow.Author.Tests.{eqb-true, ltb-true}
+use Rattle.standard.proofs.Prelude.{_≡_, refl, sym, ap, ap₂, _∙_, Bool, true, _&&_, List, [], _∷_, _++_, ℕ, zero, suc, _+_, _-_, _*_, _<_}
+use Rattle.standard.proofs.Prelude.{arith, eqb, ltb, length, length-append, eqb-true, ltb-true}
 use Rattle.standard.specs.Bytes.{_!_, bit, table, part, xors, Bytes}
 use Rattle.standard.specs.Hurdle.{S, S⁻¹, T, ofBits, Y, f, Halves, round, rounds, crypt, roundKey, schedule, encryptWith, decryptWith, encrypt, decrypt}
 use Rattle.standard.proofs.XorLaws.{xor-cancel-r}

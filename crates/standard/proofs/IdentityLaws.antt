@@ -1,10 +1,8 @@
 -- TA61 and its inverse undo each other on all strings of three bytes, under every common key.
 -- Assumes nothing.
-use mathlib.Core.List.{List, [], _∷_}
-use mathlib.Core.Path.{_≡_, sym, ap, _∙_}
-use Prim.Native.Nat.{ℕ, _+_, _-_, _*_, _/_, _%_, _<_}
-use native.Mathlib.Nat.{add-mul-mod-self-left, mod-eq-of-lt, mod-lt, zero-lt-suc, add-comm}
-use native.Mathlib.Omega.{arith}
+use Rattle.standard.proofs.Prelude.{_≡_, sym, ap, _∙_, List, [], _∷_, ℕ, _+_, _-_, _*_, _/_, _%_, _<_, mod-lt, mod-eq-of-lt, zero-lt-suc}
+use Rattle.standard.proofs.Prelude.{arith}
+use native.Mathlib.Nat.{add-mul-mod-self-left, add-comm}
 use Rattle.standard.specs.Bytes.{_!_, byte, _⊕_, _⊞_, xors, Bytes}
 use Rattle.standard.specs.Expansions.{exp4}
 use Rattle.standard.specs.Hurdle.{S, S⁻¹}

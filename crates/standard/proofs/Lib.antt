@@ -1,3 +1,4 @@
+pub mod Prelude
 pub mod XorLaws
 pub mod BytesLaws
 pub mod FirstLaws

@@ -1,13 +1,7 @@
 -- The lineage sheet: a value is that of the record's operation on its parents' values, and depends on its ancestry alone.
 -- Assumes nothing.
-use mathlib.Core.Bool.{Bool, true, false}
-use mathlib.Core.List.{List, _∷_, _++_}
-use mathlib.Core.Path.{_≡_, refl, sym, ap, _∙_}
-use Prim.Native.Nat.{ℕ, zero, suc, _*_, _/_, _<_}
-use native.Mathlib.Omega.{arith}
-use lib.Dec.{eqb}
-use lib.ListN.{length, drop}
-use borrow.Author.Tests.{ltb-true, eqb-false, ne-eqb}
+use Rattle.standard.proofs.Prelude.{_≡_, refl, sym, ap, _∙_, Bool, true, false, List, _∷_, _++_, ℕ, zero, suc, _*_, _/_, _<_, arith, eqb}
+use Rattle.standard.proofs.Prelude.{length, drop, eqb-false, ne-eqb, ltb-true}
 use Rattle.standard.specs.Bytes.{part, choose}
 use Rattle.standard.specs.Lineage.{operation, parent1, parent2, derivedFilled, parentTests, lineageFault}
 use Rattle.standard.specs.Lineage.{derived, valueFrom, valueWithin, valueOf, lineageCall}

@@ -1,12 +1,7 @@
 -- The listing of 01's example, lines about answers, and the count that a call for a text answers.
 -- Assumes nothing.
-use mathlib.Core.Bool.{Bool, true, false}
-use mathlib.Core.List.{List, [], _∷_, _++_}
-use mathlib.Core.Path.{_≡_, refl, sym, subst}
-use Prim.Native.Nat.{ℕ, _≤_}
-use native.Mathlib.Omega.{arith}
-use lib.Dec.{ltb}
-use lib.ListN.{length, drop, length-append}
+use Rattle.standard.proofs.Prelude.{_≡_, refl, sym, subst, Bool, true, false, List, [], _∷_, _++_, ℕ, _≤_, arith, ltb, length, drop}
+use Rattle.standard.proofs.Prelude.{length-append}
 use Rattle.standard.specs.Books.{plainFault, checkPlain}
 use Rattle.standard.specs.Lists.{refused as refusedBook, answer}
 use Rattle.standard.specs.Bytes.{choose}

@@ -3,14 +3,12 @@
 --     tb1-at     byte j of TB1, as the code takes it out of two copies of the value
 --     tb1-bit    bit i of TB1 is bit i modulo the width of the value, both counted from the left
 -- Assumes nothing.
-use mathlib.Core.List.{_∷_, _++_}
-use mathlib.Core.Path.{_≡_, refl, sym, ap, ap₂, _∙_}
-use Prim.Native.Nat.{ℕ, zero, suc, _+_, _-_, _*_, _/_, _%_, _^_, _<_, _≤_}
-use native.Mathlib.Nat.{add-zero, zero-add, add-suc, suc-add, add-assoc, add-comm, zero-mul, suc-mul, mul-one, add-mul, mul-assoc}
-use native.Mathlib.Nat.{mul-add-mod-self-right, lt-of-lt-of-le, div-add-mod', mod-lt}
-use native.Mathlib.Omega.{arith}
+use Rattle.standard.proofs.Prelude.{_≡_, refl, sym, ap, ap₂, _∙_, _∷_, _++_, ℕ, zero, suc, _+_, _-_, _*_, _/_, _%_, _^_, _≤_, _<_, add-zero}
+use Rattle.standard.proofs.Prelude.{zero-add, add-suc, add-mul, mod-lt, arith, pow-add, shl-exact}
+use native.Mathlib.Nat.{suc-add, add-assoc, add-comm, zero-mul, suc-mul, mul-one, mul-assoc}
+use native.Mathlib.Nat.{mul-add-mod-self-right, lt-of-lt-of-le, div-add-mod'}
 use lib.Arith.{digits-lt}
-use lib.Pow.{pow-add, pow-mono, shl-exact, shr-shr, split, high, field}
+use lib.Pow.{pow-mono, shr-shr, split, high, field}
 use Rattle.standard.specs.Bytes.{_!_, bit, bytesOf}
 use Rattle.standard.specs.Mixing.{tb1}
 

@@ -1,14 +1,7 @@
 -- The register turns until the key is back, each step can be undone, and both forms of the cipher agree (02, 7).
 -- Assumes nothing.
-use mathlib.Core.List.{List, [], _∷_, _++_}
-use mathlib.Core.Path.{_≡_, refl, sym, ap, ap₂, _∙_}
-use Prim.Native.Nat.{ℕ, zero, suc, _+_, _-_, _*_, _/_, _%_, _<_, _≤_}
-use native.Mathlib.Nat.{add-zero, add-suc, mod-eq-of-lt}
-use native.Mathlib.Omega.{arith}
-use lib.Bits.{xor-zero-r}
-use lib.Dec.{leb}
-use lib.ListN.{length}
-use borrow.Author.Tests.{leb-true}
+use Rattle.standard.proofs.Prelude.{_≡_, refl, sym, ap, ap₂, _∙_, List, [], _∷_, _++_, ℕ, zero, suc, _+_, _-_, _*_, _/_, _%_, _≤_, _<_}
+use Rattle.standard.proofs.Prelude.{add-zero, add-suc, mod-eq-of-lt, arith, xor-zero-r, leb, length, leb-true}
 use Rattle.standard.specs.Bytes.{_!_, _⊕_, table, part, xors, zeros}
 use Rattle.standard.specs.Hurdle.{Halves, round, rounds, crypt, D, a, rotl, next, Q, schedule, roundKey, encrypt, decrypt}
 use Rattle.standard.specs.Register.{step, stepBack, turned, State, start, onward, backward, joined, encryptRegister, decryptRegister}

@@ -1,6 +1,6 @@
 -- Records under two rings do not open as one book (02, 14): an example, by computation.
 -- Assumes nothing.
-use mathlib.Core.Path.{refl}
+use Rattle.standard.proofs.Prelude.{refl}
 use Rattle.standard.specs.Books.{openFault, inspectionRuns, sealRecord, sealedForm, bookCall, openBook}
 use Rattle.standard.specs.Bytes.{bit}
 use Rattle.standard.specs.Cores.{bl1, bl1With, bl2}

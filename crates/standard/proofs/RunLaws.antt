@@ -1,14 +1,7 @@
 -- How many cipher runs the book calls take (02, 8).
 -- Assumes nothing.
-use mathlib.Core.Bool.{Bool, true, false}
-use mathlib.Core.List.{List, [], _∷_}
-use mathlib.Core.Logic.{_⊎_, inl, inr}
-use mathlib.Core.Path.{_≡_, refl, sym, ap, _∙_}
-use Prim.Native.Nat.{ℕ, _+_, _*_, _<_, _≤_}
-use native.Mathlib.Nat.{add-mul}
-use native.Mathlib.Omega.{arith}
-use lib.Dec.{eqb}
-use borrow.Author.Tests.{eqb-true, eqb-false}
+use Rattle.standard.proofs.Prelude.{_≡_, refl, sym, ap, _∙_, Bool, true, false, _⊎_, inl, inr, List, [], _∷_, ℕ, _+_, _*_, _≤_, _<_, add-mul}
+use Rattle.standard.proofs.Prelude.{arith, eqb, eqb-true, eqb-false}
 use Rattle.standard.specs.Books.{Conversion, sealing, opening, sealingKey, isKnown, recordKind, openFault, inspectionRuns, bookCall, sealBook, openBook}
 use Rattle.standard.specs.Bytes.{_!_, part, choose}
 use Rattle.standard.specs.Lists.{recordAt, firstFault, refused, answer, written}

@@ -1,11 +1,7 @@
 -- The schedule is linear in the key: each Q is the key, rotated, ⊕ the zero key's Q. The round keys laid out are those of the Qs.
 -- Assumes nothing.
-use mathlib.Core.List.{List, [], _∷_}
-use mathlib.Core.Path.{_≡_, refl, sym, ap, ap₂, _∙_}
-use Prim.Native.Nat.{ℕ, zero, suc, _+_, _*_, _/_, _%_, _<_}
-use native.Mathlib.Nat.{add-zero, mod-eq-of-lt}
-use native.Mathlib.Omega.{arith}
-use lib.Bits.{xor-zero-r}
+use Rattle.standard.proofs.Prelude.{_≡_, refl, sym, ap, ap₂, _∙_, List, [], _∷_, ℕ, zero, suc, _+_, _*_, _/_, _%_, _<_, add-zero, mod-eq-of-lt}
+use Rattle.standard.proofs.Prelude.{arith, xor-zero-r}
 use Rattle.standard.specs.Bytes.{_!_, _⊕_, table, part, zeros}
 use Rattle.standard.specs.Hurdle.{D, a, rotl, Q, laid, schedule, roundKey}
 use Rattle.standard.specs.Tables.{runningSum, turn}

@@ -1,14 +1,8 @@
 -- Sealing, over the form of an algorithm. For every sealing key and version, a text's flag is clear exactly if the text is the sealed form of
 -- a legal body (`is-image` of `sealing`), of that one alone, which is the one unsealed (`of-one`), and sealing it gives the text again.
 -- Assumes nothing.
-use mathlib.Core.Bool.{Bool, true, false, _&&_}
-use mathlib.Core.List.{List, [], _∷_, _++_}
-use mathlib.Core.Path.{_≡_, refl, sym, ap, _∙_}
-use Prim.Native.Nat.{ℕ, _/_, _%_, _<_, _≤_}
-use native.Mathlib.Nat.{mod-eq-of-lt}
-use native.Mathlib.Omega.{arith}
-use lib.Dec.{eqb, leb}
-use borrow.Author.Tests.{eqb-true, leb-true, eq-eqb, le-leb}
+use Rattle.standard.proofs.Prelude.{_≡_, refl, sym, ap, _∙_, Bool, true, false, _&&_, List, [], _∷_, _++_, ℕ, _/_, _%_, _≤_, _<_, mod-eq-of-lt}
+use Rattle.standard.proofs.Prelude.{arith, eqb, leb, eqb-true, eq-eqb, leb-true, le-leb}
 use Rattle.standard.specs.Bytes.{_!_, part, same, choose, Bytes, Passed}
 use Rattle.standard.specs.Cores.{bl1}
 use Rattle.standard.specs.Expansions.{grouped, ungrouped, inserted, expected, exp1Groups, exp3Groups, x16Groups}

@@ -1,15 +1,10 @@
 -- Shuffled and joined books (02, 14): what is true of every call that treats each record by itself.
 -- Assumes nothing.
-use mathlib.Core.Bool.{Bool, true, false}
-use mathlib.Core.List.{List, _++_}
-use mathlib.Core.Path.{_≡_, refl, sym, ap, ap₂, _∙_}
-use Prim.Native.Nat.{ℕ, _+_, _-_, _*_, _/_, _<_, _≤_}
-use native.Mathlib.Nat.{mul-add, mul-suc, mul-le-mul-left, mul-div-cancel-left}
-use native.Mathlib.Omega.{arith}
-use lib.Dec.{eqb, ltb}
-use lib.ListN.{length, drop, length-append}
+use Rattle.standard.proofs.Prelude.{_≡_, refl, sym, ap, ap₂, _∙_, Bool, true, false, List, _++_, ℕ, _+_, _-_, _*_, _/_, _≤_, _<_, mul-suc}
+use Rattle.standard.proofs.Prelude.{mul-le-mul-left, mul-div-cancel-left, arith, eqb, ltb, length, drop, length-append, eq-eqb, lt-leb}
+use Rattle.standard.proofs.Prelude.{ltb-true, ltb-false}
+use native.Mathlib.Nat.{mul-add}
 use lib.Seq.{getD-append-add}
-use borrow.Author.Tests.{eq-eqb, ltb-true, ltb-false, lt-leb}
 use Rattle.standard.specs.Books.{sealRecord, openRecord, WellFormed, sealedForm, Conversion, sealing, opening, bookCall, sealBook, openBook}
 use Rattle.standard.specs.Bytes.{_!_, Bytes}
 use Rattle.standard.specs.Lists.{recordAt, each, answer, written}

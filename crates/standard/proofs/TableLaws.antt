@@ -1,15 +1,8 @@
 -- The printed tables: the inverse made is the stored one, and each rotation stands once (02, 13).
 -- Assumes nothing.
-use mathlib.Core.Bool.{Bool, true, false, _&&_}
-use mathlib.Core.List.{List, [], _∷_, _++_}
-use mathlib.Core.Path.{_≡_, refl, sym, ap, _∙_}
-use Prim.Native.Nat.{ℕ, zero, suc, _+_, _*_, _<_, _≤_}
-use native.Mathlib.Numerals.{add-one}
-use native.Mathlib.Omega.{arith}
-use lib.Dec.{eqb, ltb}
-use lib.ListN.{length, set, length-set, length-append}
+use Rattle.standard.proofs.Prelude.{_≡_, refl, sym, ap, _∙_, Bool, true, false, _&&_, List, [], _∷_, _++_, ℕ, zero, suc, _+_, _*_, _≤_, _<_}
+use Rattle.standard.proofs.Prelude.{add-one, arith, eqb, ltb, length, set, length-append, length-set, eqb-true, ltb-true, ltb-false}
 use lib.Seq.{getD-set-same, getD-set-other}
-use borrow.Author.Tests.{eqb-true, ltb-true, ltb-false}
 use Rattle.standard.specs.Bytes.{_!_, table, part}
 use Rattle.standard.specs.Hurdle.{S, S⁻¹, a}
 use Rattle.standard.specs.Tables.{placeOf, inverse, runningSum, turn, rotations, spaced, tableLine, tableLines, tablesText}

@@ -1,13 +1,7 @@
 -- The bit of a check; checks that pass, after those of an algorithm, change neither their or nor their number.
 -- Assumes nothing.
-use mathlib.Core.Bool.{Bool, true, false}
-use mathlib.Core.List.{List}
-use mathlib.Core.Path.{_≡_, refl}
-use Prim.Native.Nat.{ℕ, zero, suc, _+_, _/_, _<_, _≤_}
-use native.Mathlib.Nat.{zero-lt-suc}
-use native.Mathlib.Omega.{arith}
-use lib.Dec.{eqb}
-use borrow.Author.Tests.{eqb-true, eqb-false}
+use Rattle.standard.proofs.Prelude.{_≡_, refl, Bool, true, false, List, ℕ, zero, suc, _+_, _/_, _≤_, _<_, zero-lt-suc, arith, eqb, eqb-true}
+use Rattle.standard.proofs.Prelude.{eqb-false}
 use lib.Bits.{or-zero-r}
 use Rattle.standard.specs.Bytes.{part, choose}
 use Rattle.standard.specs.Seals.{checks, failedOf, failed, orOn, orOf, formOf}

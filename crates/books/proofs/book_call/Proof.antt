@@ -1,9 +1,4 @@
-use mathlib.Core.Path.{_≡_, _∙_}
-use Prim.Native.Nat.{_*_, _/_, _≤_}
-use native.Mathlib.Omega.{arith}
-use lib.ListN.{length}
-use denote.Ref.{now}
-use borrow.Author.Needs.{needs}
+use Rattle.standard.proofs.Prelude.{_≡_, _∙_, _*_, _/_, _≤_, arith, length, now, needs}
 use Rattle.books.proofs.BookReturnLaws.{ring-refused, lengths-refused, record-refused, all-written, room}
 use Rattle.books.proofs.DirectionLaws.{sizes, both-fit}
 use Rattle.books.specs.BothDirections.{sizeOf}

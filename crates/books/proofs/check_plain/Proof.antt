@@ -1,5 +1,4 @@
-use denote.Ref.{now}
-use borrow.Author.Needs.{needs}
+use Rattle.standard.proofs.Prelude.{now, needs}
 use Rattle.lists.proofs.ListReturnLaws.{answer-refused, answer-stopped, answer-done}
 use Rattle.standard.specs.Books.{checkPlain}
 use Rattle.books.proofs.check_plain.Statement.{statement}

@@ -1,4 +1,4 @@
-use borrow.Author.Needs.{needs}
+use Rattle.standard.proofs.Prelude.{needs}
 use Rattle.standard.specs.Books.{openBook}
 use Rattle.books.proofs.open_book.Statement.{statement}
 use Rattle.books.proofs.open_book.Tie as tie

@@ -1,4 +1,4 @@
-use borrow.Author.Needs.{needs}
+use Rattle.standard.proofs.Prelude.{needs}
 use Rattle.standard.specs.Books.{sealBook}
 use Rattle.books.proofs.seal_book.Statement.{statement}
 use Rattle.books.proofs.seal_book.Tie as tie

@@ -1,4 +1,4 @@
-use borrow.Author.Needs.{needs}
+use Rattle.standard.proofs.Prelude.{needs}
 use Rattle.cards.proofs.agree.Statement.{statement}
 use Rattle.cards.proofs.agree.Tie as tie
 

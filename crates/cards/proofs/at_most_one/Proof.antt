@@ -1,4 +1,4 @@
-use borrow.Author.Needs.{needs}
+use Rattle.standard.proofs.Prelude.{needs}
 use Rattle.cards.proofs.at_most_one.Statement.{statement}
 use Rattle.cards.proofs.at_most_one.Tie as tie
 

@@ -1,5 +1,4 @@
-use native.Mathlib.Omega.{arith}
-use borrow.Author.Needs.{needs}
+use Rattle.standard.proofs.Prelude.{arith, needs}
 use Rattle.cards.proofs.GroupLaws.{four-erasures}
 use Rattle.cards.proofs.erasures.Statement.{statement}
 use Rattle.cards.proofs.erasures.Tie as tie

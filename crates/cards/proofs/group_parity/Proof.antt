@@ -1,4 +1,4 @@
-use borrow.Author.Needs.{needs}
+use Rattle.standard.proofs.Prelude.{needs}
 use Rattle.cards.proofs.GroupLaws.{four-parity}
 use Rattle.cards.proofs.group_parity.Statement.{statement}
 use Rattle.cards.proofs.group_parity.Tie as tie

@@ -1,4 +1,4 @@
-use borrow.Author.Tests.{eq-eqb, ne-eqb}
+use Rattle.standard.proofs.Prelude.{eq-eqb, ne-eqb}
 use Rattle.cards.proofs.pick.Statement.{statement}
 use Rattle.cards.proofs.pick.Tie as tie
 

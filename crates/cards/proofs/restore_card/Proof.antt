@@ -1,8 +1,4 @@
-use mathlib.Core.Path.{_≡_, _∙_}
-use denote.Ref.{now}
-use borrow.Author.Needs.{needs}
-use borrow.Author.Tests.{eq-eqb, ne-eqb}
-use lib.ListN.{length}
+use Rattle.standard.proofs.Prelude.{_≡_, _∙_, length, now, needs, eq-eqb, ne-eqb}
 use Rattle.standard.proofs.BytesLaws.{failed, passed, spelled}
 use Rattle.standard.specs.Cards.{readable as readableOf, restoreCall}
 use Rattle.cards.proofs.restore_card.Statement.{statement}

@@ -1,9 +1,4 @@
-use mathlib.Core.Path.{_≡_, sym, ap, _∙_}
-use Prim.Native.Nat.{ℕ, _*_, _/_}
-use lib.ListN.{length, drop}
-use mathlib.Core.List.{List, _++_}
-use denote.Ref.{now}
-use borrow.Author.Needs.{needs}
+use Rattle.standard.proofs.Prelude.{_≡_, sym, ap, _∙_, List, _++_, ℕ, _*_, _/_, length, drop, now, needs}
 use Rattle.lists.proofs.LengthLaws.{records-within}
 use Rattle.standard.proofs.BytesLaws.{spelled}
 use Rattle.standard.specs.Hurdle.{schedule}

@@ -1,10 +1,6 @@
 -- The first i parts of the output are the records of the first i challenges.
 -- Assumes nothing.
-use mathlib.Core.List.{List}
-use mathlib.Core.Path.{_≡_}
-use Prim.Native.Nat.{ℕ, _+_, _-_, _≤_, zero-le}
-use native.Mathlib.Omega.{arith}
-use denote.Ref.{now}
+use Rattle.standard.proofs.Prelude.{_≡_, List, ℕ, _+_, _-_, _≤_, zero-le, arith, now}
 use Rattle.lists.proofs.WalkLaws.{Wrote, wrote-none, wrote-one, wrote-x4}
 use Rattle.standard.specs.Sizes.{challengeSize, authenticationSize}
 use Rattle.classes.proofs.ClassLaws.{record-length}

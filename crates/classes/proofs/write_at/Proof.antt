@@ -1,9 +1,4 @@
-use mathlib.Core.List.{List}
-use mathlib.Core.Path.{_≡_, ap, _∙_}
-use Prim.Native.Nat.{ℕ}
-use lib.ListN.{length}
-use denote.Ref.{now}
-use borrow.Author.Needs.{needs}
+use Rattle.standard.proofs.Prelude.{_≡_, ap, _∙_, List, ℕ, length, now, needs}
 use Rattle.lists.proofs.WalkLaws.{replaced-lent}
 use Rattle.lists.specs.Walks.{replaceAt}
 use Rattle.standard.specs.Sizes.{authenticationSize}

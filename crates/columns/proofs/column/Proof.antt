@@ -1,8 +1,4 @@
-use mathlib.Core.Path.{_≡_, refl, _∙_}
-use Prim.Native.Nat.{_+_, _*_, _-_, _≤_, zero-le}
-use native.Mathlib.Omega.{arith}
-use lib.ListN.{length, take, length-set}
-use denote.Ref.{now}
+use Rattle.standard.proofs.Prelude.{_≡_, refl, _∙_, _+_, _-_, _*_, _≤_, zero-le, arith, length, take, length-set, now}
 use Rattle.standard.proofs.FillLaws.{fill-next, filled}
 use Rattle.standard.specs.Bytes.{_!_}
 use Rattle.standard.specs.Columns.{column as columnOf}

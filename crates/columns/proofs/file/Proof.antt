@@ -1,6 +1,4 @@
-use native.Mathlib.Nat.{mul-comm}
-use native.Mathlib.Omega.{arith}
-use borrow.Author.Needs.{needs}
+use Rattle.standard.proofs.Prelude.{mul-comm, arith, needs}
 use Rattle.columns.proofs.file.Statement.{statement}
 use Rattle.columns.proofs.file.Tie as tie
 

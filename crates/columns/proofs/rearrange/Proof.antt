@@ -1,8 +1,4 @@
-use Prim.Native.Nat.{_*_, _/_}
-use native.Mathlib.Omega.{arith}
-use lib.ListN.{length}
-use denote.Ref.{now}
-use borrow.Author.Needs.{needs}
+use Rattle.standard.proofs.Prelude.{_*_, _/_, arith, length, now, needs}
 use Rattle.lists.proofs.LengthLaws.{records-within}
 use Rattle.standard.specs.Bytes.{choose}
 use Rattle.standard.specs.Columns.{toColumns, fromColumns}

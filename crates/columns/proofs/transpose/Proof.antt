@@ -1,7 +1,4 @@
-use mathlib.Core.Path.{_≡_}
-use Prim.Native.Nat.{_-_, _≤_, zero-le}
-use native.Mathlib.Omega.{arith}
-use denote.Ref.{now}
+use Rattle.standard.proofs.Prelude.{_≡_, _-_, _≤_, zero-le, arith, now}
 use Rattle.lists.proofs.WalkLaws.{ends}
 use Rattle.standard.specs.Columns.{transposed}
 use Rattle.columns.proofs.FileLaws.{Filed, filed-none, rows-enough, filed-more}

@@ -1,6 +1,4 @@
-use mathlib.Core.Path.{ap, _∙_}
-use denote.Ref.{now}
-use borrow.Author.Needs.{needs}
+use Rattle.standard.proofs.Prelude.{ap, _∙_, now, needs}
 use Rattle.cores.proofs.CoreSteps.{bl1-steps}
 use Rattle.cores.specs.CoreOutputs.{counted16}
 use Rattle.cores.proofs.bl1_with.Statement.{statement}

@@ -1,4 +1,4 @@
-use borrow.Author.Needs.{needs}
+use Rattle.standard.proofs.Prelude.{needs}
 use Rattle.cores.proofs.bl2_output.Statement.{statement}
 use Rattle.cores.proofs.bl2_output.Tie as tie
 

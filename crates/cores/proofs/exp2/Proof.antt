@@ -1,4 +1,4 @@
-use borrow.Author.Needs.{needs}
+use Rattle.standard.proofs.Prelude.{needs}
 use Rattle.standard.specs.Expansions.{exp2}
 use Rattle.cores.proofs.exp2.Statement.{statement}
 use Rattle.cores.proofs.exp2.Tie as tie

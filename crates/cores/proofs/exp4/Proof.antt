@@ -1,4 +1,4 @@
-use borrow.Author.Needs.{needs}
+use Rattle.standard.proofs.Prelude.{needs}
 use Rattle.standard.specs.Expansions.{exp4}
 use Rattle.cores.proofs.exp4.Statement.{statement}
 use Rattle.cores.proofs.exp4.Tie as tie

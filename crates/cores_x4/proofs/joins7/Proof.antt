@@ -1,4 +1,4 @@
-use borrow.Author.Needs.{needs}
+use Rattle.standard.proofs.Prelude.{needs}
 use Rattle.cores.specs.declared.CoreOutput15.{CoreOutput15}
 use Rattle.cores_x4.proofs.LaneLaws.{four-same}
 use Rattle.cores_x4.proofs.joins7.Statement.{statement}

@@ -1,6 +1,4 @@
-use mathlib.Core.List.{List}
-use Prim.Native.Nat.{ℕ}
-use borrow.Author.Needs.{needs}
+use Rattle.standard.proofs.Prelude.{List, ℕ, needs}
 use Rattle.cores_x4.proofs.LaneLaws.{four-same}
 use Rattle.cores_x4.proofs.mends.Statement.{statement}
 use Rattle.cores_x4.proofs.mends.Tie as tie

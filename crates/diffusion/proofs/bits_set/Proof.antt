@@ -1,6 +1,5 @@
-use native.Mathlib.Omega.{arith}
+use Rattle.standard.proofs.Prelude.{arith, needs}
 use lib.Count.{ones-le}
-use borrow.Author.Needs.{needs}
 use Rattle.diffusion.proofs.CountLaws.{word-ones}
 use Rattle.diffusion.proofs.bits_set.Statement.{statement}
 use Rattle.diffusion.proofs.bits_set.Tie as tie

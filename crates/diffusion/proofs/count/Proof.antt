@@ -1,8 +1,4 @@
-use mathlib.Core.Path.{_≡_, ap}
-use Prim.Native.Nat.{_-_, _≤_, zero-le}
-use native.Mathlib.Omega.{arith}
-use lib.ListN.{length}
-use denote.Ref.{now}
+use Rattle.standard.proofs.Prelude.{_≡_, ap, _-_, _≤_, zero-le, arith, length, now}
 use Rattle.lists.proofs.WalkLaws.{lent}
 use Rattle.standard.proofs.DiffusionLaws.{length-changes}
 use Rattle.standard.specs.Diffusion.{recordChanges}

@@ -1,7 +1,4 @@
-use mathlib.Core.Path.{_≡_}
-use Prim.Native.Nat.{_-_, _*_, _≤_, zero-le}
-use native.Mathlib.Omega.{arith}
-use denote.Ref.{now}
+use Rattle.standard.proofs.Prelude.{_≡_, _-_, _*_, _≤_, zero-le, arith, now}
 use Rattle.standard.proofs.BytesLaws.{length-table}
 use Rattle.standard.specs.Bytes.{table}
 use Rattle.diffusion.proofs.CountLaws.{counted-none, counted-four}

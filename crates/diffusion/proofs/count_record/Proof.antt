@@ -1,9 +1,4 @@
-use mathlib.Core.Path.{ap, _∙_}
-use Prim.Native.Nat.{_+_, _≤_}
-use native.Mathlib.Omega.{arith}
-use lib.ListN.{length}
-use denote.Ref.{now}
-use borrow.Author.Needs.{needs}
+use Rattle.standard.proofs.Prelude.{ap, _∙_, _+_, _≤_, arith, length, now, needs}
 use Rattle.standard.proofs.BytesLaws.{part-lent}
 use Rattle.standard.specs.Bytes.{part}
 use Rattle.standard.specs.Hurdle.{schedule}

@@ -1,4 +1,4 @@
-use borrow.Author.Needs.{needs}
+use Rattle.standard.proofs.Prelude.{needs}
 use Rattle.diffusion.proofs.CountLaws.{counted-more}
 use Rattle.diffusion.proofs.counted4.Statement.{statement}
 use Rattle.diffusion.proofs.counted4.Tie as tie

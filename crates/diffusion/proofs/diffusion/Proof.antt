@@ -1,8 +1,4 @@
-use mathlib.Core.Path.{sym, _∙_}
-use native.Mathlib.Omega.{arith}
-use lib.ListN.{length}
-use denote.Ref.{now}
-use borrow.Author.Needs.{needs}
+use Rattle.standard.proofs.Prelude.{sym, _∙_, arith, length, now, needs}
 use Rattle.lists.proofs.LengthLaws.{records-within, few-records}
 use Rattle.standard.specs.Sizes.{diffusionSize}
 use Rattle.diffusion.proofs.CountLaws.{list-refused, no-records, all-counted}

@@ -1,5 +1,4 @@
-use Prim.Native.Nat.{_<_}
-use borrow.Author.Needs.{needs}
+use Rattle.standard.proofs.Prelude.{_<_, needs}
 use Rattle.standard.specs.Diffusion.{flipped}
 use Rattle.diffusion.proofs.CountLaws.{one-bit}
 use Rattle.diffusion.proofs.flip.Statement.{statement}

@@ -1,6 +1,4 @@
-use Prim.Native.Nat.{_+_}
-use denote.Ref.{now}
-use borrow.Author.Needs.{needs}
+use Rattle.standard.proofs.Prelude.{_+_, now, needs}
 use Rattle.diffusion.proofs.CountLaws.{changed-is, lane-same}
 use Rattle.diffusion.proofs.four_changes.Statement.{statement}
 use Rattle.diffusion.proofs.four_changes.Tie as tie

@@ -1,10 +1,6 @@
 -- `edges::fill` is safe and ends.
 -- Assumes nothing.
-use mathlib.Core.Path.{_≡_}
-use Prim.Native.Nat.{_-_}
-use native.Mathlib.Omega.{arith}
-use lib.ListN.{length, length-set}
-use borrow.Author.Needs.{needs}
+use Rattle.standard.proofs.Prelude.{_≡_, _-_, arith, length, length-set, needs}
 use Rattle.edges.proofs.fill.Statement.{statement}
 use Rattle.edges.proofs.fill.Tie as tie
 

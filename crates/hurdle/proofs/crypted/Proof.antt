@@ -1,5 +1,4 @@
-use denote.Ref.{now}
-use borrow.Author.Needs.{needs}
+use Rattle.standard.proofs.Prelude.{now, needs}
 use Rattle.hurdle.specs.RoundSteps.{cryptCall}
 use Rattle.standard.proofs.BytesLaws.{failed, passed, both-spelled}
 use Rattle.hurdle.proofs.crypted.Statement.{statement}

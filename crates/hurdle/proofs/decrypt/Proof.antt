@@ -1,4 +1,4 @@
-use borrow.Author.Needs.{needs}
+use Rattle.standard.proofs.Prelude.{needs}
 use Rattle.hurdle.specs.RoundSteps.{cryptCall}
 use Rattle.standard.specs.Hurdle.{decrypt, decryptCall}
 use Rattle.hurdle.proofs.decrypt.Statement.{statement}

@@ -1,4 +1,4 @@
-use borrow.Author.Needs.{needs}
+use Rattle.standard.proofs.Prelude.{needs}
 use Rattle.standard.specs.Hurdle.{decrypt}
 use Rattle.hurdle.proofs.decrypt_block.Statement.{statement}
 use Rattle.hurdle.proofs.decrypt_block.Tie as tie

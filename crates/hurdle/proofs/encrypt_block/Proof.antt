@@ -1,4 +1,4 @@
-use borrow.Author.Needs.{needs}
+use Rattle.standard.proofs.Prelude.{needs}
 use Rattle.standard.specs.Hurdle.{encrypt}
 use Rattle.hurdle.proofs.encrypt_block.Statement.{statement}
 use Rattle.hurdle.proofs.encrypt_block.Tie as tie

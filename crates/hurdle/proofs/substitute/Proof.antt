@@ -1,4 +1,4 @@
-use borrow.Author.Needs.{needs}
+use Rattle.standard.proofs.Prelude.{needs}
 use Rattle.standard.specs.Hurdle.{S}
 use Rattle.hurdle.proofs.substitute.Statement.{statement}
 use Rattle.hurdle.proofs.substitute.Tie as tie

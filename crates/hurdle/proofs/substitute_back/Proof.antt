@@ -1,4 +1,4 @@
-use borrow.Author.Needs.{needs}
+use Rattle.standard.proofs.Prelude.{needs}
 use Rattle.standard.specs.Hurdle.{S⁻¹}
 use Rattle.hurdle.proofs.substitute_back.Statement.{statement}
 use Rattle.hurdle.proofs.substitute_back.Tie as tie

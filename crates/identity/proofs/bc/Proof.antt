@@ -1,4 +1,4 @@
-use borrow.Author.Needs.{needs}
+use Rattle.standard.proofs.Prelude.{needs}
 use Rattle.standard.specs.Identity.{bc}
 use Rattle.identity.proofs.bc.Statement.{statement}
 use Rattle.identity.proofs.bc.Tie as tie

@@ -1,4 +1,4 @@
-use borrow.Author.Needs.{needs}
+use Rattle.standard.proofs.Prelude.{needs}
 use Rattle.standard.specs.Identity.{decryptIdentity}
 use Rattle.identity.proofs.decrypt_identity.Statement.{statement}
 use Rattle.identity.proofs.decrypt_identity.Tie as tie

@@ -1,4 +1,4 @@
-use borrow.Author.Needs.{needs}
+use Rattle.standard.proofs.Prelude.{needs}
 use Rattle.standard.proofs.IdentityLaws.{mix-wraps}
 use Rattle.identity.proofs.mix.Statement.{statement}
 use Rattle.identity.proofs.mix.Tie as tie

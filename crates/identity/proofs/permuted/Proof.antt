@@ -1,4 +1,4 @@
-use borrow.Author.Needs.{needs}
+use Rattle.standard.proofs.Prelude.{needs}
 use Rattle.standard.specs.Identity.{P}
 use Rattle.identity.proofs.permuted.Statement.{statement}
 use Rattle.identity.proofs.permuted.Tie as tie

@@ -1,4 +1,4 @@
-use borrow.Author.Needs.{needs}
+use Rattle.standard.proofs.Prelude.{needs}
 use Rattle.standard.specs.Identity.{P⁻¹}
 use Rattle.identity.proofs.permuted_back.Statement.{statement}
 use Rattle.identity.proofs.permuted_back.Tie as tie

@@ -1,6 +1,4 @@
-use denote.Ref.{now}
-use borrow.Author.Needs.{needs}
-use borrow.Author.Tests.{eq-eqb, ne-eqb, lt-ltb, le-ltb}
+use Rattle.standard.proofs.Prelude.{now, needs, eq-eqb, ne-eqb, lt-ltb, le-ltb}
 use Rattle.standard.proofs.BytesLaws.{spelled}
 use Rattle.standard.specs.Identity.{ta61Call}
 use Rattle.identity.proofs.ta61.Statement.{statement}

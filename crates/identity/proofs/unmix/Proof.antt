@@ -1,4 +1,4 @@
-use borrow.Author.Needs.{needs}
+use Rattle.standard.proofs.Prelude.{needs}
 use Rattle.identity.proofs.unmix.Statement.{statement}
 use Rattle.identity.proofs.unmix.Tie as tie
 

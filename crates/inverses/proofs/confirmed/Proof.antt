@@ -1,4 +1,4 @@
-use borrow.Author.Needs.{needs}
+use Rattle.standard.proofs.Prelude.{needs}
 use Rattle.standard.proofs.BytesLaws.{failed, passed}
 use Rattle.inverses.proofs.confirmed.Statement.{statement}
 use Rattle.inverses.proofs.confirmed.Tie as tie

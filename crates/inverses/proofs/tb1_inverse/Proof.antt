@@ -1,9 +1,4 @@
-use mathlib.Core.Bool.{true}
-use mathlib.Core.Path.{_≡_}
-use native.Mathlib.Omega.{arith}
-use denote.Ref.{now}
-use borrow.Author.Needs.{needs}
-use borrow.Author.Tests.{eq-eqb, ne-eqb}
+use Rattle.standard.proofs.Prelude.{_≡_, true, arith, now, needs, eq-eqb, ne-eqb}
 use Rattle.mixing.proofs.FieldLaws.{wide-split}
 use Rattle.standard.proofs.BytesLaws.{failed, passed}
 use Rattle.standard.specs.Bytes.{part}

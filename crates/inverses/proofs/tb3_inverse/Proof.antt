@@ -1,8 +1,4 @@
-use mathlib.Core.Bool.{true, _&&_}
-use mathlib.Core.Path.{_≡_}
-use native.Mathlib.Omega.{arith}
-use denote.Ref.{now}
-use borrow.Author.Needs.{needs}
+use Rattle.standard.proofs.Prelude.{_≡_, true, _&&_, arith, now, needs}
 use Rattle.mixing.proofs.FieldLaws.{wide-split}
 use Rattle.standard.proofs.BytesLaws.{and-split, failed, passed}
 use Rattle.standard.specs.Bytes.{xors}

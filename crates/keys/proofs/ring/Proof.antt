@@ -1,8 +1,4 @@
-use mathlib.Core.Bool.{false}
-use mathlib.Core.Path.{_≡_}
-use denote.Ref.{now}
-use borrow.Author.Needs.{needs}
-use borrow.Author.Tests.{not-true, not-false}
+use Rattle.standard.proofs.Prelude.{_≡_, false, now, needs, not-true, not-false}
 use Rattle.standard.proofs.DerivationLaws.{ring-long}
 use Rattle.standard.specs.Derivation.{haveLengths, ringCall}
 use Rattle.keys.proofs.ring.Statement.{statement}

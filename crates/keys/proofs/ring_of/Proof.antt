@@ -1,8 +1,4 @@
-use mathlib.Core.Bool.{true, false, _&&_}
-use mathlib.Core.Path.{_≡_, sym, _∙_}
-use lib.Dec.{leb}
-use borrow.Author.Needs.{needs}
-use borrow.Author.Tests.{ne-eqb, not-true, not-false}
+use Rattle.standard.proofs.Prelude.{_≡_, sym, _∙_, true, false, _&&_, leb, needs, ne-eqb, not-true, not-false}
 use Rattle.standard.proofs.DerivationLaws.{masks-ones}
 use Rattle.standard.specs.Derivation.{ringOf}
 use Rattle.standard.specs.Refusals.{maskTests, first}

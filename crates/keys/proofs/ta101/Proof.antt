@@ -1,6 +1,4 @@
-use denote.Ref.{now}
-use borrow.Author.Needs.{needs}
-use borrow.Author.Tests.{lt-ltb, le-ltb}
+use Rattle.standard.proofs.Prelude.{now, needs, lt-ltb, le-ltb}
 use Rattle.standard.proofs.BytesLaws.{failed, passed, both-spelled}
 use Rattle.standard.specs.Derivation.{ta101Call}
 use Rattle.keys.proofs.ta101.Statement.{statement}

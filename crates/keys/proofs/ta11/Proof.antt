@@ -1,4 +1,4 @@
-use borrow.Author.Needs.{needs}
+use Rattle.standard.proofs.Prelude.{needs}
 use Rattle.standard.specs.Derivation.{ta11Call}
 use Rattle.standard.specs.Expansions.{exp2}
 use Rattle.keys.proofs.ta11.Statement.{statement}

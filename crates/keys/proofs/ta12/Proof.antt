@@ -1,7 +1,4 @@
-use mathlib.Core.Path.{_≡_, sym, _∙_}
-use denote.Ref.{now}
-use borrow.Author.Needs.{needs}
-use borrow.Author.Tests.{ne-eqb}
+use Rattle.standard.proofs.Prelude.{_≡_, sym, _∙_, now, needs, ne-eqb}
 use Rattle.standard.proofs.BytesLaws.{failed, passed, both-spelled}
 use Rattle.standard.proofs.DerivationLaws.{masks-ones}
 use Rattle.standard.specs.Derivation.{ta12Call}

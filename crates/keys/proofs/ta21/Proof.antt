@@ -1,4 +1,4 @@
-use borrow.Author.Needs.{needs}
+use Rattle.standard.proofs.Prelude.{needs}
 use Rattle.standard.specs.Derivation.{ta21Call}
 use Rattle.keys.proofs.ta21.Statement.{statement}
 use Rattle.keys.proofs.ta21.Tie as tie

@@ -1,4 +1,4 @@
-use borrow.Author.Needs.{needs}
+use Rattle.standard.proofs.Prelude.{needs}
 use Rattle.standard.specs.Derivation.{ta11Call, ta41Call}
 use Rattle.keys.proofs.ta41.Statement.{statement}
 use Rattle.keys.proofs.ta41.Tie as tie

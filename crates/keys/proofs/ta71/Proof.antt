@@ -1,4 +1,4 @@
-use borrow.Author.Needs.{needs}
+use Rattle.standard.proofs.Prelude.{needs}
 use Rattle.standard.proofs.BytesLaws.{failed, passed}
 use Rattle.standard.specs.Derivation.{ta71, ta71Key, ta71Call}
 use Rattle.keys.proofs.ta71.Statement.{statement}

@@ -1,8 +1,4 @@
-use mathlib.Core.Bool.{true, false, _&&_}
-use mathlib.Core.Path.{_≡_}
-use denote.Ref.{now}
-use borrow.Author.Needs.{needs}
-use borrow.Author.Tests.{not-true, not-false}
+use Rattle.standard.proofs.Prelude.{_≡_, true, false, _&&_, now, needs, not-true, not-false}
 use Rattle.standard.proofs.BytesLaws.{and-split, length-spelled}
 use Rattle.standard.specs.Refusals.{hasLength}
 use Rattle.keys.proofs.under_root.Statement.{statement}

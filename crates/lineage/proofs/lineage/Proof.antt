@@ -1,6 +1,4 @@
-use lib.ListN.{length}
-use denote.Ref.{now}
-use borrow.Author.Needs.{needs}
+use Rattle.standard.proofs.Prelude.{length, now, needs}
 use Rattle.lineage.proofs.SheetLaws.{lengths-refused, record-refused, all-written, room}
 use Rattle.lists.proofs.LengthLaws.{records-within}
 use Rattle.standard.specs.Sizes.{sheetSize}

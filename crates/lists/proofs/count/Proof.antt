@@ -1,5 +1,5 @@
 use native.Mathlib.Nat.{div-zero}
-use borrow.Author.Needs.{needs}
+use Rattle.standard.proofs.Prelude.{needs}
 use Rattle.lists.proofs.count.Statement.{statement}
 use Rattle.lists.proofs.count.Tie as tie
 

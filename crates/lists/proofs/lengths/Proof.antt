@@ -1,6 +1,4 @@
-use native.Mathlib.Omega.{arith}
-use borrow.Author.Needs.{needs}
-use borrow.Author.Tests.{le-leb, lt-leb}
+use Rattle.standard.proofs.Prelude.{arith, needs, le-leb, lt-leb}
 use Rattle.lists.proofs.LengthLaws.{records-within, whole, not-whole}
 use Rattle.lists.proofs.lengths.Statement.{statement}
 use Rattle.lists.proofs.lengths.Tie as tie

@@ -1,9 +1,5 @@
-use Prim.Native.Nat.{_*_, _/_, _≤_}
-use mathlib.Core.Path.{sym, _∙_}
+use Rattle.standard.proofs.Prelude.{sym, _∙_, _*_, _/_, _≤_, arith, needs, le-leb, lt-leb}
 use native.Mathlib.Nat.{mul-le-mul}
-use native.Mathlib.Omega.{arith}
-use borrow.Author.Needs.{needs}
-use borrow.Author.Tests.{le-leb, lt-leb}
 use Rattle.lists.proofs.LengthLaws.{few-records, output-last, output-tested}
 use Rattle.lists.proofs.lengths_and_output.Statement.{statement}
 use Rattle.lists.proofs.lengths_and_output.Tie as tie

@@ -1,5 +1,4 @@
-use native.Mathlib.Omega.{arith}
-use borrow.Author.Needs.{needs}
+use Rattle.standard.proofs.Prelude.{arith, needs}
 use Rattle.plain_listing.proofs.ListLaws.{key-short}
 use Rattle.plain_listing.proofs.back.Statement.{statement}
 use Rattle.plain_listing.proofs.back.Tie as tie

@@ -1,4 +1,4 @@
-use borrow.Author.Needs.{needs}
+use Rattle.standard.proofs.Prelude.{needs}
 use Rattle.plain_listing.proofs.ListLaws.{entries-short}
 use Rattle.standard.specs.Listing.{entriesLine}
 use Rattle.lines.proofs.LineLaws.{append, uncut}

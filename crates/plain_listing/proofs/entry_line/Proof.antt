@@ -1,9 +1,4 @@
-use mathlib.Core.List.{List}
-use Prim.Native.Nat.{ℕ}
-use native.Mathlib.Nat.{add-sub-cancel-left}
-use native.Mathlib.Omega.{arith}
-use denote.Ref.{now}
-use borrow.Author.Needs.{needs}
+use Rattle.standard.proofs.Prelude.{List, ℕ, add-sub-cancel-left, arith, now, needs}
 use Rattle.plain_listing.proofs.ListLaws.{key-short, entry-short}
 use Rattle.standard.proofs.BytesLaws.{part-lent}
 use Rattle.standard.specs.Books.{recordKind}

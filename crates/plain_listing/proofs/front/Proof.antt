@@ -1,4 +1,4 @@
-use borrow.Author.Needs.{needs}
+use Rattle.standard.proofs.Prelude.{needs}
 use Rattle.plain_listing.proofs.front.Statement.{statement}
 use Rattle.plain_listing.proofs.front.Tie as tie
 

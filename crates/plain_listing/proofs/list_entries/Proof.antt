@@ -1,10 +1,4 @@
-use mathlib.Core.List.{List}
-use mathlib.Core.Path.{_≡_, ap}
-use Prim.Native.Nat.{ℕ}
-use native.Mathlib.Omega.{arith}
-use lib.ListN.{length}
-use denote.Ref.{now}
-use borrow.Author.Needs.{needs}
+use Rattle.standard.proofs.Prelude.{_≡_, ap, List, ℕ, arith, length, now, needs}
 use Rattle.plain_listing.proofs.ListLaws.{last-short, lines-short, entries-put}
 use Rattle.standard.specs.Listing.{entryLines}
 use Rattle.lines.specs.Lines.{shown}

@@ -1,10 +1,4 @@
-use mathlib.Core.List.{List}
-use mathlib.Core.Path.{_≡_, sym, ap, _∙_}
-use Prim.Native.Nat.{ℕ, _≤_}
-use native.Mathlib.Omega.{arith}
-use lib.ListN.{length}
-use denote.Ref.{now}
-use borrow.Author.Needs.{needs}
+use Rattle.standard.proofs.Prelude.{_≡_, sym, ap, _∙_, List, ℕ, _≤_, arith, length, now, needs}
 use Rattle.plain_listing.proofs.ListLaws.{accepted-few, listed, listing-refused, listing-entries}
 use Rattle.standard.specs.Listing.{listingRoom}
 use Rattle.standard.specs.declared.BookAnswer.{BookAnswer}

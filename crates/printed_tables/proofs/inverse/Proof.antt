@@ -1,6 +1,4 @@
-use mathlib.Core.Path.{_≡_, refl}
-use Prim.Native.Nat.{_-_, _≤_, zero-le}
-use native.Mathlib.Omega.{arith}
+use Rattle.standard.proofs.Prelude.{_≡_, refl, _-_, _≤_, zero-le, arith}
 use Rattle.standard.proofs.HurdleLaws.{permuted}
 use Rattle.standard.proofs.TableLaws.{Placed, placed-none, placed-more, placed-all}
 use Rattle.standard.specs.Hurdle.{S}

@@ -1,6 +1,4 @@
-use mathlib.Core.Path.{_≡_, ap, _∙_}
-use denote.Ref.{now}
-use borrow.Author.Needs.{needs}
+use Rattle.standard.proofs.Prelude.{_≡_, ap, _∙_, now, needs}
 use Rattle.standard.specs.Tables.{tableLine}
 use Rattle.printed_tables.proofs.PrintLaws.{short, whole}
 use Rattle.printed_tables.proofs.print_tables.Statement.{statement}

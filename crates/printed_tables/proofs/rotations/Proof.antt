@@ -1,10 +1,5 @@
-use mathlib.Core.List.{List}
-use mathlib.Core.Path.{_≡_, refl, sym, ap, _∙_}
-use Prim.Native.Nat.{ℕ, suc, _+_, _-_, _%_, _<_, _≤_, zero-le}
-use native.Mathlib.Numerals.{add-one}
-use native.Mathlib.Omega.{arith}
-use lib.ListN.{length, take, length-set}
-use borrow.Author.Needs.{needs}
+use Rattle.standard.proofs.Prelude.{_≡_, refl, sym, ap, _∙_, List, ℕ, suc, _+_, _-_, _%_, _≤_, _<_, zero-le, add-one, arith, length, take, length-set}
+use Rattle.standard.proofs.Prelude.{needs}
 use Rattle.standard.proofs.FillLaws.{fill-next, filled}
 use Rattle.register.proofs.RegisterStateLaws.{rotation-most}
 use Rattle.standard.proofs.ScheduleLaws.{turn-next}

@@ -1,11 +1,4 @@
-use mathlib.Core.List.{List, _++_}
-use mathlib.Core.Path.{_≡_, ap, _∙_}
-use Prim.Native.Nat.{ℕ, _-_, _≤_, zero-le}
-use native.Mathlib.Omega.{arith}
-use lib.ListN.{length, take}
-use lib.Seq.{take-all}
-use denote.Ref.{now}
-use borrow.Author.Needs.{needs}
+use Rattle.standard.proofs.Prelude.{_≡_, ap, _∙_, List, _++_, ℕ, _-_, _≤_, zero-le, arith, length, take, take-all, now, needs}
 use Rattle.standard.specs.Bytes.{_!_}
 use Rattle.standard.specs.Tables.{spaced}
 use Rattle.standard.specs.Text.{ascii, hexByte}

@@ -1,8 +1,4 @@
-use mathlib.Core.Path.{_≡_}
-use native.Mathlib.Omega.{arith}
-use lib.ListN.{length, length-take}
-use denote.Ref.{now}
-use borrow.Author.Needs.{needs}
+use Rattle.standard.proofs.Prelude.{_≡_, arith, length, length-take, now, needs}
 use Rattle.standard.proofs.BytesLaws.{part-lent}
 use Rattle.printed_tables.proofs.PrintLaws.{line-shown}
 use Rattle.printed_tables.proofs.table_line.Statement.{statement}

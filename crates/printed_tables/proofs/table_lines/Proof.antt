@@ -1,10 +1,4 @@
-use mathlib.Core.List.{List}
-use mathlib.Core.Path.{_≡_, ap, _∙_}
-use Prim.Native.Nat.{ℕ, _+_, _*_, _-_, _≤_, zero-le}
-use native.Mathlib.Omega.{arith}
-use lib.ListN.{length, length-take, length-drop}
-use denote.Ref.{now}
-use borrow.Author.Needs.{needs}
+use Rattle.standard.proofs.Prelude.{_≡_, ap, _∙_, List, ℕ, _+_, _-_, _*_, _≤_, zero-le, arith, length, length-take, length-drop, now, needs}
 use Rattle.standard.proofs.BytesLaws.{lent-part}
 use Rattle.standard.proofs.TableLaws.{line-length}
 use Rattle.standard.specs.Lists.{recordAt}

@@ -1,8 +1,4 @@
-use mathlib.Core.Bool.{true≢false}
-use mathlib.Core.Path.{sym}
-use native.Mathlib.Omega.{arith}
-use lib.ListN.{length-take}
-use borrow.Author.Needs.{needs}
+use Rattle.standard.proofs.Prelude.{sym, true≢false, arith, length-take, needs}
 use Rattle.programs.proofs.put.Statement.{statement}
 use Rattle.programs.proofs.put.Tie as tie
 

@@ -1,11 +1,6 @@
 -- `programs::read_all` meets its contract: each turn reads one byte at least.
 -- Assumes nothing.
-use mathlib.Core.Path.{_≡_, refl}
-use Prim.Native.Nat.{_-_, _≤_, zero-le}
-use native.Mathlib.Nat.{add-zero}
-use native.Mathlib.Omega.{arith}
-use lib.ListN.{length, drop}
-use borrow.Author.Needs.{needs}
+use Rattle.standard.proofs.Prelude.{_≡_, refl, _-_, _≤_, zero-le, add-zero, arith, length, drop, needs}
 use Rattle.programs.proofs.ReadLaws.{failed, whole, further}
 use Rattle.programs.proofs.read_all.Statement.{statement}
 use Rattle.programs.proofs.read_all.Tie as tie

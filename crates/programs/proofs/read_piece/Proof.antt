@@ -1,8 +1,4 @@
-use Prim.Native.Nat.{_≤_}
-use native.Mathlib.Omega.{arith}
-use lib.ListN.{length, take, length-append, length-take}
-use denote.Ref.{now}
-use borrow.Author.Needs.{needs}
+use Rattle.standard.proofs.Prelude.{_≤_, arith, length, take, length-append, length-take, now, needs}
 use Rattle.programs.proofs.ReadLaws.{copied}
 use Rattle.programs.proofs.read_piece.Statement.{statement}
 use Rattle.programs.proofs.read_piece.Tie as tie

@@ -1,6 +1,4 @@
-use mathlib.Core.Path.{_≡_, refl}
-use Prim.Native.Nat.{zero-le}
-use borrow.Author.Needs.{needs}
+use Rattle.standard.proofs.Prelude.{_≡_, refl, zero-le, needs}
 use Rattle.programs.proofs.read_ring.Statement.{statement}
 use Rattle.programs.proofs.read_ring.Tie as tie
 

@@ -1,7 +1,4 @@
-use mathlib.Core.Bool.{true≢false}
-use mathlib.Core.Path.{sym}
-use native.Mathlib.Omega.{arith}
-use borrow.Author.Needs.{needs}
+use Rattle.standard.proofs.Prelude.{sym, true≢false, arith, needs}
 use Rattle.programs.proofs.read_some.Statement.{statement}
 use Rattle.programs.proofs.read_some.Tie as tie
 

@@ -1,9 +1,5 @@
-use mathlib.Core.List.{List}
-use Prim.Native.Nat.{ℕ, _≤_}
-use native.Mathlib.Omega.{arith}
-use lib.ListN.{length, replicate, length-append, length-take}
-use denote.Ref.{now}
-use borrow.Author.Needs.{needs}
+use Rattle.standard.proofs.Prelude.{List, ℕ, _≤_, arith, length, length-append, length-take, now, needs}
+use lib.ListN.{replicate}
 use Rattle.programs.proofs.ReadLaws.{copied}
 use Rattle.programs.proofs.read_whole.Statement.{statement}
 use Rattle.programs.proofs.read_whole.Tie as tie

@@ -1,4 +1,4 @@
-use mathlib.Core.Path.{refl}
+use Rattle.standard.proofs.Prelude.{refl}
 use Rattle.programs.proofs.ring_input.Statement.{statement}
 use Rattle.programs.proofs.ring_input.Tie as tie
 

@@ -1,5 +1,4 @@
-use mathlib.Core.Path.{_∙_}
-use borrow.Author.Needs.{needs}
+use Rattle.standard.proofs.Prelude.{_∙_, needs}
 use Rattle.records.proofs.body_fault.Statement.{statement}
 use Rattle.records.proofs.body_fault.Tie as tie
 

@@ -1,5 +1,4 @@
-use borrow.Author.Needs.{needs}
-use borrow.Author.Tests.{eq-eqb, ne-eqb}
+use Rattle.standard.proofs.Prelude.{needs, eq-eqb, ne-eqb}
 use Rattle.records.proofs.fault31.Statement.{statement}
 use Rattle.records.proofs.fault31.Tie as tie
 

@@ -1,5 +1,4 @@
-use borrow.Author.Needs.{needs}
-use borrow.Author.Tests.{eq-eqb, ne-eqb, le-leb, lt-leb}
+use Rattle.standard.proofs.Prelude.{needs, eq-eqb, ne-eqb, le-leb, lt-leb}
 use Rattle.records.proofs.fault51.Statement.{statement}
 use Rattle.records.proofs.fault51.Tie as tie
 

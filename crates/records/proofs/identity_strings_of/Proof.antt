@@ -1,4 +1,4 @@
-use borrow.Author.Needs.{needs}
+use Rattle.standard.proofs.Prelude.{needs}
 use Rattle.records.proofs.identity_strings_of.Statement.{statement}
 use Rattle.records.proofs.identity_strings_of.Tie as tie
 

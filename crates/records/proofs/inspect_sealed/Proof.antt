@@ -1,6 +1,4 @@
-use mathlib.Core.Path.{_∙_}
-use denote.Ref.{now}
-use borrow.Author.Needs.{needs}
+use Rattle.standard.proofs.Prelude.{_∙_, now, needs}
 use Rattle.records.proofs.RecordFormLaws.{named-by, open-unknown, open-set, open-clear, inspection-unknown, inspection-known}
 use Rattle.records.proofs.inspect_sealed.Statement.{statement}
 use Rattle.records.proofs.inspect_sealed.Tie as tie

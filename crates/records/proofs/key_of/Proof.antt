@@ -1,5 +1,4 @@
-use denote.Ref.{now}
-use borrow.Author.Needs.{needs}
+use Rattle.standard.proofs.Prelude.{now, needs}
 use Rattle.records.proofs.RecordFormLaws.{key-taken}
 use Rattle.records.proofs.key_of.Statement.{statement}
 use Rattle.records.proofs.key_of.Tie as tie

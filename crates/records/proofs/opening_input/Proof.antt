@@ -1,5 +1,4 @@
-use mathlib.Core.Path.{ap, _∙_}
-use borrow.Author.Needs.{needs}
+use Rattle.standard.proofs.Prelude.{ap, _∙_, needs}
 use Rattle.texts.specs.declared.text_core.CoreInput.{CoreInput}
 use Rattle.records.proofs.opening_input.Statement.{statement}
 use Rattle.records.proofs.opening_input.Tie as tie

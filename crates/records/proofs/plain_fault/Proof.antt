@@ -1,6 +1,4 @@
-use mathlib.Core.Path.{_∙_}
-use denote.Ref.{now}
-use borrow.Author.Needs.{needs}
+use Rattle.standard.proofs.Prelude.{_∙_, now, needs}
 use Rattle.records.proofs.RecordFormLaws.{named-by, plain-unknown, plain-known}
 use Rattle.records.proofs.plain_fault.Statement.{statement}
 use Rattle.records.proofs.plain_fault.Tie as tie

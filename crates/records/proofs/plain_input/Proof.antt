@@ -1,5 +1,4 @@
-use denote.Ref.{now}
-use borrow.Author.Needs.{needs}
+use Rattle.standard.proofs.Prelude.{now, needs}
 use Rattle.records.proofs.RecordFormLaws.{input-taken}
 use Rattle.records.proofs.plain_input.Statement.{statement}
 use Rattle.records.proofs.plain_input.Tie as tie

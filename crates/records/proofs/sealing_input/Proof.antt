@@ -1,4 +1,4 @@
-use borrow.Author.Needs.{needs}
+use Rattle.standard.proofs.Prelude.{needs}
 use Rattle.records.proofs.sealing_input.Statement.{statement}
 use Rattle.records.proofs.sealing_input.Tie as tie
 

@@ -1,6 +1,4 @@
-use mathlib.Core.Path.{_∙_}
-use denote.Ref.{now}
-use borrow.Author.Needs.{needs}
+use Rattle.standard.proofs.Prelude.{_∙_, now, needs}
 use Rattle.records.proofs.RecordFormLaws.{opened-put}
 use Rattle.records.proofs.write_opened.Statement.{statement}
 use Rattle.records.proofs.write_opened.Tie as tie

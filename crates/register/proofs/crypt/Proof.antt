@@ -1,4 +1,4 @@
-use borrow.Author.Needs.{needs}
+use Rattle.standard.proofs.Prelude.{needs}
 use Rattle.register.proofs.RegisterStateLaws.{encrypted, decrypted}
 use Rattle.register.proofs.crypt.Statement.{statement}
 use Rattle.register.proofs.crypt.Tie as tie

@@ -1,4 +1,4 @@
-use borrow.Author.Needs.{needs}
+use Rattle.standard.proofs.Prelude.{needs}
 use Rattle.register.specs.RegisterStates.{cryptCall}
 use Rattle.standard.specs.Hurdle.{encryptCall}
 use Rattle.register.proofs.encrypt_register.Statement.{statement}

@@ -1,8 +1,4 @@
-use Prim.Native.Nat.{_%_}
-use native.Mathlib.Omega.{arith}
-use denote.Ref.{now}
-use borrow.Author.Needs.{needs}
-use borrow.Author.Tests.{eq-eqb, ne-eqb}
+use Rattle.standard.proofs.Prelude.{_%_, arith, now, needs, eq-eqb, ne-eqb}
 use Rattle.standard.proofs.BytesLaws.{spelled}
 use Rattle.standard.proofs.RegisterLaws.{begins-anew}
 use Rattle.standard.specs.Register.{registerCall}

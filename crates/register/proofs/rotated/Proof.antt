@@ -1,7 +1,4 @@
-use mathlib.Core.Path.{_≡_, refl, _∙_}
-use Prim.Native.Nat.{_+_, _-_, _%_, _≤_, zero-le}
-use native.Mathlib.Omega.{arith}
-use lib.ListN.{length, take, length-set}
+use Rattle.standard.proofs.Prelude.{_≡_, refl, _∙_, _+_, _-_, _%_, _≤_, zero-le, arith, length, take, length-set}
 use Rattle.standard.proofs.FillLaws.{fill-next, filled}
 use Rattle.standard.specs.Bytes.{_!_, table}
 use Rattle.register.proofs.rotated.Statement.{statement}

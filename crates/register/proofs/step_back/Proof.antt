@@ -1,4 +1,4 @@
-use borrow.Author.Needs.{needs}
+use Rattle.standard.proofs.Prelude.{needs}
 use Rattle.standard.specs.Hurdle.{D}
 use Rattle.register.proofs.step_back.Statement.{statement}
 use Rattle.register.proofs.step_back.Tie as tie

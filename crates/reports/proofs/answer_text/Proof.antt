@@ -1,4 +1,4 @@
-use borrow.Author.Needs.{needs}
+use Rattle.standard.proofs.Prelude.{needs}
 use Rattle.reports.proofs.ReportLaws.{answer-refused, answer-wrote}
 use Rattle.reports.proofs.answer_text.Statement.{statement}
 use Rattle.reports.proofs.answer_text.Tie as tie

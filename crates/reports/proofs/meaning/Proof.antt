@@ -1,5 +1,4 @@
-use mathlib.Core.Path.{refl}
-use borrow.Author.Needs.{needs}
+use Rattle.standard.proofs.Prelude.{refl, needs}
 use Rattle.reports.proofs.ReportLaws.{said, unsaid}
 use Rattle.reports.proofs.meaning.Statement.{statement}
 use Rattle.reports.proofs.meaning.Tie as tie

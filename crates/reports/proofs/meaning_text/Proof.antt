@@ -1,5 +1,4 @@
-use mathlib.Core.Path.{refl}
-use borrow.Author.Needs.{needs}
+use Rattle.standard.proofs.Prelude.{refl, needs}
 use Rattle.standard.specs.Programs.{meaningText}
 use Rattle.lines.proofs.LineLaws.{append}
 use Rattle.reports.proofs.meaning_text.Statement.{statement}

@@ -1,4 +1,4 @@
-use borrow.Author.Needs.{needs}
+use Rattle.standard.proofs.Prelude.{needs}
 use Rattle.lines.proofs.LineLaws.{append}
 use Rattle.reports.proofs.refused_at.Statement.{statement}
 use Rattle.reports.proofs.refused_at.Tie as tie

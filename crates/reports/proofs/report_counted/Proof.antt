@@ -1,4 +1,4 @@
-use borrow.Author.Needs.{needs}
+use Rattle.standard.proofs.Prelude.{needs}
 use Rattle.reports.proofs.report_counted.Statement.{statement}
 use Rattle.reports.proofs.report_counted.Tie as tie
 

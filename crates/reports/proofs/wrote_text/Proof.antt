@@ -1,4 +1,4 @@
-use borrow.Author.Needs.{needs}
+use Rattle.standard.proofs.Prelude.{needs}
 use Rattle.standard.specs.Programs.{wroteText}
 use Rattle.lines.proofs.LineLaws.{append}
 use Rattle.reports.proofs.wrote_text.Statement.{statement}

@@ -1,4 +1,4 @@
-use borrow.Author.Needs.{needs}
+use Rattle.standard.proofs.Prelude.{needs}
 use Rattle.seals.proofs.UnsealedBodyLaws.{key16-part, opened-part}
 use Rattle.seals.proofs.open16.Statement.{statement}
 use Rattle.seals.proofs.open16.Tie as tie

@@ -1,5 +1,4 @@
-use borrow.Author.Needs.{needs}
-use borrow.Author.Tests.{not-true, not-false}
+use Rattle.standard.proofs.Prelude.{needs, not-true, not-false}
 use Rattle.seals.specs.UnsealedBodies.{unsealedBody}
 use Rattle.seals.proofs.open_if.Statement.{statement}
 use Rattle.seals.proofs.open_if.Tie as tie

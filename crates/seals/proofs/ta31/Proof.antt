@@ -1,4 +1,4 @@
-use borrow.Author.Needs.{needs}
+use Rattle.standard.proofs.Prelude.{needs}
 use Rattle.standard.specs.Seals.{key10, seal, ta31Call}
 use Rattle.seals.proofs.ta31.Statement.{statement}
 use Rattle.seals.proofs.ta31.Tie as tie

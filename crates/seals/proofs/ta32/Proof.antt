@@ -1,4 +1,4 @@
-use borrow.Author.Needs.{needs}
+use Rattle.standard.proofs.Prelude.{needs}
 use Rattle.seals.proofs.UnsealedBodyLaws.{key10-part, opened-part, key-out}
 use Rattle.standard.specs.Seals.{form31, unseal, fails, ta32Call}
 use Rattle.seals.proofs.ta32.Statement.{statement}

@@ -1,5 +1,4 @@
-use borrow.Author.Needs.{needs}
-use borrow.Author.Tests.{lt-leb, le-leb}
+use Rattle.standard.proofs.Prelude.{needs, le-leb, lt-leb}
 use Rattle.standard.proofs.BytesLaws.{failed, passed}
 use Rattle.standard.specs.Seals.{key16, seal, ta51Call}
 use Rattle.seals.proofs.ta51.Statement.{statement}

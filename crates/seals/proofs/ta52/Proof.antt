@@ -1,5 +1,4 @@
-use mathlib.Core.Path.{refl}
-use borrow.Author.Needs.{needs}
+use Rattle.standard.proofs.Prelude.{refl, needs}
 use Rattle.seals.proofs.UnsealedBodyLaws.{number-out}
 use Rattle.standard.specs.Bytes.{_!_}
 use Rattle.standard.specs.Seals.{form51, unseal, fails, ta52Call}

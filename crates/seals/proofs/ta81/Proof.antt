@@ -1,5 +1,4 @@
-use native.Mathlib.Nat.{div-one}
-use borrow.Author.Needs.{needs}
+use Rattle.standard.proofs.Prelude.{div-one, needs}
 use Rattle.standard.specs.Seals.{key16, seal, ta81Call}
 use Rattle.seals.proofs.ta81.Statement.{statement}
 use Rattle.seals.proofs.ta81.Tie as tie

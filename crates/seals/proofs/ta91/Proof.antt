@@ -1,4 +1,4 @@
-use borrow.Author.Needs.{needs}
+use Rattle.standard.proofs.Prelude.{needs}
 use Rattle.standard.specs.Seals.{key16, seal, ta91Call}
 use Rattle.seals.proofs.ta91.Statement.{statement}
 use Rattle.seals.proofs.ta91.Tie as tie

@@ -1,4 +1,4 @@
-use borrow.Author.Needs.{needs}
+use Rattle.standard.proofs.Prelude.{needs}
 use Rattle.seals.proofs.UnsealedBodyLaws.{group-key-out}
 use Rattle.standard.specs.Seals.{form81, unseal, fails, ta92Call}
 use Rattle.seals.proofs.ta92.Statement.{statement}

@@ -1,6 +1,4 @@
-use borrow.Author.Needs.{needs}
-use denote.Ref.{now}
-use borrow.Author.Tests.{ne-eqb}
+use Rattle.standard.proofs.Prelude.{now, needs, ne-eqb}
 use Rattle.standard.specs.Programs.{sittingRing}
 use Rattle.sitting.proofs.SittingLaws.{sitting-recipe}
 use Rattle.sitting.proofs.sitting_ring.Statement.{statement}

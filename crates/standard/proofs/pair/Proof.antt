@@ -1,5 +1,4 @@
-use mathlib.Core.Path.{refl}
-use borrow.Author.Needs.{needs}
+use Rattle.standard.proofs.Prelude.{refl, needs}
 use Rattle.standard.proofs.BytesLaws.{pair-bytes}
 use Rattle.standard.proofs.pair.Statement.{statement}
 use Rattle.standard.proofs.pair.Tie as tie

@@ -1,5 +1,4 @@
-use denote.Ref.{now}
-use borrow.Author.Needs.{needs}
+use Rattle.standard.proofs.Prelude.{now, needs}
 use Rattle.arrays.proofs.CopyLaws.{joined}
 use Rattle.arrays.proofs.joins.join.Statement.{statement}
 use Rattle.arrays.proofs.joins.join.Tie as tie

@@ -1,8 +1,5 @@
-use mathlib.Core.Path.{sym}
-use native.Mathlib.Omega.{arith}
+use Rattle.standard.proofs.Prelude.{sym, arith, now, needs}
 use lib.ListN.{List·getD-eq-default}
-use denote.Ref.{now}
-use borrow.Author.Needs.{needs}
 use Rattle.arrays.proofs.parts.byte_at.Statement.{statement}
 use Rattle.arrays.proofs.parts.byte_at.Tie as tie
 

@@ -1,9 +1,4 @@
-use mathlib.Core.List.{List, _++_}
-use mathlib.Core.Path.{_≡_, refl, sym, ap, _∙_}
-use Prim.Native.Nat.{ℕ, _-_, _≤_, zero-le}
-use native.Mathlib.Omega.{arith}
-use lib.ListN.{length, take, drop, set, length-set}
-use denote.Ref.{now}
+use Rattle.standard.proofs.Prelude.{_≡_, refl, sym, ap, _∙_, List, _++_, ℕ, _-_, _≤_, zero-le, arith, length, take, drop, set, length-set, now}
 use Rattle.arrays.proofs.CopyLaws.{copy-next, copied}
 use Rattle.arrays.specs.Least.{Least}
 use Rattle.standard.specs.Bytes.{_!_}

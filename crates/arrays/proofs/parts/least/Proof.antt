@@ -1,6 +1,4 @@
-use mathlib.Core.Logic.{inl, inr}
-use mathlib.Core.Path.{refl}
-use borrow.Author.Needs.{needs}
+use Rattle.standard.proofs.Prelude.{refl, inl, inr, needs}
 use Rattle.arrays.proofs.parts.least.Statement.{statement}
 use Rattle.arrays.proofs.parts.least.Tie as tie
 

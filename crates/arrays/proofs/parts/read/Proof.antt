@@ -1,8 +1,4 @@
-use mathlib.Core.Path.{_∙_}
-use native.Mathlib.Omega.{arith}
-use lib.ListN.{length}
-use denote.Ref.{now}
-use borrow.Author.Needs.{needs}
+use Rattle.standard.proofs.Prelude.{_∙_, arith, length, now, needs}
 use Rattle.arrays.proofs.CopyLaws.{read-zeros, zeros-past}
 use Rattle.arrays.proofs.parts.read.Statement.{statement}
 use Rattle.arrays.proofs.parts.read.Tie as tie

@@ -1,5 +1,4 @@
-use native.Mathlib.Nat.{div-one}
-use borrow.Author.Needs.{needs}
+use Rattle.standard.proofs.Prelude.{div-one, needs}
 use Rattle.arrays.proofs.words.bytes3.Statement.{statement}
 use Rattle.arrays.proofs.words.bytes3.Tie as tie
 

@@ -1,5 +1,4 @@
-use mathlib.Core.Path.{refl}
-use borrow.Author.Needs.{needs}
+use Rattle.standard.proofs.Prelude.{refl, needs}
 use Rattle.arrays.proofs.WordLaws.{word-bytes}
 use Rattle.arrays.proofs.words.word.Statement.{statement}
 use Rattle.arrays.proofs.words.word.Tie as tie

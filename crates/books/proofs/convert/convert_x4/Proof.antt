@@ -1,9 +1,4 @@
-use mathlib.Core.List.{List}
-use mathlib.Core.Path.{ap, _∙_}
-use Prim.Native.Nat.{ℕ, _+_}
-use native.Mathlib.Omega.{arith}
-use denote.Ref.{now}
-use borrow.Author.Needs.{needs}
+use Rattle.standard.proofs.Prelude.{ap, _∙_, List, ℕ, _+_, arith, now, needs}
 use Rattle.books.proofs.DirectionLaws.{cores-by}
 use Rattle.books.specs.BothDirections.{sizeOf, outputSizeOf, madeOf}
 use Rattle.cores.specs.declared.CoreOutput15.{CoreOutput15}

@@ -1,4 +1,4 @@
-use borrow.Author.Needs.{needs}
+use Rattle.standard.proofs.Prelude.{needs}
 use Rattle.books.proofs.DirectionLaws.{same-input}
 use Rattle.books.proofs.convert.core_input.Statement.{statement}
 use Rattle.books.proofs.convert.core_input.Tie as tie

@@ -1,5 +1,4 @@
-use native.Mathlib.Omega.{arith}
-use borrow.Author.Needs.{needs}
+use Rattle.standard.proofs.Prelude.{arith, needs}
 use Rattle.books.proofs.DirectionLaws.{places-fit}
 use Rattle.books.proofs.convert.core_inputs_at.Statement.{statement}
 use Rattle.books.proofs.convert.core_inputs_at.Tie as tie

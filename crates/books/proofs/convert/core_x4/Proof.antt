@@ -1,4 +1,4 @@
-use borrow.Author.Needs.{needs}
+use Rattle.standard.proofs.Prelude.{needs}
 use Rattle.books.proofs.convert.core_x4.Statement.{statement}
 use Rattle.books.proofs.convert.core_x4.Tie as tie
 

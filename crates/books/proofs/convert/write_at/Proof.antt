@@ -1,9 +1,4 @@
-use mathlib.Core.List.{List}
-use mathlib.Core.Path.{sym, ap₂, _∙_}
-use Prim.Native.Nat.{ℕ}
-use native.Mathlib.Omega.{arith}
-use denote.Ref.{now}
-use borrow.Author.Needs.{needs}
+use Rattle.standard.proofs.Prelude.{sym, ap₂, _∙_, List, ℕ, arith, now, needs}
 use Rattle.books.proofs.DirectionLaws.{fits, lent-by, made-length}
 use Rattle.books.specs.BothDirections.{madeOf}
 use Rattle.lists.proofs.WalkLaws.{replaced-lent}

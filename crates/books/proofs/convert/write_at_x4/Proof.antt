@@ -1,6 +1,4 @@
-use Prim.Native.Nat.{_+_}
-use native.Mathlib.Omega.{arith}
-use borrow.Author.Needs.{needs}
+use Rattle.standard.proofs.Prelude.{_+_, arith, needs}
 use Rattle.books.proofs.DirectionLaws.{both-ends, places-fit}
 use Rattle.books.proofs.convert.write_at_x4.Statement.{statement}
 use Rattle.books.proofs.convert.write_at_x4.Tie as tie

@@ -1,4 +1,4 @@
-use borrow.Author.Needs.{needs}
+use Rattle.standard.proofs.Prelude.{needs}
 use Rattle.books.proofs.convert.write_record.Statement.{statement}
 use Rattle.books.proofs.convert.write_record.Tie as tie
 

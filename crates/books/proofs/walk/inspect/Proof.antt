@@ -1,5 +1,4 @@
-use mathlib.Core.Path.{refl}
-use borrow.Author.Needs.{needs}
+use Rattle.standard.proofs.Prelude.{refl, needs}
 use Rattle.books.proofs.walk.inspect.Statement.{statement}
 use Rattle.books.proofs.walk.inspect.Tie as tie
 

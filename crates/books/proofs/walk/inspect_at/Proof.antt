@@ -1,7 +1,4 @@
-use mathlib.Core.Path.{ap, _∙_}
-use native.Mathlib.Omega.{arith}
-use denote.Ref.{now}
-use borrow.Author.Needs.{needs}
+use Rattle.standard.proofs.Prelude.{ap, _∙_, arith, now, needs}
 use Rattle.books.proofs.DirectionLaws.{fits, lent-by}
 use Rattle.books.specs.BothDirections.{faultOf, inspectionOf}
 use Rattle.books.proofs.walk.inspect_at.Statement.{statement}

@@ -1,11 +1,6 @@
 -- The records passed have no fault, and the runs are those of the looks at them.
 -- Assumes nothing.
-use mathlib.Core.Path.{_≡_, refl, sym, ap, ap₂, _∙_}
-use Prim.Native.Nat.{ℕ, _+_, _-_, _≤_, zero-le}
-use native.Mathlib.Numerals.{add-one}
-use native.Mathlib.Omega.{arith}
-use denote.Ref.{now}
-use borrow.Author.Needs.{needs}
+use Rattle.standard.proofs.Prelude.{_≡_, refl, sym, ap, ap₂, _∙_, ℕ, _+_, _-_, _≤_, zero-le, add-one, arith, now, needs}
 use Rattle.lists.proofs.WalkLaws.{ends, clean-none, clean-more, stopped-at, stopped-not}
 use Rattle.lists.specs.Walks.{Clean}
 use Rattle.standard.proofs.AnswerLaws.{pass-more, pass-stopped}

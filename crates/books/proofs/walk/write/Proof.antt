@@ -1,12 +1,4 @@
-use mathlib.Core.List.{List, _++_}
-use mathlib.Core.Path.{_≡_, refl, ap, _∙_}
-use Prim.Native.Nat.{ℕ, _*_}
-use native.Mathlib.Nat.{mul-zero}
-use native.Mathlib.Omega.{arith}
-use lib.ListN.{drop}
-use denote.Ref.{now}
-use borrow.Author.Needs.{needs}
-use borrow.Author.Tests.{ne-eqb}
+use Rattle.standard.proofs.Prelude.{_≡_, refl, ap, _∙_, List, _++_, ℕ, _*_, mul-zero, arith, drop, now, needs, ne-eqb}
 use Rattle.books.proofs.DirectionLaws.{converted-is, runs-fit}
 use Rattle.books.specs.BothDirections.{sizeOf, outputSizeOf, convertOf}
 use Rattle.identity.specs.declared.IdentityStrings.{IdentityStrings}

@@ -1,10 +1,6 @@
 -- The first i parts of the output are the first i records, converted.
 -- Assumes nothing.
-use mathlib.Core.List.{List}
-use mathlib.Core.Path.{_≡_, refl}
-use Prim.Native.Nat.{ℕ, _+_, _*_, _-_, _<_, _≤_, zero-le}
-use native.Mathlib.Omega.{arith}
-use denote.Ref.{now}
+use Rattle.standard.proofs.Prelude.{_≡_, refl, List, ℕ, _+_, _-_, _*_, _≤_, _<_, zero-le, arith, now}
 use Rattle.lists.proofs.WalkLaws.{end-fits, first-fit}
 use Rattle.books.proofs.DirectionLaws.{runs-fit, Converted, converted-none, converted-one, converted-x4}
 use Rattle.books.specs.BothDirections.{sizeOf, outputSizeOf}

@@ -1,9 +1,4 @@
-use mathlib.Core.Path.{_≡_, refl, _∙_}
-use Prim.Native.Nat.{_+_, _-_, _*_, _≤_, zero-le}
-use native.Mathlib.Nat.{add-zero}
-use native.Mathlib.Omega.{arith}
-use lib.ListN.{length, take, length-set}
-use borrow.Author.Needs.{needs}
+use Rattle.standard.proofs.Prelude.{_≡_, refl, _∙_, _+_, _-_, _*_, _≤_, zero-le, add-zero, arith, length, take, length-set, needs}
 use Rattle.hurdle.proofs.ScheduleLaws.{rotations, masks, rotation, made, made-at, all-made}
 use Rattle.standard.proofs.FillLaws.{fill-next, filled}
 use Rattle.standard.specs.Bytes.{_!_, table}

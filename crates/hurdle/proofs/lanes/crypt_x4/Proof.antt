@@ -1,6 +1,4 @@
-use mathlib.Core.Path.{_∙_}
-use denote.Ref.{now}
-use borrow.Author.Needs.{needs}
+use Rattle.standard.proofs.Prelude.{_∙_, now, needs}
 use Rattle.hurdle.proofs.LaneLaws.{crypted-x4}
 use Rattle.hurdle.specs.Lanes.{byLane}
 use Rattle.hurdle.proofs.lanes.crypt_x4.Statement.{statement}

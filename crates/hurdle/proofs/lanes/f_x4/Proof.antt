@@ -1,7 +1,4 @@
-use mathlib.Core.List.{List}
-use Prim.Native.Nat.{ℕ}
-use denote.Ref.{now}
-use borrow.Author.Needs.{needs}
+use Rattle.standard.proofs.Prelude.{List, ℕ, now, needs}
 use Rattle.hurdle.proofs.LaneLaws.{f-lanes}
 use Rattle.hurdle.specs.Lanes.{byLane}
 use Rattle.hurdle.specs.RoundSteps.{bytes4, halvesAt}

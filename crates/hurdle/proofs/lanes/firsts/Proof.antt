@@ -1,4 +1,4 @@
-use borrow.Author.Needs.{needs}
+use Rattle.standard.proofs.Prelude.{needs}
 use Rattle.hurdle.proofs.lanes.firsts.Statement.{statement}
 use Rattle.hurdle.proofs.lanes.firsts.Tie as tie
 

@@ -1,4 +1,4 @@
-use borrow.Author.Needs.{needs}
+use Rattle.standard.proofs.Prelude.{needs}
 use Rattle.hurdle.proofs.lanes.thirds.Statement.{statement}
 use Rattle.hurdle.proofs.lanes.thirds.Tie as tie
 

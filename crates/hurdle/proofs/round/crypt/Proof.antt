@@ -1,6 +1,4 @@
-use mathlib.Core.Path.{_∙_}
-use denote.Ref.{now}
-use borrow.Author.Needs.{needs}
+use Rattle.standard.proofs.Prelude.{_∙_, now, needs}
 use Rattle.hurdle.proofs.RoundLaws.{crypted}
 use Rattle.hurdle.proofs.round.crypt.Statement.{statement}
 use Rattle.hurdle.proofs.round.crypt.Tie as tie

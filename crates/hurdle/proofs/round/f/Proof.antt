@@ -1,4 +1,4 @@
-use borrow.Author.Needs.{needs}
+use Rattle.standard.proofs.Prelude.{needs}
 use Rattle.hurdle.specs.RoundSteps.{fOver}
 use Rattle.hurdle.proofs.round.f.Statement.{statement}
 use Rattle.hurdle.proofs.round.f.Tie as tie

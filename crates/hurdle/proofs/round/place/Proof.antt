@@ -1,5 +1,4 @@
-use native.Mathlib.Omega.{arith}
-use borrow.Author.Needs.{needs}
+use Rattle.standard.proofs.Prelude.{arith, needs}
 use Rattle.hurdle.proofs.round.place.Statement.{statement}
 use Rattle.hurdle.proofs.round.place.Tie as tie
 

@@ -1,7 +1,4 @@
-use mathlib.Core.Path.{_≡_, refl}
-use Prim.Native.Nat.{_-_, _≤_, zero-le}
-use native.Mathlib.Omega.{arith}
-use denote.Ref.{now}
+use Rattle.standard.proofs.Prelude.{_≡_, refl, _-_, _≤_, zero-le, arith, now}
 use Rattle.hurdle.proofs.RoundLaws.{rounds-more}
 use Rattle.hurdle.specs.RoundSteps.{roundsOver, spreads}
 use Rattle.standard.specs.Bytes.{bit}

@@ -1,5 +1,4 @@
-use native.Mathlib.Nat.{add-zero}
-use borrow.Author.Needs.{needs}
+use Rattle.standard.proofs.Prelude.{add-zero, needs}
 use Rattle.hurdle.specs.RoundSteps.{linksOver}
 use Rattle.hurdle.proofs.round.third.Statement.{statement}
 use Rattle.hurdle.proofs.round.third.Tie as tie

@@ -1,7 +1,4 @@
-use mathlib.Core.Path.{_≡_, ap, _∙_}
-use Prim.Native.Nat.{_+_, _*_}
-use native.Mathlib.Omega.{arith}
-use borrow.Author.Needs.{needs}
+use Rattle.standard.proofs.Prelude.{_≡_, ap, _∙_, _+_, _*_, arith, needs}
 use Rattle.hurdle.proofs.RoundLaws.{bytes4-of}
 use Rattle.hurdle.specs.RoundSteps.{bytes4}
 use Rattle.hurdle.proofs.round.word.Statement.{statement}

@@ -1,4 +1,4 @@
-use borrow.Author.Needs.{needs}
+use Rattle.standard.proofs.Prelude.{needs}
 use Rattle.inverses.proofs.BitLaws.{shl-one, shl-pos, cut-fits}
 use Rattle.standard.specs.Inverses.{field}
 use Rattle.inverses.proofs.bits.field.Statement.{statement}

@@ -1,6 +1,4 @@
-use mathlib.Core.Path.{_≡_}
-use lib.ListN.{length}
-use borrow.Author.Needs.{needs}
+use Rattle.standard.proofs.Prelude.{_≡_, length, needs}
 use Rattle.inverses.proofs.BitLaws.{number8}
 use Rattle.inverses.proofs.bits.number.Statement.{statement}
 use Rattle.inverses.proofs.bits.number.Tie as tie

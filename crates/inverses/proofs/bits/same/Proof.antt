@@ -1,8 +1,4 @@
-use mathlib.Core.Path.{_≡_, refl, sym, _∙_}
-use Prim.Native.Nat.{_-_, _≤_, zero-le}
-use native.Mathlib.Omega.{arith}
-use lib.ListN.{length, drop}
-use denote.Ref.{now}
+use Rattle.standard.proofs.Prelude.{_≡_, refl, sym, _∙_, _-_, _≤_, zero-le, arith, length, drop, now}
 use Rattle.standard.specs.Bytes.{sameOn, same}
 use Rattle.inverses.proofs.SameLaws.{same-next, same-end}
 use Rattle.inverses.proofs.bits.same.Statement.{statement}

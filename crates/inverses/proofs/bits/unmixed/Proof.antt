@@ -1,4 +1,4 @@
-use borrow.Author.Needs.{needs}
+use Rattle.standard.proofs.Prelude.{needs}
 use Rattle.inverses.proofs.bits.unmixed.Statement.{statement}
 use Rattle.inverses.proofs.bits.unmixed.Tie as tie
 

@@ -1,4 +1,4 @@
-use borrow.Author.Needs.{needs}
+use Rattle.standard.proofs.Prelude.{needs}
 use Rattle.standard.specs.Derivation.{int}
 use Rattle.keys.proofs.derivation.int.Statement.{statement}
 use Rattle.keys.proofs.derivation.int.Tie as tie

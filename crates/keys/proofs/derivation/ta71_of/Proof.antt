@@ -1,4 +1,4 @@
-use borrow.Author.Needs.{needs}
+use Rattle.standard.proofs.Prelude.{needs}
 use Rattle.standard.specs.Derivation.{ta71, ta71Key}
 use Rattle.standard.specs.Expansions.{shr3}
 use Rattle.keys.proofs.derivation.ta71_of.Statement.{statement}

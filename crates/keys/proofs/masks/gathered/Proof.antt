@@ -1,6 +1,4 @@
-use mathlib.Core.Path.{_≡_, refl, _∙_}
-use native.Mathlib.Omega.{arith}
-use lib.ListN.{length, length-set}
+use Rattle.standard.proofs.Prelude.{_≡_, refl, _∙_, arith, length, length-set}
 use Rattle.keys.proofs.MaskLaws.{Gathered, gather-none, gather-more, gather-past, gather-all}
 use Rattle.standard.specs.Bytes.{bit}
 use Rattle.keys.proofs.masks.gathered.Statement.{statement}

@@ -1,8 +1,5 @@
-use mathlib.Core.Bool.{true, false, _&&_}
-use mathlib.Core.Path.{_≡_}
+use Rattle.standard.proofs.Prelude.{_≡_, true, false, _&&_, eqb, eq-eqb, ne-eqb, not-true, not-false}
 use lib.Count.{ones}
-use lib.Dec.{eqb}
-use borrow.Author.Tests.{eq-eqb, ne-eqb, not-true, not-false}
 use Rattle.keys.proofs.masks.mask_refusal.Statement.{statement}
 use Rattle.keys.proofs.masks.mask_refusal.Tie as tie
 

@@ -1,4 +1,4 @@
-use borrow.Author.Needs.{needs}
+use Rattle.standard.proofs.Prelude.{needs}
 use Rattle.keys.proofs.masks.split.Statement.{statement}
 use Rattle.keys.proofs.masks.split.Tie as tie
 

@@ -1,7 +1,4 @@
-use mathlib.Core.Bool.{true, false}
-use mathlib.Core.Path.{_≡_}
-use borrow.Author.Needs.{needs}
-use borrow.Author.Tests.{not-true, not-false}
+use Rattle.standard.proofs.Prelude.{_≡_, true, false, needs, not-true, not-false}
 use Rattle.keys.proofs.MaskLaws.{whole-split}
 use Rattle.keys.proofs.recipe.half.Statement.{statement}
 use Rattle.keys.proofs.recipe.half.Tie as tie

@@ -1,5 +1,4 @@
-use mathlib.Core.Path.{_≡_}
-use borrow.Author.Needs.{needs}
+use Rattle.standard.proofs.Prelude.{_≡_, needs}
 use Rattle.standard.specs.Derivation.{half1, half2}
 use Rattle.standard.specs.Mixing.{tb4}
 use Rattle.keys.proofs.RecipeLaws.{ring-made}

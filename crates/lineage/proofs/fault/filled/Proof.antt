@@ -1,5 +1,4 @@
-use borrow.Author.Tests.{eq-eqb, ne-eqb}
-use borrow.Author.Needs.{needs}
+use Rattle.standard.proofs.Prelude.{needs, eq-eqb, ne-eqb}
 use Rattle.lineage.proofs.fault.filled.Statement.{statement}
 use Rattle.lineage.proofs.fault.filled.Tie as tie
 

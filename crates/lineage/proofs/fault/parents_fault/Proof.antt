@@ -1,8 +1,5 @@
-use native.Mathlib.Omega.{arith}
-use denote.Ref.{now}
-use borrow.Author.Tests.{not-true, not-false}
+use Rattle.standard.proofs.Prelude.{arith, now, needs, not-true, not-false}
 use Rattle.lineage.proofs.SheetLaws.{both-below, not-before, other-length, parents-fit}
-use borrow.Author.Needs.{needs}
 use Rattle.lineage.proofs.fault.parents_fault.Statement.{statement}
 use Rattle.lineage.proofs.fault.parents_fault.Tie as tie
 

@@ -1,13 +1,9 @@
-use mathlib.Core.Path.{sym, ap, _∙_}
-use mathlib.Core.List.{List}
-use Prim.Native.Nat.{ℕ}
-use denote.Ref.{now}
+use Rattle.standard.proofs.Prelude.{sym, ap, _∙_, List, ℕ, now, needs}
 use Rattle.lineage.proofs.SheetLaws.{fault-filling, fault-given, fault-parents}
 use Rattle.standard.proofs.BytesLaws.{failed, passed}
 use Rattle.standard.specs.Bytes.{_!_}
 use Rattle.standard.specs.Lineage.{filled, parentTests}
 use Rattle.standard.specs.Refusals.{first}
-use borrow.Author.Needs.{needs}
 use Rattle.lineage.proofs.fault.record_fault.Statement.{statement}
 use Rattle.lineage.proofs.fault.record_fault.Tie as tie
 

@@ -1,4 +1,4 @@
-use borrow.Author.Tests.{le-leb, lt-leb}
+use Rattle.standard.proofs.Prelude.{le-leb, lt-leb}
 use Rattle.lineage.proofs.sheet.derived_length.Statement.{statement}
 use Rattle.lineage.proofs.sheet.derived_length.Tie as tie
 

@@ -1,10 +1,8 @@
-use mathlib.Core.Path.{_∙_}
-use denote.Ref.{now}
+use Rattle.standard.proofs.Prelude.{_∙_, now, needs}
 use Rattle.arrays.proofs.CopyLaws.{over-zeros}
 use Rattle.lists.proofs.WalkLaws.{lent}
 use Rattle.standard.specs.Lists.{recordAt}
 use Rattle.standard.specs.Sizes.{sheetSize}
-use borrow.Author.Needs.{needs}
 use Rattle.lineage.proofs.sheet.record_at.Statement.{statement}
 use Rattle.lineage.proofs.sheet.record_at.Tie as tie
 

@@ -1,11 +1,8 @@
-use mathlib.Core.Path.{_≡_, ap, _∙_}
-use mathlib.Core.List.{List}
-use Prim.Native.Nat.{ℕ, _-_}
+use Rattle.standard.proofs.Prelude.{_≡_, ap, _∙_, List, ℕ, _-_, needs}
 use Rattle.lineage.proofs.SheetLaws.{as-value, by-ta11, by-ta21, by-ta41, by-tb4, by-ta71}
 use Rattle.standard.specs.Bytes.{_!_, table, part}
 use Rattle.standard.specs.Derivation.{core}
 use Rattle.standard.specs.Lineage.{derived}
-use borrow.Author.Needs.{needs}
 use Rattle.lineage.proofs.value.derive.Statement.{statement}
 use Rattle.lineage.proofs.value.derive.Tie as tie
 

@@ -1,15 +1,10 @@
-use mathlib.Core.Path.{sym, ap, _∙_}
-use mathlib.Core.List.{List}
-use Prim.Native.Nat.{ℕ}
-use native.Mathlib.Omega.{arith}
-use denote.Ref.{now}
+use Rattle.standard.proofs.Prelude.{sym, ap, _∙_, List, ℕ, arith, now, needs}
 use Rattle.lineage.proofs.SheetLaws.{value-given, value-derived}
 use Rattle.standard.proofs.LineageLaws.{parents-before}
 use Rattle.standard.specs.Bytes.{_!_, part}
 use Rattle.standard.specs.Lineage.{parent1, parent2, derived}
 use Rattle.standard.specs.Lists.{recordAt}
 use Rattle.standard.specs.Sizes.{valueSize}
-use borrow.Author.Needs.{needs}
 use Rattle.lineage.proofs.value.value_of.Statement.{statement}
 use Rattle.lineage.proofs.value.value_of.Tie as tie
 

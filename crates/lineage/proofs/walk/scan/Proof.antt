@@ -1,12 +1,9 @@
 -- `lineage::walk::scan` meets its contract: the records passed have no fault.
 -- Assumes nothing.
-use mathlib.Core.Path.{sym, _∙_}
-use Prim.Native.Nat.{_-_, _≤_, zero-le}
-use native.Mathlib.Omega.{arith}
+use Rattle.standard.proofs.Prelude.{sym, _∙_, _-_, _≤_, zero-le, arith, needs}
 use Rattle.lists.proofs.WalkLaws.{clean-none, clean-more, stopped-at, stopped-not}
 use Rattle.lists.specs.Walks.{Clean}
 use Rattle.standard.specs.Lineage.{lineageFault}
-use borrow.Author.Needs.{needs}
 use Rattle.lineage.proofs.walk.scan.Statement.{statement}
 use Rattle.lineage.proofs.walk.scan.Tie as tie
 

@@ -1,16 +1,11 @@
 -- `lineage::walk::write` meets its contract: the first i parts of the output are the values of the first i records.
 -- Assumes nothing.
-use mathlib.Core.Path.{_≡_, _∙_}
-use Prim.Native.Nat.{_-_, _≤_, zero-le}
-use native.Mathlib.Omega.{arith}
-use lib.ListN.{length}
-use denote.Ref.{now}
+use Rattle.standard.proofs.Prelude.{_≡_, _∙_, _-_, _≤_, zero-le, arith, length, now, needs}
 use Rattle.lineage.proofs.SheetLaws.{value-next}
 use Rattle.lists.proofs.WalkLaws.{PrefixWritten, prefix-none, prefix-more}
 use Rattle.standard.proofs.LineageLaws.{value-length}
 use Rattle.standard.specs.Lineage.{valueOf}
 use Rattle.standard.specs.Sizes.{valueSize}
-use borrow.Author.Needs.{needs}
 use Rattle.lineage.proofs.walk.write.Statement.{statement}
 use Rattle.lineage.proofs.walk.write.Tie as tie
 

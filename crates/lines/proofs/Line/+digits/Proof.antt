@@ -1,9 +1,6 @@
 -- `lines::Line::digits` meets its contract: each call of itself has one place less.
 -- Assumes nothing.
-use mathlib.Core.List.{[], _∷_}
-use Prim.Native.Nat.{ℕ, _+_, _-_, _/_, _%_, _<_}
-use native.Mathlib.Omega.{arith}
-use borrow.Author.Needs.{needs}
+use Rattle.standard.proofs.Prelude.{[], _∷_, ℕ, _+_, _-_, _/_, _%_, _<_, arith, needs}
 use borrow.Fn.Kinds.{In}
 use borrow.Fn.PlainCycle.{Measures, is, falls, and}
 use Rattle.standard.specs.Text.{digits as digitsOf}

@@ -1,5 +1,4 @@
-use borrow.Author.Needs.{needs}
-use borrow.Author.Tests.{lt-ltb, le-ltb}
+use Rattle.standard.proofs.Prelude.{needs, lt-ltb, le-ltb}
 use Rattle.lines.specs.Lines.{_▸_}
 use Rattle.lines.proofs.Line.byte.Statement.{statement}
 use Rattle.lines.proofs.Line.byte.Tie as tie

@@ -1,13 +1,6 @@
 -- `lines::Line::hex` meets its contract: after i turns the first i bytes are there.
 -- Assumes nothing.
-use mathlib.Core.List.{List}
-use mathlib.Core.Path.{_≡_, ap, _∙_}
-use Prim.Native.Nat.{ℕ, _-_, _≤_, zero-le}
-use native.Mathlib.Omega.{arith}
-use lib.ListN.{length, take}
-use lib.Seq.{take-all}
-use denote.Ref.{now}
-use borrow.Author.Needs.{needs}
+use Rattle.standard.proofs.Prelude.{_≡_, ap, _∙_, List, ℕ, _-_, _≤_, zero-le, arith, length, take, take-all, now, needs}
 use Rattle.lines.proofs.LineLaws.{none, next}
 use Rattle.lines.proofs.TextLaws.{hex-step}
 use Rattle.standard.specs.Text.{hexByte, hex}

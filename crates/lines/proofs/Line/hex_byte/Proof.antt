@@ -1,6 +1,4 @@
-use mathlib.Core.List.{[], _∷_}
-use Prim.Native.Nat.{_/_, _%_}
-use borrow.Author.Needs.{needs}
+use Rattle.standard.proofs.Prelude.{[], _∷_, _/_, _%_, needs}
 use Rattle.standard.specs.Text.{hexDigit}
 use Rattle.lines.proofs.LineLaws.{behind}
 use Rattle.lines.proofs.Line.hex_byte.Statement.{statement}

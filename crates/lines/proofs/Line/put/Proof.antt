@@ -1,7 +1,4 @@
-use native.Mathlib.Omega.{arith}
-use lib.ListN.{length-take}
-use denote.Ref.{now}
-use borrow.Author.Needs.{needs}
+use Rattle.standard.proofs.Prelude.{arith, length-take, now, needs}
 use Rattle.lines.proofs.LineLaws.{size-most, put-past, put-copy}
 use Rattle.lines.specs.Lines.{shown}
 use Rattle.lines.proofs.Line.put.Statement.{statement}

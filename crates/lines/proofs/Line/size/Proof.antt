@@ -1,6 +1,4 @@
-use mathlib.Core.Path.{_≡_}
-use lib.ListN.{length}
-use borrow.Author.Needs.{needs}
+use Rattle.standard.proofs.Prelude.{_≡_, length, needs}
 use Rattle.lines.proofs.LineLaws.{size-room, size-full}
 use Rattle.lines.proofs.Line.size.Statement.{statement}
 use Rattle.lines.proofs.Line.size.Tie as tie

@@ -1,13 +1,6 @@
 -- `lines::Line::word` meets its contract: after i turns the first i bytes of the word are there.
 -- Assumes nothing.
-use mathlib.Core.List.{List, [], _∷_}
-use mathlib.Core.Path.{_≡_, refl, ap, _∙_}
-use Prim.Native.Nat.{ℕ, _-_, _≤_, zero-le}
-use native.Mathlib.Omega.{arith}
-use lib.ListN.{length, take}
-use lib.Seq.{take-all}
-use denote.Ref.{now}
-use borrow.Author.Needs.{needs}
+use Rattle.standard.proofs.Prelude.{_≡_, refl, ap, _∙_, List, [], _∷_, ℕ, _-_, _≤_, zero-le, arith, length, take, take-all, now, needs}
 use Rattle.lines.proofs.LineLaws.{none, next}
 use Rattle.lines.specs.Lines.{_▸_}
 use Rattle.lines.proofs.Line.word.Statement.{statement}

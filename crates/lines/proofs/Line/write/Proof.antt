@@ -1,6 +1,4 @@
-use native.Mathlib.Omega.{arith}
-use denote.Ref.{now}
-use borrow.Author.Needs.{needs}
+use Rattle.standard.proofs.Prelude.{arith, now, needs}
 use Rattle.lines.proofs.LineLaws.{put-length, put-over, write-short, write-whole}
 use Rattle.lines.specs.Lines.{shown}
 use Rattle.lines.proofs.Line.write.Statement.{statement}

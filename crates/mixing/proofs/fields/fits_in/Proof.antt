@@ -1,7 +1,4 @@
-use native.Mathlib.Nat.{one-mul}
-use native.Mathlib.Omega.{arith}
-use lib.Pow.{shl-exact}
-use borrow.Author.Needs.{needs}
+use Rattle.standard.proofs.Prelude.{one-mul, arith, shl-exact, needs}
 use Rattle.mixing.proofs.fields.fits_in.Statement.{statement}
 use Rattle.mixing.proofs.fields.fits_in.Tie as tie
 

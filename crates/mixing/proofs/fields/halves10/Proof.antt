@@ -1,5 +1,4 @@
-use native.Mathlib.Nat.{div-one}
-use borrow.Author.Needs.{needs}
+use Rattle.standard.proofs.Prelude.{div-one, needs}
 use Rattle.mixing.proofs.fields.halves10.Statement.{statement}
 use Rattle.mixing.proofs.fields.halves10.Tie as tie
 

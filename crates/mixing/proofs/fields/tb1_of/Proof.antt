@@ -1,8 +1,4 @@
-use mathlib.Core.Path.{_≡_, refl, sym, _∙_}
-use Prim.Native.Nat.{_-_, _*_, _≤_, zero-le}
-use native.Mathlib.Nat.{mod-lt}
-use native.Mathlib.Omega.{arith}
-use lib.ListN.{length, take, length-set}
+use Rattle.standard.proofs.Prelude.{_≡_, refl, sym, _∙_, _-_, _*_, _≤_, zero-le, mod-lt, arith, length, take, length-set}
 use Rattle.standard.proofs.FillLaws.{fill-next, filled}
 use Rattle.standard.proofs.MixingLaws.{twice-exact, twice-fits, tb1-at}
 use Rattle.standard.specs.Bytes.{_!_, table}

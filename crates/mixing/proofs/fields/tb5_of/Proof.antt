@@ -1,4 +1,4 @@
-use borrow.Author.Needs.{needs}
+use Rattle.standard.proofs.Prelude.{needs}
 use Rattle.mixing.proofs.FieldLaws.{tb5-halves}
 use Rattle.mixing.proofs.fields.tb5_of.Statement.{statement}
 use Rattle.mixing.proofs.fields.tb5_of.Tie as tie

@@ -1,4 +1,4 @@
-use borrow.Author.Needs.{needs}
+use Rattle.standard.proofs.Prelude.{needs}
 use Rattle.mixing.proofs.FieldLaws.{tb6-halves}
 use Rattle.mixing.proofs.fields.tb6_of.Statement.{statement}
 use Rattle.mixing.proofs.fields.tb6_of.Tie as tie

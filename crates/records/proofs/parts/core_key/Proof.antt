@@ -1,4 +1,4 @@
-use borrow.Author.Needs.{needs}
+use Rattle.standard.proofs.Prelude.{needs}
 use Rattle.standard.specs.Seals.{key10, key16}
 use Rattle.records.proofs.parts.core_key.Statement.{statement}
 use Rattle.records.proofs.parts.core_key.Tie as tie

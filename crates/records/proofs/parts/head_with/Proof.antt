@@ -1,4 +1,4 @@
-use borrow.Author.Needs.{needs}
+use Rattle.standard.proofs.Prelude.{needs}
 use Rattle.records.proofs.parts.head_with.Statement.{statement}
 use Rattle.records.proofs.parts.head_with.Tie as tie
 

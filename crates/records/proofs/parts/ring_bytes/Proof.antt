@@ -1,6 +1,4 @@
-use mathlib.Core.Path.{_∙_}
-use denote.Ref.{now}
-use borrow.Author.Needs.{needs}
+use Rattle.standard.proofs.Prelude.{_∙_, now, needs}
 use Rattle.arrays.proofs.CopyLaws.{over-zeros}
 use Rattle.standard.specs.Sizes.{ringSize}
 use Rattle.records.proofs.parts.ring_bytes.Statement.{statement}

@@ -1,4 +1,4 @@
-use borrow.Author.Needs.{needs}
+use Rattle.standard.proofs.Prelude.{needs}
 use Rattle.records.proofs.parts.ring_key.Statement.{statement}
 use Rattle.records.proofs.parts.ring_key.Tie as tie
 

@@ -1,5 +1,4 @@
-use borrow.Author.Needs.{needs}
-use borrow.Author.Tests.{ne-eqb}
+use Rattle.standard.proofs.Prelude.{needs, ne-eqb}
 use Rattle.standard.specs.Seals.{kindOf}
 use Rattle.standard.proofs.Kind.from_byte.Statement.{statement}
 use Rattle.standard.proofs.Kind.from_byte.Tie as tie

@@ -1,5 +1,4 @@
-use Prim.Native.Nat.{_<_}
-use borrow.Author.Needs.{needs}
+use Rattle.standard.proofs.Prelude.{_<_, needs}
 use Rattle.texts.proofs.PadLaws.{fails-bit}
 use Rattle.texts.proofs.forms.fails.Statement.{statement}
 use Rattle.texts.proofs.forms.fails.Tie as tie

@@ -1,4 +1,4 @@
-use borrow.Author.Needs.{needs}
+use Rattle.standard.proofs.Prelude.{needs}
 use Rattle.texts.proofs.forms.input31.Statement.{statement}
 use Rattle.texts.proofs.forms.input31.Tie as tie
 

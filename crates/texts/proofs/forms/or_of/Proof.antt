@@ -1,5 +1,4 @@
-use mathlib.Core.Path.{_∙_}
-use borrow.Author.Needs.{needs}
+use Rattle.standard.proofs.Prelude.{_∙_, needs}
 use Rattle.texts.proofs.PadLaws.{or-padded}
 use Rattle.texts.proofs.forms.or_of.Statement.{statement}
 use Rattle.texts.proofs.forms.or_of.Tie as tie

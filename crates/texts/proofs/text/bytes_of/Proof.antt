@@ -1,5 +1,4 @@
-use native.Mathlib.Nat.{div-one}
-use borrow.Author.Needs.{needs}
+use Rattle.standard.proofs.Prelude.{div-one, needs}
 use Rattle.texts.proofs.text.bytes_of.Statement.{statement}
 use Rattle.texts.proofs.text.bytes_of.Tie as tie
 

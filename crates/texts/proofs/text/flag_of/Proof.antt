@@ -1,6 +1,4 @@
-use mathlib.Core.Bool.{not}
-use mathlib.Core.Path.{refl, ap}
-use borrow.Author.Needs.{needs}
+use Rattle.standard.proofs.Prelude.{refl, ap, not, needs}
 use Rattle.standard.proofs.CheckLaws.{or-clear}
 use Rattle.standard.specs.Seals.{opened}
 use Rattle.texts.proofs.text.flag_of.Statement.{statement}

@@ -1,4 +1,4 @@
-use borrow.Author.Needs.{needs}
+use Rattle.standard.proofs.Prelude.{needs}
 use Rattle.standard.specs.Seals.{key10}
 use Rattle.texts.proofs.text.key10.Statement.{statement}
 use Rattle.texts.proofs.text.key10.Tie as tie

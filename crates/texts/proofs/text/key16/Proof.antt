@@ -1,4 +1,4 @@
-use borrow.Author.Needs.{needs}
+use Rattle.standard.proofs.Prelude.{needs}
 use Rattle.standard.specs.Seals.{key16}
 use Rattle.texts.proofs.text.key16.Statement.{statement}
 use Rattle.texts.proofs.text.key16.Tie as tie

@@ -1,4 +1,4 @@
-use borrow.Author.Needs.{needs}
+use Rattle.standard.proofs.Prelude.{needs}
 use Rattle.standard.specs.Seals.{opened}
 use Rattle.texts.proofs.text.open_text.Statement.{statement}
 use Rattle.texts.proofs.text.open_text.Tie as tie

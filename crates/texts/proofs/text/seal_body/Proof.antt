@@ -1,4 +1,4 @@
-use borrow.Author.Needs.{needs}
+use Rattle.standard.proofs.Prelude.{needs}
 use Rattle.standard.specs.Seals.{sealed}
 use Rattle.texts.proofs.text.seal_body.Statement.{statement}
 use Rattle.texts.proofs.text.seal_body.Tie as tie

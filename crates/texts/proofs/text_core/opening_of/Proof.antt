@@ -1,4 +1,4 @@
-use borrow.Author.Needs.{needs}
+use Rattle.standard.proofs.Prelude.{needs}
 use Rattle.texts.proofs.text_core.opening_of.Statement.{statement}
 use Rattle.texts.proofs.text_core.opening_of.Tie as tie
 

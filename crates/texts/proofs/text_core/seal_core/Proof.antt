@@ -1,4 +1,4 @@
-use borrow.Author.Needs.{needs}
+use Rattle.standard.proofs.Prelude.{needs}
 use Rattle.texts.proofs.text_core.seal_core.Statement.{statement}
 use Rattle.texts.proofs.text_core.seal_core.Tie as tie
 
