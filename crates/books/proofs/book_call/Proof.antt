@@ -108,23 +108,6 @@ returns-4 c =
 pub book-call-spec : {M : Type 1} → statement M
 book-call-spec =
     tie.close
-    (tie.spec
-    (λ c κs. search needs)
-    returns
-    (λ c κs. search needs)
-    (λ c κs. search needs)
-    (λ c κs. search needs)
-    (λ c κs. search needs)
-    returns-2
-    (λ c κs. search needs)
-    (λ c. search needs)
-    div-n
-    scan-requires
-    (λ c κs. search needs)
-    returns-3
-    write-requires
-    (λ c. search needs)
-    mul-t14
-    add-t20
-    (λ c. search needs)
-    returns-4)
+    (tie.spec (λ c κs. search needs) returns (λ c κs. search needs) (λ c κs. search needs) (λ c κs. search needs) (λ c κs. search needs) returns-2
+    (λ c κs. search needs) (λ c. search needs) div-n scan-requires (λ c κs. search needs) returns-3 write-requires (λ c. search needs) mul-t14 add-t20
+    (λ c. search needs) returns-4)

@@ -14,17 +14,8 @@ returns c =
 pub erasures-spec : {M : Type 1} → statement M
 erasures-spec =
     tie.close
-    (tie.spec
-    (λ c κs. search needs)
-    (λ c. search needs)
-    (λ c κs. search needs)
-    (λ c. omega (arith, c .erased2 .ensures .1, c .before .erased .ensures .1))
-    (λ c. search needs)
-    (λ c κs. search needs)
-    (λ c. omega (arith, c .erased3 .ensures .1, c .before .erased2 .ensures .1, c .before .before .erased .ensures .1))
-    (λ c. search needs)
-    (λ c κs. search needs)
-    (λ c.
-    let first = c .before .before in
-    omega (arith, c .erased4 .ensures .1, c .before .erased3 .ensures .1, first .erased2 .ensures .1, first .before .erased .ensures .1))
-    returns)
+    (tie.spec (λ c κs. search needs) (λ c. search needs) (λ c κs. search needs)
+    (λ c. omega (arith, c .erased2 .ensures .1, c .before .erased .ensures .1)) (λ c. search needs) (λ c κs. search needs)
+    (λ c. omega (arith, c .erased3 .ensures .1, c .before .erased2 .ensures .1, c .before .before .erased .ensures .1)) (λ c. search needs)
+    (λ c κs. search needs) (λ c. let first = c .before .before in
+    omega (arith, c .erased4 .ensures .1, c .before .erased3 .ensures .1, first .erased2 .ensures .1, first .before .erased .ensures .1)) returns)

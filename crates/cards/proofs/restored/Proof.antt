@@ -35,17 +35,5 @@ returns c =
 pub restored-spec : {M : Type 1} → statement M
 restored-spec =
     tie.close
-    (tie.spec
-    Inv-loop
-    μ-loop
-    (λ c. (zero-le, refl, refl))
-    (λ c κs. omega arith)
-    (λ c. omega arith)
-    (λ c κs. omega arith)
-    (λ c. search needs)
-    (λ c κs. search needs)
-    (λ c. omega arith)
-    (λ c. omega arith)
-    (λ c. omega arith)
-    loop-again
-    returns)
+    (tie.spec Inv-loop μ-loop (λ c. (zero-le, refl, refl)) (λ c κs. omega arith) (λ c. omega arith) (λ c κs. omega arith) (λ c. search needs)
+    (λ c κs. search needs) (λ c. omega arith) (λ c. omega arith) (λ c. omega arith) loop-again returns)

@@ -103,21 +103,5 @@ returns c =
 pub write-spec : {M : Type 1} → statement M
 write-spec =
     tie.close
-    (tie.spec
-    Inv-loop
-    μ-loop
-    Inv-loop2
-    μ-loop2
-    loop-holds
-    sub-loop
-    write-x4-requires
-    add-i
-    loop-less
-    loop-again
-    loop2-holds
-    write-one-requires
-    add-i-2
-    loop2-less
-    loop2-again
-    same-length
-    returns)
+    (tie.spec Inv-loop μ-loop Inv-loop2 μ-loop2 loop-holds sub-loop write-x4-requires add-i loop-less loop-again loop2-holds write-one-requires
+    add-i-2 loop2-less loop2-again same-length returns)

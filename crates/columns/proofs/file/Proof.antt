@@ -18,10 +18,4 @@ returns-2 c =
 pub file-spec : {M : Type 1} → statement M
 file-spec =
     tie.close
-    (tie.spec
-    (λ c κs. search needs)
-    transpose-requires-2
-    (λ c. search needs)
-    returns
-    (λ c. search needs)
-    returns-2)
+    (tie.spec (λ c κs. search needs) transpose-requires-2 (λ c. search needs) returns (λ c. search needs) returns-2)

@@ -68,18 +68,5 @@ returns c =
 pub transpose-spec : {M : Type 1} → statement M
 transpose-spec =
     tie.close
-    (tie.spec
-    Inv-loop
-    μ-loop
-    loop-holds
-    mul-a
-    add-column
-    (λ c. omega arith)
-    part-column-start
-    part-column-end
-    column-requires
-    (λ c. omega arith)
-    (λ c. omega arith)
-    loop-again
-    same-length
-    returns)
+    (tie.spec Inv-loop μ-loop loop-holds mul-a add-column (λ c. omega arith) part-column-start part-column-end column-requires (λ c. omega arith)
+    (λ c. omega arith) loop-again same-length returns)

@@ -42,15 +42,5 @@ returns c =
 pub count-flips-spec : {M : Type 1} → statement M
 count-flips-spec =
     tie.close
-    (tie.spec
-    Inv-loop
-    μ-loop
-    (λ c κs. tt)
-    loop-holds
-    (λ c. omega arith)
-    four-changes-requires
-    counted4-requires
-    (λ c. omega arith)
-    (λ c. omega arith)
-    loop-again
-    returns)
+    (tie.spec Inv-loop μ-loop (λ c κs. tt) loop-holds (λ c. omega arith) four-changes-requires counted4-requires (λ c. omega arith) (λ c. omega arith)
+    loop-again returns)

@@ -45,14 +45,5 @@ returns-3 c =
 pub diffusion-spec : {M : Type 1} → statement M
 diffusion-spec =
     tie.close
-    (tie.spec
-    (λ c. search needs)
-    (λ c κs. search needs)
-    (λ c κs. search needs)
-    returns
-    (λ c κs. search needs)
-    returns-2
-    count-requires
-    cast-t5
-    mul-t8
+    (tie.spec (λ c. search needs) (λ c κs. search needs) (λ c κs. search needs) returns (λ c κs. search needs) returns-2 count-requires cast-t5 mul-t8
     returns-3)

@@ -10,11 +10,5 @@ returns c = rw (c .entry3 .ensures, c .before .before .entry2 .ensures, c .befor
 pub substitute-back-spec : {M : Type 1} → statement M
 substitute-back-spec =
     tie.close
-    (tie.spec
-    (λ c. search needs)
-    (λ c κs. search needs)
-    (λ c. search needs)
-    (λ c κs. search needs)
-    (λ c. search needs)
-    (λ c κs. search needs)
+    (tie.spec (λ c. search needs) (λ c κs. search needs) (λ c. search needs) (λ c κs. search needs) (λ c. search needs) (λ c κs. search needs)
     returns)

@@ -8,9 +8,4 @@ returns c = rw (c .mix .ensures)
 pub unmix-spec : {M : Type 1} → statement M
 unmix-spec =
     tie.close
-    (tie.spec
-    (λ c κs. search needs)
-    (λ c. search needs)
-    (λ c. search needs)
-    (λ c. search needs)
-    returns)
+    (tie.spec (λ c κs. search needs) (λ c. search needs) (λ c. search needs) (λ c. search needs) returns)

@@ -12,9 +12,4 @@ returns-2 c = rw (passed (c .before .same .ensures) (c .if1 .left))
 pub confirmed-spec : {M : Type 1} → statement M
 confirmed-spec =
     tie.close
-    (tie.spec
-    (λ c. search needs)
-    (λ c κs. search needs)
-    (λ c κs. search needs)
-    returns
-    returns-2)
+    (tie.spec (λ c. search needs) (λ c κs. search needs) (λ c κs. search needs) returns returns-2)

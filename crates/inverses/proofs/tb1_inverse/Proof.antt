@@ -43,15 +43,5 @@ returns-3 c =
 pub tb1-inverse-spec : {M : Type 1} → statement M
 tb1-inverse-spec =
     tie.close
-    (tie.spec
-    (λ c κs. search needs)
-    returns
-    (λ c κs. search needs)
-    (λ c κs. search needs)
-    returns-2
-    (λ c κs. search needs)
-    field-requires
-    (λ c. search needs)
-    (λ c κs. search needs)
-    (λ c κs. search needs)
-    returns-3)
+    (tie.spec (λ c κs. search needs) returns (λ c κs. search needs) (λ c κs. search needs) returns-2 (λ c κs. search needs) field-requires
+    (λ c. search needs) (λ c κs. search needs) (λ c κs. search needs) returns-3)

@@ -35,11 +35,4 @@ returns-3 c =
 pub ring-of-spec : {M : Type 1} → statement M
 ring-of-spec =
     tie.close
-    (tie.spec
-    (λ c κs. search needs)
-    returns
-    (λ c κs. search needs)
-    (λ c κs. search needs)
-    returns-2
-    make-requires
-    returns-3)
+    (tie.spec (λ c κs. search needs) returns (λ c κs. search needs) (λ c κs. search needs) returns-2 make-requires returns-3)

@@ -24,10 +24,4 @@ returns-3 c =
 pub lengths-spec : {M : Type 1} → statement M
 lengths-spec =
     tie.close
-    (tie.spec
-    (λ c. search needs)
-    returns
-    (λ c κs. search needs)
-    mul-if2
-    returns-2
-    returns-3)
+    (tie.spec (λ c. search needs) returns (λ c κs. search needs) mul-if2 returns-2 returns-3)

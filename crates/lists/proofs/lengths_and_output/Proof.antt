@@ -39,10 +39,4 @@ returns-3 c =
 pub lengths-and-output-spec : {M : Type 1} → statement M
 lengths-and-output-spec =
     tie.close
-    (tie.spec
-    (λ c κs. search needs)
-    returns
-    (λ c κs. search needs)
-    mul-if2
-    returns-2
-    returns-3)
+    (tie.spec (λ c κs. search needs) returns (λ c κs. search needs) mul-if2 returns-2 returns-3)

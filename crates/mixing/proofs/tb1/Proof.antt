@@ -35,12 +35,4 @@ returns-3 c =
 pub tb1-spec : {M : Type 1} → statement M
 tb1-spec =
     tie.close
-    (tie.spec
-    (λ c κs. search needs)
-    (λ c κs. search needs)
-    returns
-    fits-in-requires
-    (λ c κs. search needs)
-    returns-2
-    tb1-of-requires
-    returns-3)
+    (tie.spec (λ c κs. search needs) (λ c κs. search needs) returns fits-in-requires (λ c κs. search needs) returns-2 tb1-of-requires returns-3)

@@ -53,16 +53,5 @@ returns-4 c =
 pub tb3-spec : {M : Type 1} → statement M
 tb3-spec =
     tie.close
-    (tie.spec
-    (λ c κs. search needs)
-    returns
-    (λ c κs. search needs)
-    (λ c κs. search needs)
-    returns-2
-    fits-in-requires
-    (λ c κs. search needs)
-    returns-3
-    (λ c κs. search needs)
-    tb1-of-requires
-    (λ c κs. search needs)
-    returns-4)
+    (tie.spec (λ c κs. search needs) returns (λ c κs. search needs) (λ c κs. search needs) returns-2 fits-in-requires (λ c κs. search needs) returns-3
+    (λ c κs. search needs) tb1-of-requires (λ c κs. search needs) returns-4)

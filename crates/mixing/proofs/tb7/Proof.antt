@@ -14,9 +14,4 @@ returns-2 c = rw (c .tb7-of .ensures, c .before .array12 .ensures, eq-eqb _ _ (c
 pub tb7-spec : {M : Type 1} → statement M
 tb7-spec =
     tie.close
-    (tie.spec
-    (λ c κs. search needs)
-    returns
-    (λ c κs. search needs)
-    (λ c κs. search needs)
-    returns-2)
+    (tie.spec (λ c κs. search needs) returns (λ c κs. search needs) (λ c κs. search needs) returns-2)

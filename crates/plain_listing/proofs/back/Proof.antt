@@ -20,18 +20,5 @@ returns c =
 pub back-spec : {M : Type 1} → statement M
 back-spec =
     tie.close
-    (tie.spec
-    (λ c κs. search needs)
-    add-end
-    (λ c. search needs)
-    (λ c κs. search needs)
-    (λ c. search needs)
-    (λ c. search needs)
-    part-hex-end
-    (λ c κs. search needs)
-    (λ c. search needs)
-    (λ c κs. search needs)
-    (λ c κs. search needs)
-    (λ c. search needs)
-    (λ c κs. search needs)
-    returns)
+    (tie.spec (λ c κs. search needs) add-end (λ c. search needs) (λ c κs. search needs) (λ c. search needs) (λ c. search needs) part-hex-end
+    (λ c κs. search needs) (λ c. search needs) (λ c κs. search needs) (λ c κs. search needs) (λ c. search needs) (λ c κs. search needs) returns)

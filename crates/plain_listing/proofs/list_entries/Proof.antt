@@ -30,10 +30,4 @@ returns c =
 pub list-entries-spec : {M : Type 1} → statement M
 list-entries-spec =
     tie.close
-    (tie.spec
-    (λ c κs. search needs)
-    (λ c κs. search needs)
-    (λ c κs. search needs)
-    add-result
-    (λ c. search needs)
-    returns)
+    (tie.spec (λ c κs. search needs) (λ c κs. search needs) (λ c κs. search needs) add-result (λ c. search needs) returns)

@@ -32,10 +32,4 @@ returns-2 c =
 pub list-plain-spec : {M : Type 1} → statement M
 list-plain-spec =
     tie.close
-    (tie.spec
-    (λ c κs. search needs)
-    (λ c κs. search needs)
-    (λ c κs. search needs)
-    returns
-    list-entries-requires
-    returns-2)
+    (tie.spec (λ c κs. search needs) (λ c κs. search needs) (λ c κs. search needs) returns list-entries-requires returns-2)

@@ -44,15 +44,4 @@ returns c =
 pub inverse-spec : {M : Type 1} → statement M
 inverse-spec =
     tie.close
-    (tie.spec
-    Inv-loop
-    μ-loop
-    loop-holds
-    (λ c. omega arith)
-    cast-y
-    cast-out
-    array-write-out
-    (λ c. omega arith)
-    (λ c. omega arith)
-    loop-again
-    returns)
+    (tie.spec Inv-loop μ-loop loop-holds (λ c. omega arith) cast-y cast-out array-write-out (λ c. omega arith) (λ c. omega arith) loop-again returns)

@@ -18,11 +18,5 @@ returns c =
 pub table-line-spec : {M : Type 1} → statement M
 table-line-spec =
     tie.close
-    (tie.spec
-    slice-aggregate-spaced
-    (λ c κs. search needs)
-    (λ c. search needs)
-    (λ c κs. search needs)
-    (λ c. search needs)
-    (λ c κs. search needs)
+    (tie.spec slice-aggregate-spaced (λ c κs. search needs) (λ c. search needs) (λ c κs. search needs) (λ c. search needs) (λ c κs. search needs)
     returns)

@@ -27,14 +27,5 @@ returns c =
 pub read-piece-spec : {M : Type 1} → statement M
 read-piece-spec =
     tie.close
-    (tie.spec
-    (λ c κs. search needs)
-    (λ c κs. search needs)
-    (λ c. search needs)
-    slice-aggregate-read-some
-    (λ c κs. search needs)
-    array-share-prefix-bytes
-    slice-aggregate-copy
-    (λ c κs. search needs)
-    (λ c. search needs)
-    returns)
+    (tie.spec (λ c κs. search needs) (λ c κs. search needs) (λ c. search needs) slice-aggregate-read-some (λ c κs. search needs)
+    array-share-prefix-bytes slice-aggregate-copy (λ c κs. search needs) (λ c. search needs) returns)

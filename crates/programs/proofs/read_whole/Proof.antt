@@ -26,13 +26,5 @@ returns c =
 pub read-whole-spec : {M : Type 1} → statement M
 read-whole-spec =
     tie.close
-    (tie.spec
-    (λ c κs. search needs)
-    (λ c. search needs)
-    slice-aggregate-read-all
-    (λ c κs. search needs)
-    array-share-prefix-bytes
-    slice-aggregate-copy
-    (λ c κs. search needs)
-    (λ c. search needs)
-    returns)
+    (tie.spec (λ c κs. search needs) (λ c. search needs) slice-aggregate-read-all (λ c κs. search needs) array-share-prefix-bytes slice-aggregate-copy
+    (λ c κs. search needs) (λ c. search needs) returns)

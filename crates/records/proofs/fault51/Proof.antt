@@ -14,10 +14,4 @@ returns-3 c = rw (eq-eqb _ _ (c .before .before .if1 .left), ← c .before .wide
 pub fault51-spec : {M : Type 1} → statement M
 fault51-spec =
     tie.close
-    (tie.spec
-    (λ c. search needs)
-    returns
-    (λ c. search needs)
-    (λ c κs. search needs)
-    returns-2
-    returns-3)
+    (tie.spec (λ c. search needs) returns (λ c. search needs) (λ c κs. search needs) returns-2 returns-3)

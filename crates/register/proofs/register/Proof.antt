@@ -20,9 +20,4 @@ returns-2 c =
 pub register-spec : {M : Type 1} → statement M
 register-spec =
     tie.close
-    (tie.spec
-    (λ c κs. search needs)
-    returns
-    (λ c κs. search needs)
-    (λ c κs. omega arith)
-    returns-2)
+    (tie.spec (λ c κs. search needs) returns (λ c κs. search needs) (λ c κs. omega arith) returns-2)

@@ -12,8 +12,4 @@ returns-2 c = rw (answer-wrote _ _ _ (c .before .if1 .left)) (c .wrote-text .ens
 pub answer-text-spec : {M : Type 1} → statement M
 answer-text-spec =
     tie.close
-    (tie.spec
-    (λ c κs. search needs)
-    returns
-    (λ c κs. search needs)
-    returns-2)
+    (tie.spec (λ c κs. search needs) returns (λ c κs. search needs) returns-2)

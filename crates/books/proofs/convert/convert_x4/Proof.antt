@@ -28,10 +28,4 @@ returns c =
 pub convert-x4-spec : {M : Type 1} → statement M
 convert-x4-spec =
     tie.close
-    (tie.spec
-    (λ c κs. search needs)
-    (λ c κs. search needs)
-    (λ c κs. search needs)
-    runs-of-requires
-    (λ c. search needs)
-    returns)
+    (tie.spec (λ c κs. search needs) (λ c κs. search needs) (λ c κs. search needs) runs-of-requires (λ c. search needs) returns)

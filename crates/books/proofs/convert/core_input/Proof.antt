@@ -12,10 +12,4 @@ returns-2 c = let e = c .opening-input .ensures in rw (c .before .enum-told2 .gi
 pub core-input-spec : {M : Type 1} → statement M
 core-input-spec =
     tie.close
-    (tie.spec
-    (λ c. search needs)
-    (λ c κs. search needs)
-    (λ c. search needs)
-    (λ c κs. search needs)
-    returns
-    returns-2)
+    (tie.spec (λ c. search needs) (λ c κs. search needs) (λ c. search needs) (λ c κs. search needs) returns returns-2)

@@ -22,13 +22,5 @@ returns c =
 pub core-input-at-spec : {M : Type 1} → statement M
 core-input-at-spec =
     tie.close
-    (tie.spec
-    (λ c κs. search needs)
-    (λ c. search needs)
-    mul-a
-    add-core-input
-    (λ c. search needs)
-    (λ c. search needs)
-    part-core-input-end
-    (λ c κs. search needs)
-    returns)
+    (tie.spec (λ c κs. search needs) (λ c. search needs) mul-a add-core-input (λ c. search needs) (λ c. search needs) part-core-input-end
+    (λ c κs. search needs) returns)

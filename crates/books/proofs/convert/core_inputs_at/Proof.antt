@@ -21,12 +21,5 @@ returns c =
 pub core-inputs-at-spec : {M : Type 1} → statement M
 core-inputs-at-spec =
     tie.close
-    (tie.spec
-    (λ c κs. search needs)
-    add-core-input-at
-    (λ c κs. search needs)
-    add-core-input-at-2
-    (λ c κs. search needs)
-    add-core-input-at-3
-    (λ c κs. search needs)
-    returns)
+    (tie.spec (λ c κs. search needs) add-core-input-at (λ c κs. search needs) add-core-input-at-2 (λ c κs. search needs) add-core-input-at-3
+    (λ c κs. search needs) returns)

@@ -11,10 +11,4 @@ returns-2 c = rw (c .before .enum-told2 .given .1) (c .open-core-x4 .ensures)
 pub core-x4-spec : {M : Type 1} → statement M
 core-x4-spec =
     tie.close
-    (tie.spec
-    (λ c. search needs)
-    (λ c κs. search needs)
-    (λ c. search needs)
-    (λ c κs. search needs)
-    returns
-    returns-2)
+    (tie.spec (λ c. search needs) (λ c κs. search needs) (λ c. search needs) (λ c κs. search needs) returns returns-2)

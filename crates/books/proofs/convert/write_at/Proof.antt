@@ -52,21 +52,6 @@ returns c =
 pub write-at-spec : {M : Type 1} → statement M
 write-at-spec =
     tie.close
-    (tie.spec
-    (λ c κs. search needs)
-    (λ c. search needs)
-    (λ c κs. search needs)
-    (λ c. search needs)
-    mul-a
-    mul-b
-    add-write-record
-    (λ c. search needs)
-    (λ c. search needs)
-    part-write-record-end
-    add-write-record-2
-    (λ c. search needs)
-    (λ c. search needs)
-    part-write-record-end-2
-    (λ c κs. search needs)
-    (λ c. search needs)
-    returns)
+    (tie.spec (λ c κs. search needs) (λ c. search needs) (λ c κs. search needs) (λ c. search needs) mul-a mul-b add-write-record (λ c. search needs)
+    (λ c. search needs) part-write-record-end add-write-record-2 (λ c. search needs) (λ c. search needs) part-write-record-end-2
+    (λ c κs. search needs) (λ c. search needs) returns)

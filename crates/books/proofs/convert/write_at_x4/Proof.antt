@@ -51,17 +51,5 @@ returns c =
 pub write-at-x4-spec : {M : Type 1} → statement M
 write-at-x4-spec =
     tie.close
-    (tie.spec
-    (λ c. search needs)
-    (λ c κs. search needs)
-    add-write-at
-    (λ c. search needs)
-    write-at-requires-2
-    add-write-at-2
-    (λ c. search needs)
-    write-at-requires-3
-    add-write-at-3
-    (λ c. search needs)
-    write-at-requires-4
-    (λ c. search needs)
-    returns)
+    (tie.spec (λ c. search needs) (λ c κs. search needs) add-write-at (λ c. search needs) write-at-requires-2 add-write-at-2 (λ c. search needs)
+    write-at-requires-3 add-write-at-3 (λ c. search needs) write-at-requires-4 (λ c. search needs) returns)

@@ -23,13 +23,5 @@ returns c =
 pub inspect-at-spec : {M : Type 1} → statement M
 inspect-at-spec =
     tie.close
-    (tie.spec
-    (λ c κs. search needs)
-    (λ c. search needs)
-    mul-a
-    add-inspect
-    (λ c. search needs)
-    (λ c. search needs)
-    part-inspect-end
-    (λ c κs. search needs)
-    returns)
+    (tie.spec (λ c κs. search needs) (λ c. search needs) mul-a add-inspect (λ c. search needs) (λ c. search needs) part-inspect-end
+    (λ c κs. search needs) returns)

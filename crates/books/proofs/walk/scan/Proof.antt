@@ -86,14 +86,4 @@ returns-2 c =
 pub scan-spec : {M : Type 1} → statement M
 scan-spec =
     tie.close
-    (tie.spec
-    Inv-loop
-    μ-loop
-    loop-holds
-    inspect-at-requires
-    add-runs
-    returns
-    (λ c. search needs)
-    (λ c. search needs)
-    loop-again
-    returns-2)
+    (tie.spec Inv-loop μ-loop loop-holds inspect-at-requires add-runs returns (λ c. search needs) (λ c. search needs) loop-again returns-2)

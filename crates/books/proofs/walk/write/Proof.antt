@@ -45,10 +45,4 @@ returns-2 c =
 pub write-spec : {M : Type 1} → statement M
 write-spec =
     tie.close
-    (tie.spec
-    returns
-    (λ c κs. search needs)
-    write-with-requires
-    add-result
-    (λ c. search needs)
-    returns-2)
+    (tie.spec returns (λ c κs. search needs) write-with-requires add-result (λ c. search needs) returns-2)

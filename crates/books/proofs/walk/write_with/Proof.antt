@@ -139,23 +139,5 @@ returns c =
 pub write-with-spec : {M : Type 1} → statement M
 write-with-spec =
     tie.close
-    (tie.spec
-    Inv-loop
-    μ-loop
-    Inv-loop2
-    μ-loop2
-    loop-holds
-    sub-loop
-    convert-x4-requires
-    add-runs
-    add-i
-    loop-less
-    loop-again
-    loop2-holds
-    convert-one-requires
-    add-runs-2
-    add-i-2
-    loop2-less
-    loop2-again
-    same-length
-    returns)
+    (tie.spec Inv-loop μ-loop Inv-loop2 μ-loop2 loop-holds sub-loop convert-x4-requires add-runs add-i loop-less loop-again loop2-holds
+    convert-one-requires add-runs-2 add-i-2 loop2-less loop2-again same-length returns)

@@ -10,9 +10,4 @@ returns c = rw (c .gather .ensures, c .before .third .ensures, c .before .before
 pub f-spec : {M : Type 1} → statement M
 f-spec =
     tie.close
-    (tie.spec
-    (λ c κs. search needs)
-    (λ c κs. search needs)
-    (λ c κs. search needs)
-    (λ c κs. search needs)
-    returns)
+    (tie.spec (λ c κs. search needs) (λ c κs. search needs) (λ c κs. search needs) (λ c κs. search needs) returns)

@@ -46,19 +46,5 @@ returns c = gather-all (c .before .loop .inv .1) (omega arith)
 pub gathered-spec : {M : Type 1} → statement M
 gathered-spec =
     tie.close
-    (tie.spec
-    Inv-loop
-    μ-loop
-    loop-holds
-    (λ c. omega arith)
-    cast-if1
-    shr-if1
-    sub-out
-    (λ c. omega arith)
-    array-write-out
-    add-k
-    (λ c. omega arith)
-    loop-again
-    (λ c. omega arith)
-    loop-again-2
-    returns)
+    (tie.spec Inv-loop μ-loop loop-holds (λ c. omega arith) cast-if1 shr-if1 sub-out (λ c. omega arith) array-write-out add-k (λ c. omega arith)
+    loop-again (λ c. omega arith) loop-again-2 returns)

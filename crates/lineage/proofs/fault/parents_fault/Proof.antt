@@ -44,15 +44,5 @@ returns-3 c =
 pub parents-fault-spec : {M : Type 1} → statement M
 parents-fault-spec =
     tie.close
-    (tie.spec
-    (λ c κs. search needs)
-    (λ c κs. search needs)
-    returns
-    record-at-requires
-    (λ c κs. search needs)
-    record-at-requires-2
-    (λ c κs. search needs)
-    (λ c. search needs)
-    (λ c κs. search needs)
-    returns-2
-    returns-3)
+    (tie.spec (λ c κs. search needs) (λ c κs. search needs) returns record-at-requires (λ c κs. search needs) record-at-requires-2
+    (λ c κs. search needs) (λ c. search needs) (λ c κs. search needs) returns-2 returns-3)

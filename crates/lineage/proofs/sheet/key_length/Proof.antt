@@ -11,10 +11,4 @@ returns-2 c = rw (c .derived-length .ensures, ne-eqb _ _ (c .before .if1 .left))
 pub key-length-spec : {M : Type 1} → statement M
 key-length-spec =
     tie.close
-    (tie.spec
-    (λ c. search needs)
-    (λ c. search needs)
-    returns
-    (λ c. search needs)
-    (λ c κs. search needs)
-    returns-2)
+    (tie.spec (λ c. search needs) (λ c. search needs) returns (λ c. search needs) (λ c κs. search needs) returns-2)

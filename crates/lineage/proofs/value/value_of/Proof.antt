@@ -47,15 +47,5 @@ returns-2 c =
 pub value-of-spec : {M : Type 1} → statement M
 value-of-spec =
     tie.close
-    (tie.spec
-    (λ c κs. search needs)
-    (λ c. search needs)
-    (λ c κs. search needs)
-    returns
-    (λ c κs. search needs)
-    value-at-requires
-    (λ c κs. search needs)
-    value-at-requires-2
-    (λ c. search needs)
-    (λ c κs. search needs)
-    returns-2)
+    (tie.spec (λ c κs. search needs) (λ c. search needs) (λ c κs. search needs) returns (λ c κs. search needs) value-at-requires
+    (λ c κs. search needs) value-at-requires-2 (λ c. search needs) (λ c κs. search needs) returns-2)

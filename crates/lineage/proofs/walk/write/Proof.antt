@@ -59,20 +59,5 @@ returns c =
 pub write-spec : {M : Type 1} → statement M
 write-spec =
     tie.close
-    (tie.spec
-    Inv-loop
-    μ-loop
-    loop-holds
-    value-of-requires
-    (λ c. search needs)
-    (λ c. search needs)
-    (λ c. search needs)
-    (λ c. search needs)
-    part-copy-start
-    part-copy-end
-    (λ c κs. search needs)
-    (λ c. search needs)
-    (λ c. search needs)
-    loop-again
-    same-length
-    returns)
+    (tie.spec Inv-loop μ-loop loop-holds value-of-requires (λ c. search needs) (λ c. search needs) (λ c. search needs) (λ c. search needs)
+    part-copy-start part-copy-end (λ c κs. search needs) (λ c. search needs) (λ c. search needs) loop-again same-length returns)

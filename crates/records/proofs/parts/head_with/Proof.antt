@@ -8,11 +8,5 @@ returns c = rw (c .byte-at3 .ensures, c .before .byte-at2 .ensures, c .before .b
 pub head-with-spec : {M : Type 1} → statement M
 head-with-spec =
     tie.close
-    (tie.spec
-    (λ c κs. search needs)
-    (λ c κs. search needs)
-    (λ c κs. search needs)
-    (λ c. search needs)
-    (λ c. search needs)
-    (λ c. search needs)
+    (tie.spec (λ c κs. search needs) (λ c κs. search needs) (λ c κs. search needs) (λ c. search needs) (λ c. search needs) (λ c. search needs)
     returns)

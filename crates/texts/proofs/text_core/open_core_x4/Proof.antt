@@ -8,8 +8,4 @@ returns c = rw (c .bl2-x4 .ensures, c .before .inputs .ensures, c .before .befor
 pub open-core-x4-spec : {M : Type 1} → statement M
 open-core-x4-spec =
     tie.close
-    (tie.spec
-    (λ c κs. search needs)
-    (λ c κs. search needs)
-    (λ c κs. search needs)
-    returns)
+    (tie.spec (λ c κs. search needs) (λ c κs. search needs) (λ c κs. search needs) returns)
