@@ -5,7 +5,6 @@ use Rattle.books.specs.BothDirections.{sizeOf}
 use Rattle.lists.proofs.LengthLaws.{records-within}
 use Rattle.standard.proofs.BytesLaws.{spelled}
 use Rattle.standard.specs.Sizes.{ringSize}
-use Rattle.books.proofs.book_call.Statement.{statement}
 use Rattle.books.proofs.book_call.Tie as tie
 
 returns : tie.Need-returns
@@ -105,7 +104,7 @@ returns-4 c =
     (all-written (now (x .ring)) (x .direction) (now (x .book)) (now (x .out)) h _ e (ring .before .if2 .left)
     (stopped .0 .none (c .before .before .before .before .before .before .if3 .left)) _ (written .0) _ _ (stopped .1) (written .1))
 
-pub book-call-spec : {M : Type 1} → statement M
+pub book-call-spec : {M : Type 1} → Rattle.books.proofs.book_call.Statement.statement M
 book-call-spec =
     tie.close
     (tie.spec (λ c κs. search needs) returns (λ c κs. search needs) (λ c κs. search needs) (λ c κs. search needs) (λ c κs. search needs) returns-2

@@ -1,7 +1,6 @@
 use Rattle.standard.proofs.Prelude.{now, needs}
 use Rattle.lists.proofs.ListReturnLaws.{answer-refused, answer-stopped, answer-done}
 use Rattle.standard.specs.Books.{checkPlain}
-use Rattle.books.proofs.check_plain.Statement.{statement}
 use Rattle.books.proofs.check_plain.Tie as tie
 
 returns : tie.Need-returns
@@ -22,7 +21,7 @@ returns-3 c =
     rw (← found .before .before .before .lengths .ensures)
     (answer-done _ _ _ _ (found .before .before .if1 .left) (found .scan .ensures .0 .none (c .if2 .left)))
 
-pub check-plain-spec : {M : Type 1} → statement M
+pub check-plain-spec : {M : Type 1} → Rattle.books.proofs.check_plain.Statement.statement M
 check-plain-spec =
     tie.close
     (tie.spec (λ c. search needs) (λ c κs. search needs) (λ c κs. search needs) returns (λ c κs. search needs) (λ c κs. search needs) returns-2

@@ -1,6 +1,5 @@
 use Rattle.standard.proofs.Prelude.{arith, needs}
 use Rattle.cards.proofs.GroupLaws.{four-erasures}
-use Rattle.cards.proofs.erasures.Statement.{statement}
 use Rattle.cards.proofs.erasures.Tie as tie
 
 returns : tie.Need-returns
@@ -11,7 +10,7 @@ returns c =
     let x = first .before .args in
     four-erasures (x .a) (x .unreadable) _ _ _ _ (first .erased .ensures .0) (second .erased2 .ensures .0) (third .erased3 .ensures .0) (c .erased4 .ensures .0)
 
-pub erasures-spec : {M : Type 1} → statement M
+pub erasures-spec : {M : Type 1} → Rattle.cards.proofs.erasures.Statement.statement M
 erasures-spec =
     tie.close
     (tie.spec (λ c κs. search needs) (λ c. search needs) (λ c κs. search needs)

@@ -1,5 +1,4 @@
 use Rattle.standard.proofs.Prelude.{eq-eqb, ne-eqb}
-use Rattle.cards.proofs.pick.Statement.{statement}
 use Rattle.cards.proofs.pick.Tie as tie
 
 returns : tie.Need-returns
@@ -8,5 +7,5 @@ returns c = rw (eq-eqb _ _ (c .if1 .taken))
 returns-2 : tie.Need-returns-2
 returns-2 c = rw (ne-eqb _ _ (c .if1 .left))
 
-pub pick-spec : {M : Type 1} → statement M
+pub pick-spec : {M : Type 1} → Rattle.cards.proofs.pick.Statement.statement M
 pick-spec = tie.close (tie.spec returns returns-2)

@@ -3,7 +3,6 @@ use Rattle.standard.proofs.FillLaws.{fill-next, filled}
 use Rattle.standard.specs.Bytes.{_!_, table, choose}
 use Rattle.standard.specs.Cards.{unreadable as unreadableOf, readable as readableOf}
 use Rattle.cards.proofs.GroupLaws.{picked}
-use Rattle.cards.proofs.readable.Statement.{statement}
 use Rattle.cards.proofs.readable.Tie as tie
 
 abbrev Inv-loop : tie.InvT-loop
@@ -30,7 +29,7 @@ returns c =
     let x = c .before .before .args in
     filled (at .out) (λ j. choose (unreadableOf (x .unreadable) j) 0 (x .t1 ! j)) 16 (at .i) (at .inv .1) (omega arith) (at .inv .2)
 
-pub readable-spec : {M : Type 1} → statement M
+pub readable-spec : {M : Type 1} → Rattle.cards.proofs.readable.Statement.statement M
 readable-spec =
     tie.close
     (tie.spec Inv-loop μ-loop (λ c. (zero-le, refl, refl)) (λ c κs. omega arith) (λ c. search needs) (λ c κs. search needs) (λ c. omega arith)

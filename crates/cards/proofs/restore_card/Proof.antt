@@ -1,7 +1,6 @@
 use Rattle.standard.proofs.Prelude.{_≡_, _∙_, length, now, needs, eq-eqb, ne-eqb}
 use Rattle.standard.proofs.BytesLaws.{failed, passed, spelled}
 use Rattle.standard.specs.Cards.{readable as readableOf, restoreCall}
-use Rattle.cards.proofs.restore_card.Statement.{statement}
 use Rattle.cards.proofs.restore_card.Tie as tie
 
 returns : tie.Need-returns
@@ -40,7 +39,7 @@ returns-4 c =
     let t = passed (agreed .agree .ensures) (c .before .before .if3 .left) in
     rw (c .key-of .ensures, c .before .restored .ensures, r, eq-eqb _ _ h, passed (fewest .at-most-one .ensures) (card .before .if2 .left), rw r at t)
 
-pub restore-card-spec : {M : Type 1} → statement M
+pub restore-card-spec : {M : Type 1} → Rattle.cards.proofs.restore_card.Statement.statement M
 restore-card-spec =
     tie.close
     (tie.spec (λ c κs. search needs) returns (λ c κs. search needs) (λ c κs. search needs) returns-2 (λ c κs. search needs) (λ c κs. search needs)

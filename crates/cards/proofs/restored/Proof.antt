@@ -3,7 +3,6 @@ use Rattle.standard.proofs.FillLaws.{fill-next, filled}
 use Rattle.standard.specs.Bytes.{_!_, table, choose}
 use Rattle.standard.specs.Cards.{unreadable as unreadableOf, groupParity, restored as restoredOf}
 use Rattle.cards.proofs.GroupLaws.{picked}
-use Rattle.cards.proofs.restored.Statement.{statement}
 use Rattle.cards.proofs.restored.Tie as tie
 
 abbrev Inv-loop : tie.InvT-loop
@@ -32,7 +31,7 @@ returns c =
     let byte : ℕ → ℕ = λ j. choose (unreadableOf (x .unreadable) j) (groupParity (x .t1) (4 * (j / 4))) (x .t1 ! j) in
     filled (at .out) byte 16 (at .i) (at .inv .1) (omega arith) (at .inv .2)
 
-pub restored-spec : {M : Type 1} → statement M
+pub restored-spec : {M : Type 1} → Rattle.cards.proofs.restored.Statement.statement M
 restored-spec =
     tie.close
     (tie.spec Inv-loop μ-loop (λ c. (zero-le, refl, refl)) (λ c κs. omega arith) (λ c. omega arith) (λ c κs. omega arith) (λ c. search needs)

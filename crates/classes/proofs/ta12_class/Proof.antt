@@ -4,7 +4,6 @@ use Rattle.standard.proofs.BytesLaws.{spelled}
 use Rattle.standard.specs.Hurdle.{schedule}
 use Rattle.standard.specs.Sizes.{challengeSize, authenticationSize}
 use Rattle.classes.proofs.ClassLaws.{same-records, key-refused, lengths-refused, room, masks-refused, all-written}
-use Rattle.classes.proofs.ta12_class.Statement.{statement}
 use Rattle.classes.proofs.ta12_class.Tie as tie
 
 returns : tie.Need-returns
@@ -55,7 +54,7 @@ returns-4 c =
     (written ∙ ap (λ (l : List ℕ). l ++ drop (authenticationSize * n) (now (x .out)))
     (same-records (now (x .session-key)) (now (x .challenges)) (x .response-mask) (x .key-mask) h (sym (masks .mask-refusal .ensures) ∙ none) n))
 
-pub ta12-class-spec : {M : Type 1} → statement M
+pub ta12-class-spec : {M : Type 1} → Rattle.classes.proofs.ta12_class.Statement.statement M
 ta12-class-spec =
     tie.close
     (tie.spec (λ c κs. search needs) returns (λ c. search needs) (λ c. search needs) (λ c κs. search needs) (λ c κs. search needs) returns-2

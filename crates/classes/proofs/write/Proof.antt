@@ -5,7 +5,6 @@ use Rattle.lists.proofs.WalkLaws.{Wrote, wrote-none, wrote-one, wrote-x4}
 use Rattle.standard.specs.Sizes.{challengeSize, authenticationSize}
 use Rattle.classes.proofs.ClassLaws.{record-length}
 use Rattle.classes.specs.ClassRecords.{recordWith}
-use Rattle.classes.proofs.write.Statement.{statement}
 use Rattle.classes.proofs.write.Tie as tie
 
 abbrev Inv-loop : tie.InvT-loop
@@ -100,7 +99,7 @@ returns c =
     let e : at .i ≡ x .n = omega (arith, at .inv .0, c .loop2-test .left) in
     rw e at (wrote .bytes)
 
-pub write-spec : {M : Type 1} → statement M
+pub write-spec : {M : Type 1} → Rattle.classes.proofs.write.Statement.statement M
 write-spec =
     tie.close
     (tie.spec Inv-loop μ-loop Inv-loop2 μ-loop2 loop-holds sub-loop write-x4-requires add-i loop-less loop-again loop2-holds write-one-requires

@@ -3,7 +3,6 @@ use Rattle.lists.proofs.WalkLaws.{replaced-lent}
 use Rattle.lists.specs.Walks.{replaceAt}
 use Rattle.standard.specs.Sizes.{authenticationSize}
 use Rattle.classes.proofs.ClassLaws.{record-made}
-use Rattle.classes.proofs.write_at.Statement.{statement}
 use Rattle.classes.proofs.write_at.Tie as tie
 
 returns : tie.Need-returns
@@ -16,7 +15,7 @@ returns c =
     ∙ ap (λ (y : List ℕ). replaceAt authenticationSize (x .i) y (now (x .out)))
     (joined .ensures ∙ record-made (x .response-mask) (x .key-mask) (x .o .output) (split .split .ensures))
 
-pub write-at-spec : {M : Type 1} → statement M
+pub write-at-spec : {M : Type 1} → Rattle.classes.proofs.write_at.Statement.statement M
 write-at-spec =
     tie.close
     (tie.spec (λ c κs. search needs) (λ c. search needs) (λ c κs. search needs) (λ c. search needs) (λ c. search needs) (λ c. search needs)

@@ -1,5 +1,4 @@
 use Rattle.standard.proofs.Prelude.{needs}
-use Rattle.classes.proofs.write_at_x4.Statement.{statement}
 use Rattle.classes.proofs.write_at_x4.Tie as tie
 
 returns : tie.Need-returns
@@ -10,7 +9,7 @@ returns c =
     let first = second .before .before .before .before .before in
     rw (fourth .write-at4 .ensures, third .write-at3 .ensures, second .write-at2 .ensures, first .write-at .ensures)
 
-pub write-at-x4-spec : {M : Type 1} → statement M
+pub write-at-x4-spec : {M : Type 1} → Rattle.classes.proofs.write_at_x4.Statement.statement M
 write-at-x4-spec =
     tie.close
     (tie.spec (λ c. search needs) (λ c κs. search needs) (λ c. search needs) (λ c. search needs) (λ c κs. search needs) (λ c. search needs)

@@ -1,6 +1,5 @@
 use Rattle.standard.proofs.Prelude.{needs}
 use Rattle.classes.specs.ClassRecords.{recordWith}
-use Rattle.classes.proofs.write_x4.Statement.{statement}
 use Rattle.classes.proofs.write_x4.Tie as tie
 
 returns : tie.Need-returns
@@ -10,7 +9,7 @@ returns c =
     let y = cores .before .inputs-at .ensures in
     rw (c .before .before .write-at-x4 .ensures, cores .bl1-with-x4 .ensures, y .0, y .1, y .2, y .3)
 
-pub write-x4-spec : {M : Type 1} → statement M
+pub write-x4-spec : {M : Type 1} → Rattle.classes.proofs.write_x4.Statement.statement M
 write-x4-spec =
     tie.close
     (tie.spec (λ c κs. search needs) (λ c κs. search needs) (λ c κs. search needs) (λ c. search needs) returns)

@@ -3,7 +3,6 @@ use Rattle.standard.proofs.FillLaws.{fill-next, filled}
 use Rattle.standard.specs.Bytes.{_!_}
 use Rattle.standard.specs.Columns.{column as columnOf}
 use Rattle.columns.proofs.FileLaws.{in-rows}
-use Rattle.columns.proofs.column.Statement.{statement}
 use Rattle.columns.proofs.column.Tie as tie
 
 abbrev Inv-loop : tie.InvT-loop
@@ -45,7 +44,7 @@ returns c =
     let x = c .before .before .args in
     filled (at .out) (λ i. now (x .rows) ! (x .width * i + x .j)) (length (now (x .out))) (at .i) (at .inv .1) (omega arith) (at .inv .2)
 
-pub column-spec : {M : Type 1} → statement M
+pub column-spec : {M : Type 1} → Rattle.columns.proofs.column.Statement.statement M
 column-spec =
     tie.close
     (tie.spec Inv-loop μ-loop loop-holds mul-out add-out shared-slice-read-out (λ c. omega arith) (λ c. omega arith) (λ c. omega arith) loop-again

@@ -1,5 +1,4 @@
 use Rattle.standard.proofs.Prelude.{mul-comm, arith, needs}
-use Rattle.columns.proofs.file.Statement.{statement}
 use Rattle.columns.proofs.file.Tie as tie
 
 transpose-requires-2 : tie.Need-transpose-requires-2
@@ -15,7 +14,7 @@ returns-2 c =
     let x = c .before .before .before .before .before .before .before .args in
     rw (c .before .before .before .before .if1 .left, c .before .before .transpose2 .ensures, mul-comm (x .n) (x .w))
 
-pub file-spec : {M : Type 1} → statement M
+pub file-spec : {M : Type 1} → Rattle.columns.proofs.file.Statement.statement M
 file-spec =
     tie.close
     (tie.spec (λ c κs. search needs) transpose-requires-2 (λ c. search needs) returns (λ c. search needs) returns-2)

@@ -3,7 +3,6 @@ use Rattle.lists.proofs.LengthLaws.{records-within}
 use Rattle.standard.specs.Bytes.{choose}
 use Rattle.standard.specs.Columns.{toColumns, fromColumns}
 use Rattle.columns.proofs.FileLaws.{lengths-refused, room, all-written}
-use Rattle.columns.proofs.rearrange.Statement.{statement}
 use Rattle.columns.proofs.rearrange.Tie as tie
 
 returns : tie.Need-returns
@@ -37,7 +36,7 @@ returns-2 c =
     let order = choose (x .back) fromColumns toColumns in
     all-written (x .size) order (now (x .book)) (now (x .out)) _ (lens .lengths-and-output .ensures) (tested .if1 .left) _ (file .file .ensures)
 
-pub rearrange-spec : {M : Type 1} → statement M
+pub rearrange-spec : {M : Type 1} → Rattle.columns.proofs.rearrange.Statement.statement M
 rearrange-spec =
     tie.close
     (tie.spec (λ c κs. search needs) (λ c κs. search needs) returns (λ c. search needs) file-requires mul-t9 (λ c. search needs) returns-2)

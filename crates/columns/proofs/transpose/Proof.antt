@@ -2,7 +2,6 @@ use Rattle.standard.proofs.Prelude.{_≡_, _-_, _≤_, zero-le, arith, now}
 use Rattle.lists.proofs.WalkLaws.{ends}
 use Rattle.standard.specs.Columns.{transposed}
 use Rattle.columns.proofs.FileLaws.{Filed, filed-none, rows-enough, filed-more}
-use Rattle.columns.proofs.transpose.Statement.{statement}
 use Rattle.columns.proofs.transpose.Tie as tie
 
 abbrev Inv-loop : tie.InvT-loop
@@ -65,7 +64,7 @@ returns c =
     let e : at .j ≡ c .before .before .before .before .args .width = omega arith in
     rw e at (at .inv .1 .bytes)
 
-pub transpose-spec : {M : Type 1} → statement M
+pub transpose-spec : {M : Type 1} → Rattle.columns.proofs.transpose.Statement.statement M
 transpose-spec =
     tie.close
     (tie.spec Inv-loop μ-loop loop-holds mul-a add-column (λ c. omega arith) part-column-start part-column-end column-requires (λ c. omega arith)

@@ -1,6 +1,5 @@
 use Rattle.standard.proofs.Prelude.{needs}
 use Rattle.cores.proofs.CoreSteps.{bl1-under}
-use Rattle.cores_x4.proofs.bl1_x4.Statement.{statement}
 use Rattle.cores_x4.proofs.bl1_x4.Tie as tie
 
 returns : tie.Need-returns
@@ -16,7 +15,7 @@ returns c =
     let e₃ = bl1-under (x .k .d) (x .x .d) (fourth .schedule4 .ensures) in
     rw (c .bl1-with-x4 .ensures, e₀, e₁, e₂, e₃)
 
-pub bl1-x4-spec : {M : Type 1} → statement M
+pub bl1-x4-spec : {M : Type 1} → Rattle.cores_x4.proofs.bl1_x4.Statement.statement M
 bl1-x4-spec =
     tie.close
     (tie.spec (λ c κs. search needs) (λ c κs. search needs) (λ c κs. search needs) (λ c κs. search needs) (λ c κs. search needs) returns)

@@ -6,7 +6,6 @@ use Rattle.standard.specs.Lists.{each}
 use Rattle.standard.specs.Sizes.{diffusionSize}
 use Rattle.diffusion.proofs.CountLaws.{counted-none, counted-record}
 use Rattle.diffusion.specs.ChangeCounts.{Counted}
-use Rattle.diffusion.proofs.count.Statement.{statement}
 use Rattle.diffusion.proofs.count.Tie as tie
 
 abbrev Inv-loop : tie.InvT-loop
@@ -39,7 +38,7 @@ returns c =
     let e : at .i ≡ c .before .before .before .args .n = omega arith in
     rw e at (at .inv .1)
 
-pub count-spec : {M : Type 1} → statement M
+pub count-spec : {M : Type 1} → Rattle.diffusion.proofs.count.Statement.statement M
 count-spec =
     tie.close
     (tie.spec Inv-loop μ-loop loop-holds (λ c. omega arith) (λ c. omega arith) (λ c. omega arith) (λ c. omega arith) (λ c. omega arith)

@@ -3,7 +3,6 @@ use Rattle.standard.proofs.BytesLaws.{length-table}
 use Rattle.standard.specs.Bytes.{table}
 use Rattle.diffusion.proofs.CountLaws.{counted-none, counted-four}
 use Rattle.diffusion.specs.ChangeCounts.{changeWith, Counted}
-use Rattle.diffusion.proofs.count_flips.Statement.{statement}
 use Rattle.diffusion.proofs.count_flips.Tie as tie
 
 abbrev Inv-loop : tie.InvT-loop
@@ -39,7 +38,7 @@ returns c =
     let e : c .before .loop .q ≡ 16 = omega arith in
     rw e at (c .before .loop .inv .1)
 
-pub count-flips-spec : {M : Type 1} → statement M
+pub count-flips-spec : {M : Type 1} → Rattle.diffusion.proofs.count_flips.Statement.statement M
 count-flips-spec =
     tie.close
     (tie.spec Inv-loop μ-loop (λ c κs. tt) loop-holds (λ c. omega arith) four-changes-requires counted4-requires (λ c. omega arith) (λ c. omega arith)

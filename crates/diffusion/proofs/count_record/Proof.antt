@@ -3,7 +3,6 @@ use Rattle.standard.proofs.BytesLaws.{part-lent}
 use Rattle.standard.specs.Bytes.{part}
 use Rattle.standard.specs.Hurdle.{schedule}
 use Rattle.diffusion.proofs.CountLaws.{counted-flips}
-use Rattle.diffusion.proofs.count_record.Statement.{statement}
 use Rattle.diffusion.proofs.count_record.Tie as tie
 
 returns : tie.Need-returns
@@ -15,7 +14,7 @@ returns c =
     counted-flips _ _ r (made .schedule .ensures ∙ ap schedule (made .before .array16 .ensures))
     (c .before .array8 .ensures ∙ ap (part 0 8) (part-lent 16 8 r h)) (c .count-flips .ensures)
 
-pub count-record-spec : {M : Type 1} → statement M
+pub count-record-spec : {M : Type 1} → Rattle.diffusion.proofs.count_record.Statement.statement M
 count-record-spec =
     tie.close
     (tie.spec (λ c κs. search needs) (λ c κs. search needs) (λ c. search needs) (λ c. search needs) (λ c. search needs) (λ c κs. search needs)

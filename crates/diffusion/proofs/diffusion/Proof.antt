@@ -2,7 +2,6 @@ use Rattle.standard.proofs.Prelude.{sym, _∙_, arith, length, now, needs}
 use Rattle.lists.proofs.LengthLaws.{records-within, few-records}
 use Rattle.standard.specs.Sizes.{diffusionSize}
 use Rattle.diffusion.proofs.CountLaws.{list-refused, no-records, all-counted}
-use Rattle.diffusion.proofs.diffusion.Statement.{statement}
 use Rattle.diffusion.proofs.diffusion.Tie as tie
 
 returns : tie.Need-returns
@@ -42,7 +41,7 @@ returns-3 c =
     all-counted xs _ (tested .lengths .ensures) (c .before .before .if1 .left) (c .before .if2 .left)
     (λ i. omega (arith, tested .before .shared-slice-known .given i)) _ _ _ (c .count .ensures)
 
-pub diffusion-spec : {M : Type 1} → statement M
+pub diffusion-spec : {M : Type 1} → Rattle.diffusion.proofs.diffusion.Statement.statement M
 diffusion-spec =
     tie.close
     (tie.spec (λ c. search needs) (λ c κs. search needs) (λ c κs. search needs) returns (λ c κs. search needs) returns-2 count-requires cast-t5 mul-t8

@@ -1,6 +1,5 @@
 use Rattle.standard.proofs.Prelude.{_+_, now, needs}
 use Rattle.diffusion.proofs.CountLaws.{changed-is, lane-same}
-use Rattle.diffusion.proofs.four_changes.Statement.{statement}
 use Rattle.diffusion.proofs.four_changes.Tie as tie
 
 returns : tie.Need-returns
@@ -22,5 +21,5 @@ returns c =
       c .differences .ensures .1,
     )
 
-pub four-changes-spec : {M : Type 1} → statement M
+pub four-changes-spec : {M : Type 1} → Rattle.diffusion.proofs.four_changes.Statement.statement M
 four-changes-spec = tie.close (tie.spec (λ c κs. search needs) (λ c κs. search needs) (λ c κs. search needs) returns)

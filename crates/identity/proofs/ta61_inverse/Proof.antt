@@ -1,7 +1,6 @@
 use Rattle.standard.proofs.Prelude.{now, needs, eq-eqb, ne-eqb, lt-ltb, le-ltb}
 use Rattle.standard.proofs.BytesLaws.{spelled}
 use Rattle.standard.specs.Identity.{ta61⁻¹Call}
-use Rattle.identity.proofs.ta61_inverse.Statement.{statement}
 use Rattle.identity.proofs.ta61_inverse.Tie as tie
 
 returns : tie.Need-returns
@@ -22,7 +21,7 @@ returns-3 c =
     rw (c .number3 .ensures, c .before .decrypt-identity .ensures, c .before .before .bytes3 .ensures, made .bc .ensures, made .before .array10 .ensures)
     (rw (key, eq-eqb _ _ long, lt-ltb _ _ (tested .if2 .left)))
 
-pub ta61-inverse-spec : {M : Type 1} → statement M
+pub ta61-inverse-spec : {M : Type 1} → Rattle.identity.proofs.ta61_inverse.Statement.statement M
 ta61-inverse-spec =
     tie.close
     (tie.spec (λ c κs. search needs) returns (λ c κs. search needs) returns-2 (λ c κs. search needs) (λ c κs. search needs) (λ c κs. search needs)

@@ -1,6 +1,5 @@
 use Rattle.standard.proofs.Prelude.{needs}
 use Rattle.standard.proofs.BytesLaws.{failed, passed}
-use Rattle.inverses.proofs.confirmed.Statement.{statement}
 use Rattle.inverses.proofs.confirmed.Tie as tie
 
 returns : tie.Need-returns
@@ -9,7 +8,7 @@ returns c = rw (c .refused .ensures, failed (c .before .before .same .ensures) (
 returns-2 : tie.Need-returns-2
 returns-2 c = rw (passed (c .before .same .ensures) (c .if1 .left))
 
-pub confirmed-spec : {M : Type 1} → statement M
+pub confirmed-spec : {M : Type 1} → Rattle.inverses.proofs.confirmed.Statement.statement M
 confirmed-spec =
     tie.close
     (tie.spec (λ c. search needs) (λ c κs. search needs) (λ c κs. search needs) returns returns-2)

@@ -5,7 +5,6 @@ use Rattle.standard.specs.Bytes.{part}
 use Rattle.standard.specs.Inverses.{tb1⁻¹Call}
 use Rattle.standard.specs.Refusals.{wide}
 use Rattle.inverses.proofs.AgainLaws.{tb1-again}
-use Rattle.inverses.proofs.tb1_inverse.Statement.{statement}
 use Rattle.inverses.proofs.tb1_inverse.Tie as tie
 
 returns : tie.Need-returns
@@ -40,7 +39,7 @@ returns-3 c =
       t,
     )
 
-pub tb1-inverse-spec : {M : Type 1} → statement M
+pub tb1-inverse-spec : {M : Type 1} → Rattle.inverses.proofs.tb1_inverse.Statement.statement M
 tb1-inverse-spec =
     tie.close
     (tie.spec (λ c κs. search needs) returns (λ c κs. search needs) (λ c κs. search needs) returns-2 (λ c κs. search needs) field-requires

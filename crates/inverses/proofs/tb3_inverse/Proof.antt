@@ -5,7 +5,6 @@ use Rattle.standard.specs.Bytes.{xors}
 use Rattle.standard.specs.Inverses.{tb3⁻¹Call}
 use Rattle.standard.specs.Refusals.{hasLength, wide}
 use Rattle.inverses.proofs.AgainLaws.{result-length, tb3-again}
-use Rattle.inverses.proofs.tb3_inverse.Statement.{statement}
 use Rattle.inverses.proofs.tb3_inverse.Tie as tie
 
 returns : tie.Need-returns
@@ -55,7 +54,7 @@ returns-3 c =
       t,
     )
 
-pub tb3-inverse-spec : {M : Type 1} → statement M
+pub tb3-inverse-spec : {M : Type 1} → Rattle.inverses.proofs.tb3_inverse.Statement.statement M
 tb3-inverse-spec =
     tie.close
     (tie.spec (λ c κs. search needs) (λ c κs. search needs) returns (λ c κs. search needs) (λ c κs. search needs) returns-2 (λ c κs. search needs)

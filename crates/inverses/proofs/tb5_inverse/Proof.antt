@@ -4,7 +4,6 @@ use Rattle.standard.specs.Bytes.{xors}
 use Rattle.standard.specs.Inverses.{tb5⁻¹Call}
 use Rattle.standard.specs.Refusals.{hasLength}
 use Rattle.inverses.proofs.AgainLaws.{result-length, tb5-again}
-use Rattle.inverses.proofs.tb5_inverse.Statement.{statement}
 use Rattle.inverses.proofs.tb5_inverse.Tie as tie
 
 returns : tie.Need-returns
@@ -63,7 +62,7 @@ returns-3 c =
       passed e (c .if2 .left),
     )
 
-pub tb5-inverse-spec : {M : Type 1} → statement M
+pub tb5-inverse-spec : {M : Type 1} → Rattle.inverses.proofs.tb5_inverse.Statement.statement M
 tb5-inverse-spec =
     tie.close
     (tie.spec (λ c κs. search needs) (λ c κs. search needs) returns (λ c κs. search needs) (λ c κs. search needs) (λ c κs. search needs)

@@ -4,7 +4,6 @@ use Rattle.standard.specs.Bytes.{xors}
 use Rattle.standard.specs.Inverses.{tb6⁻¹Call}
 use Rattle.standard.specs.Refusals.{hasLength}
 use Rattle.inverses.proofs.AgainLaws.{result-length, tb6-again}
-use Rattle.inverses.proofs.tb6_inverse.Statement.{statement}
 use Rattle.inverses.proofs.tb6_inverse.Tie as tie
 
 returns : tie.Need-returns
@@ -52,7 +51,7 @@ returns-3 c =
     ) at (c .before .same .ensures) in
     rw (made .before .field2 .ensures, made .before .before .field .ensures, made .before .before .before .unmixed .ensures, l, passed e (c .if2 .left))
 
-pub tb6-inverse-spec : {M : Type 1} → statement M
+pub tb6-inverse-spec : {M : Type 1} → Rattle.inverses.proofs.tb6_inverse.Statement.statement M
 tb6-inverse-spec =
     tie.close
     (tie.spec (λ c κs. search needs) (λ c κs. search needs) returns (λ c κs. search needs) (λ c κs. search needs) (λ c κs. search needs)

@@ -2,7 +2,6 @@ use Rattle.standard.proofs.Prelude.{_≡_, sym, _∙_, true, false, _&&_, leb, 
 use Rattle.standard.proofs.DerivationLaws.{masks-ones}
 use Rattle.standard.specs.Derivation.{ringOf}
 use Rattle.standard.specs.Refusals.{maskTests, first}
-use Rattle.keys.proofs.ring_of.Statement.{statement}
 use Rattle.keys.proofs.ring_of.Tie as tie
 
 returns : tie.Need-returns
@@ -32,7 +31,7 @@ returns-3 c =
     let m : first (maskTests (x .«response_mask») (x .«key_mask»)) ≡ 0 = sym (masked .mask-refusal .ensures) ∙ c .before .if2 .left in
     rw (c .make .ensures, t, m)
 
-pub ring-of-spec : {M : Type 1} → statement M
+pub ring-of-spec : {M : Type 1} → Rattle.keys.proofs.ring_of.Statement.statement M
 ring-of-spec =
     tie.close
     (tie.spec (λ c κs. search needs) returns (λ c κs. search needs) (λ c κs. search needs) returns-2 make-requires returns-3)

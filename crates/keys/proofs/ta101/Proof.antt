@@ -1,7 +1,6 @@
 use Rattle.standard.proofs.Prelude.{now, needs, lt-ltb, le-ltb}
 use Rattle.standard.proofs.BytesLaws.{failed, passed, both-spelled}
 use Rattle.standard.specs.Derivation.{ta101Call}
-use Rattle.keys.proofs.ta101.Statement.{statement}
 use Rattle.keys.proofs.ta101.Tie as tie
 
 returns : tie.Need-returns
@@ -33,7 +32,7 @@ returns-3 c =
       lt-ltb _ _ (fit .if2 .left),
     )
 
-pub ta101-spec : {M : Type 1} → statement M
+pub ta101-spec : {M : Type 1} → Rattle.keys.proofs.ta101.Statement.statement M
 ta101-spec =
     tie.close
     (tie.spec (λ c κs. search needs) (λ c κs. search needs) returns (λ c κs. search needs) returns-2 (λ c κs. search needs) (λ c κs. search needs)

@@ -4,7 +4,6 @@ use Rattle.standard.proofs.DerivationLaws.{masks-ones}
 use Rattle.standard.specs.Derivation.{ta12Call}
 use Rattle.standard.specs.Refusals.{maskTests, first}
 use Rattle.keys.proofs.MaskLaws.{whole-split}
-use Rattle.keys.proofs.ta12.Statement.{statement}
 use Rattle.keys.proofs.ta12.Tie as tie
 
 returns : tie.Need-returns
@@ -39,7 +38,7 @@ returns-3 c =
       m,
     )
 
-pub ta12-spec : {M : Type 1} → statement M
+pub ta12-spec : {M : Type 1} → Rattle.keys.proofs.ta12.Statement.statement M
 ta12-spec =
     tie.close
     (tie.spec (λ c κs. search needs) (λ c κs. search needs) returns (λ c κs. search needs) (λ c κs. search needs) returns-2 (λ c κs. search needs)

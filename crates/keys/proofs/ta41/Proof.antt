@@ -1,11 +1,10 @@
 use Rattle.standard.proofs.Prelude.{needs}
 use Rattle.standard.specs.Derivation.{ta11Call, ta41Call}
-use Rattle.keys.proofs.ta41.Statement.{statement}
 use Rattle.keys.proofs.ta41.Tie as tie
 
 returns : tie.Need-returns
 unfolding ta11Call ta41Call
 returns c = c .ta11 .ensures
 
-pub ta41-spec : {M : Type 1} → statement M
+pub ta41-spec : {M : Type 1} → Rattle.keys.proofs.ta41.Statement.statement M
 ta41-spec = tie.close (tie.spec (λ c κs. search needs) returns)

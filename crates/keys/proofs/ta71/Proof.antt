@@ -1,7 +1,6 @@
 use Rattle.standard.proofs.Prelude.{needs}
 use Rattle.standard.proofs.BytesLaws.{failed, passed}
 use Rattle.standard.specs.Derivation.{ta71, ta71Key, ta71Call}
-use Rattle.keys.proofs.ta71.Statement.{statement}
 use Rattle.keys.proofs.ta71.Tie as tie
 
 returns : tie.Need-returns
@@ -19,7 +18,7 @@ returns-2 c =
       passed (tested .before .have-lengths .ensures) (tested .if1 .left),
     )
 
-pub ta71-spec : {M : Type 1} → statement M
+pub ta71-spec : {M : Type 1} → Rattle.keys.proofs.ta71.Statement.statement M
 ta71-spec =
     tie.close
     (tie.spec (λ c κs. search needs) (λ c κs. search needs) returns (λ c κs. search needs) (λ c κs. search needs) (λ c κs. search needs) returns-2)

@@ -1,7 +1,6 @@
 use Rattle.standard.proofs.Prelude.{_≡_, true, false, _&&_, now, needs, not-true, not-false}
 use Rattle.standard.proofs.BytesLaws.{and-split, length-spelled}
 use Rattle.standard.specs.Refusals.{hasLength}
-use Rattle.keys.proofs.under_root.Statement.{statement}
 use Rattle.keys.proofs.under_root.Tie as tie
 
 returns : tie.Need-returns
@@ -16,7 +15,7 @@ returns-2 c =
     let t : hasLength 16 (now (x .root)) && x .seed-has-length ≡ true = not-false _ (c .before .before .if1 .left) in
     rw (c .core .ensures, c .before .array16 .ensures, length-spelled 16 (now (x .root)) (and-split _ (x .seed-has-length) t .0), t)
 
-pub under-root-spec : {M : Type 1} → statement M
+pub under-root-spec : {M : Type 1} → Rattle.keys.proofs.under_root.Statement.statement M
 under-root-spec =
     tie.close
     (tie.spec (λ c κs. search needs) returns (λ c κs. search needs) (λ c κs. search needs) returns-2)

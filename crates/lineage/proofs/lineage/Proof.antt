@@ -2,7 +2,6 @@ use Rattle.standard.proofs.Prelude.{length, now, needs}
 use Rattle.lineage.proofs.SheetLaws.{lengths-refused, record-refused, all-written, room}
 use Rattle.lists.proofs.LengthLaws.{records-within}
 use Rattle.standard.specs.Sizes.{sheetSize}
-use Rattle.lineage.proofs.lineage.Statement.{statement}
 use Rattle.lineage.proofs.lineage.Tie as tie
 
 returns : tie.Need-returns
@@ -39,7 +38,7 @@ returns-3 c =
     all-written (now (x .sheet)) (now (x .out)) _ (lens .lengths-and-output .ensures) (found .before .if1 .left)
     (found .scan .ensures .none (made .before .before .if2 .left)) _ (made .write .ensures)
 
-pub lineage-spec : {M : Type 1} → statement M
+pub lineage-spec : {M : Type 1} → Rattle.lineage.proofs.lineage.Statement.statement M
 lineage-spec =
     tie.close
     (tie.spec (λ c. search needs) (λ c. search needs) (λ c κs. search needs) (λ c κs. search needs) returns (λ c κs. search needs)

@@ -1,6 +1,5 @@
 use Rattle.standard.proofs.Prelude.{needs, lt-ltb, le-ltb}
 use Rattle.standard.specs.Text.{hexDigit}
-use Rattle.lines.proofs.hex_digit.Statement.{statement}
 use Rattle.lines.proofs.hex_digit.Tie as tie
 
 returns : tie.Need-returns
@@ -11,5 +10,5 @@ returns-2 : tie.Need-returns-2
 unfolding hexDigit
 returns-2 c = rw (le-ltb _ _ (c .if1 .left))
 
-pub hex-digit-spec : {M : Type 1} → statement M
+pub hex-digit-spec : {M : Type 1} → Rattle.lines.proofs.hex_digit.Statement.statement M
 hex-digit-spec = tie.close (tie.spec (λ c. search needs) (λ c. search needs) returns returns-2)

@@ -1,7 +1,6 @@
 use Rattle.standard.proofs.Prelude.{sym, _∙_, _*_, _/_, _≤_, arith, needs, le-leb, lt-leb}
 use native.Mathlib.Nat.{mul-le-mul}
 use Rattle.lists.proofs.LengthLaws.{few-records, output-last, output-tested}
-use Rattle.lists.proofs.lengths_and_output.Statement.{statement}
 use Rattle.lists.proofs.lengths_and_output.Tie as tie
 
 returns : tie.Need-returns
@@ -36,7 +35,7 @@ returns-3 c =
       le-leb _ _ (rw (c .before .count .ensures) at (c .if2 .left)),
     )
 
-pub lengths-and-output-spec : {M : Type 1} → statement M
+pub lengths-and-output-spec : {M : Type 1} → Rattle.lists.proofs.lengths_and_output.Statement.statement M
 lengths-and-output-spec =
     tie.close
     (tie.spec (λ c κs. search needs) returns (λ c κs. search needs) mul-if2 returns-2 returns-3)

@@ -2,7 +2,6 @@ use Rattle.standard.proofs.Prelude.{arith, needs, ltb-true}
 use Rattle.standard.proofs.BytesLaws.{failed, passed}
 use Rattle.mixing.proofs.FieldLaws.{wide-split}
 use Rattle.standard.specs.Mixing.{tb1Call}
-use Rattle.mixing.proofs.tb1.Statement.{statement}
 use Rattle.mixing.proofs.tb1.Tie as tie
 
 returns : tie.Need-returns
@@ -32,7 +31,7 @@ returns-3 c =
     let x = c .before .before .before in
     rw (c .tb1-of .ensures, passed (x .before .wide .ensures) (x .if1 .left), passed (c .before .before .fits-in .ensures) (c .before .if2 .left))
 
-pub tb1-spec : {M : Type 1} → statement M
+pub tb1-spec : {M : Type 1} → Rattle.mixing.proofs.tb1.Statement.statement M
 tb1-spec =
     tie.close
     (tie.spec (λ c κs. search needs) (λ c κs. search needs) returns fits-in-requires (λ c κs. search needs) returns-2 tb1-of-requires returns-3)

@@ -2,7 +2,6 @@ use Rattle.standard.proofs.Prelude.{arith, needs, eq-eqb, ne-eqb, ltb-true}
 use Rattle.standard.proofs.BytesLaws.{failed, passed}
 use Rattle.mixing.proofs.FieldLaws.{wide-split}
 use Rattle.standard.specs.Mixing.{tb3, tb3Call}
-use Rattle.mixing.proofs.tb3.Statement.{statement}
 use Rattle.mixing.proofs.tb3.Tie as tie
 
 returns : tie.Need-returns
@@ -50,7 +49,7 @@ returns-4 c =
       passed (x .before .fits-in .ensures) (x .if3 .left),
     )
 
-pub tb3-spec : {M : Type 1} → statement M
+pub tb3-spec : {M : Type 1} → Rattle.mixing.proofs.tb3.Statement.statement M
 tb3-spec =
     tie.close
     (tie.spec (λ c κs. search needs) returns (λ c κs. search needs) (λ c κs. search needs) returns-2 fits-in-requires (λ c κs. search needs) returns-3

@@ -1,7 +1,6 @@
 use Rattle.standard.proofs.Prelude.{needs}
 use Rattle.standard.proofs.BytesLaws.{failed, passed}
 use Rattle.standard.specs.Mixing.{tb4Call}
-use Rattle.mixing.proofs.tb4.Statement.{statement}
 use Rattle.mixing.proofs.tb4.Tie as tie
 
 returns : tie.Need-returns
@@ -19,7 +18,7 @@ returns-2 c =
       passed (tested .before .have-lengths .ensures) (tested .if1 .left),
     )
 
-pub tb4-spec : {M : Type 1} → statement M
+pub tb4-spec : {M : Type 1} → Rattle.mixing.proofs.tb4.Statement.statement M
 tb4-spec =
     tie.close
     (tie.spec (λ c κs. search needs) (λ c κs. search needs) returns (λ c κs. search needs) (λ c κs. search needs) (λ c κs. search needs) returns-2)

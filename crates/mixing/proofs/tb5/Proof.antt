@@ -1,7 +1,6 @@
 use Rattle.standard.proofs.Prelude.{ap₂, _&&_, needs, eq-eqb, ne-eqb, ltb-true}
 use Rattle.standard.proofs.BytesLaws.{and-split, failed, passed}
 use Rattle.standard.specs.Mixing.{tb5, tb5Call}
-use Rattle.mixing.proofs.tb5.Statement.{statement}
 use Rattle.mixing.proofs.tb5.Tie as tie
 
 returns : tie.Need-returns
@@ -30,7 +29,7 @@ returns-3 c =
     let e = ap₂ _&&_ (ap₂ _&&_ (x .before .before .fits-in .ensures) (x .before .fits-in2 .ensures)) (x .fits-in3 .ensures) in
     rw (c .tb5-of .ensures, c .before .array10 .ensures, eq-eqb _ _ (x .before .before .before .if1 .left), passed e (c .before .before .if2 .left))
 
-pub tb5-spec : {M : Type 1} → statement M
+pub tb5-spec : {M : Type 1} → Rattle.mixing.proofs.tb5.Statement.statement M
 tb5-spec =
     tie.close
     (tie.spec (λ c κs. search needs) returns (λ c κs. search needs) (λ c κs. search needs) (λ c κs. search needs) (λ c κs. search needs) returns-2

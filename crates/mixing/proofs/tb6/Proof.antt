@@ -1,7 +1,6 @@
 use Rattle.standard.proofs.Prelude.{ap₂, _&&_, needs, eq-eqb, ne-eqb, ltb-true}
 use Rattle.standard.proofs.BytesLaws.{and-split, failed, passed}
 use Rattle.standard.specs.Mixing.{tb6, tb6Call}
-use Rattle.mixing.proofs.tb6.Statement.{statement}
 use Rattle.mixing.proofs.tb6.Tie as tie
 
 returns : tie.Need-returns
@@ -29,7 +28,7 @@ returns-3 c =
     let e = ap₂ _&&_ (x .before .fits-in .ensures) (x .fits-in2 .ensures) in
     rw (c .tb6-of .ensures, c .before .array10 .ensures, eq-eqb _ _ (x .before .before .if1 .left), passed e (c .before .before .if2 .left))
 
-pub tb6-spec : {M : Type 1} → statement M
+pub tb6-spec : {M : Type 1} → Rattle.mixing.proofs.tb6.Statement.statement M
 tb6-spec =
     tie.close
     (tie.spec (λ c κs. search needs) returns (λ c κs. search needs) (λ c κs. search needs) (λ c κs. search needs) returns-2 (λ c κs. search needs)

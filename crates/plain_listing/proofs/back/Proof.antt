@@ -1,6 +1,5 @@
 use Rattle.standard.proofs.Prelude.{arith, needs}
 use Rattle.plain_listing.proofs.ListLaws.{key-short}
-use Rattle.plain_listing.proofs.back.Statement.{statement}
 use Rattle.plain_listing.proofs.back.Tie as tie
 
 add-end : tie.Need-add-end
@@ -17,7 +16,7 @@ returns c =
     rw (c .word3 .ensures, number .number .ensures, number .before .word2 .ensures)
     (rw (hex .hex .ensures, word .word .ensures, word .before .before .key-length .ensures))
 
-pub back-spec : {M : Type 1} → statement M
+pub back-spec : {M : Type 1} → Rattle.plain_listing.proofs.back.Statement.statement M
 back-spec =
     tie.close
     (tie.spec (λ c κs. search needs) add-end (λ c. search needs) (λ c κs. search needs) (λ c. search needs) (λ c. search needs) part-hex-end

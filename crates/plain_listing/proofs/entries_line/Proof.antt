@@ -2,7 +2,6 @@ use Rattle.standard.proofs.Prelude.{needs}
 use Rattle.plain_listing.proofs.ListLaws.{entries-short}
 use Rattle.standard.specs.Listing.{entriesLine}
 use Rattle.lines.proofs.LineLaws.{append, uncut}
-use Rattle.plain_listing.proofs.entries_line.Statement.{statement}
 use Rattle.plain_listing.proofs.entries_line.Tie as tie
 
 returns : tie.Need-returns
@@ -13,7 +12,7 @@ returns c =
     (simp append (rw (c .word2 .ensures, number .decimal .ensures, number .before .word .ensures, number .before .before .before .empty .ensures)))
     (entries-short _)
 
-pub entries-line-spec : {M : Type 1} → statement M
+pub entries-line-spec : {M : Type 1} → Rattle.plain_listing.proofs.entries_line.Statement.statement M
 entries-line-spec =
     tie.close
     (tie.spec (λ c κs. search needs) (λ c. search needs) (λ c κs. search needs) (λ c κs. search needs) (λ c. search needs) (λ c κs. search needs)

@@ -5,7 +5,6 @@ use Rattle.standard.specs.Books.{recordKind}
 use Rattle.standard.specs.Listing.{entryLine}
 use Rattle.standard.specs.Seals.{keyLength}
 use Rattle.lines.proofs.LineLaws.{append, uncut}
-use Rattle.plain_listing.proofs.entry_line.Statement.{statement}
 use Rattle.plain_listing.proofs.entry_line.Tie as tie
 
 returns : tie.Need-returns
@@ -21,7 +20,7 @@ returns c =
     (simp append (rw (← identity, ← key, ← add-sub-cancel-left 6 k, ← e, c .back .ensures, c .before .before .before .front .ensures)))
     (entry-short (x .args .index) p)
 
-pub entry-line-spec : {M : Type 1} → statement M
+pub entry-line-spec : {M : Type 1} → Rattle.plain_listing.proofs.entry_line.Statement.statement M
 entry-line-spec =
     tie.close
     (tie.spec (λ c κs. search needs) (λ c. search needs) (λ c κs. search needs) (λ c κs. search needs) returns)

@@ -7,7 +7,6 @@ use Rattle.standard.specs.Listing.{entryLine, entryLines}
 use Rattle.standard.specs.Lists.{recordAt}
 use Rattle.lines.proofs.LineLaws.{put-keeps, put-none, lines-next, lines-most}
 use Rattle.lines.specs.Lines.{putCall}
-use Rattle.plain_listing.proofs.entry_lines.Statement.{statement}
 use Rattle.plain_listing.proofs.entry_lines.Tie as tie
 
 -- the line of record i
@@ -61,7 +60,7 @@ returns c =
     let e : at .i ≡ c .before .before .before .before .args .n = omega arith in
     rw e at (at .inv .1)
 
-pub entry-lines-spec : {M : Type 1} → statement M
+pub entry-lines-spec : {M : Type 1} → Rattle.plain_listing.proofs.entry_lines.Statement.statement M
 entry-lines-spec =
     tie.close
     (tie.spec Inv-loop μ-loop loop-holds (λ c. omega arith) (λ c. omega arith) (λ c. omega arith) (λ c. omega arith) (λ c. omega arith)

@@ -1,5 +1,4 @@
 use Rattle.standard.proofs.Prelude.{needs}
-use Rattle.plain_listing.proofs.front.Statement.{statement}
 use Rattle.plain_listing.proofs.front.Tie as tie
 
 returns : tie.Need-returns
@@ -13,7 +12,7 @@ returns c =
     (rw (kind .decimal2 .ensures, kind .before .word2 .ensures, index .decimal .ensures, index .before .word .ensures)
     (rw (empty .empty .ensures, version .pair .ensures, version .before .before .before .wide .ensures)))
 
-pub front-spec : {M : Type 1} → statement M
+pub front-spec : {M : Type 1} → Rattle.plain_listing.proofs.front.Statement.statement M
 front-spec =
     tie.close
     (tie.spec (λ c. search needs) (λ c κs. search needs) (λ c. search needs) (λ c. search needs) (λ c κs. search needs) (λ c κs. search needs)

@@ -2,7 +2,6 @@ use Rattle.standard.proofs.Prelude.{_≡_, ap, List, ℕ, arith, length, now, n
 use Rattle.plain_listing.proofs.ListLaws.{last-short, lines-short, entries-put}
 use Rattle.standard.specs.Listing.{entryLines}
 use Rattle.lines.specs.Lines.{shown}
-use Rattle.plain_listing.proofs.list_entries.Statement.{statement}
 use Rattle.plain_listing.proofs.list_entries.Tie as tie
 
 -- both lengths are small
@@ -27,7 +26,7 @@ returns c =
     let x = lines .before .before .before .before .args in
     entries-put (x .n) (now (x .plain)) (now (x .out)) (last .entries-line .ensures) (lines .entry-lines .ensures) (put .put .ensures)
 
-pub list-entries-spec : {M : Type 1} → statement M
+pub list-entries-spec : {M : Type 1} → Rattle.plain_listing.proofs.list_entries.Statement.statement M
 list-entries-spec =
     tie.close
     (tie.spec (λ c κs. search needs) (λ c κs. search needs) (λ c κs. search needs) add-result (λ c. search needs) returns)

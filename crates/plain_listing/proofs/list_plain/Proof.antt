@@ -2,7 +2,6 @@ use Rattle.standard.proofs.Prelude.{_≡_, sym, ap, _∙_, List, ℕ, _≤_, ar
 use Rattle.plain_listing.proofs.ListLaws.{accepted-few, listed, listing-refused, listing-entries}
 use Rattle.standard.specs.Listing.{listingRoom}
 use Rattle.standard.specs.declared.BookAnswer.{BookAnswer}
-use Rattle.plain_listing.proofs.list_plain.Statement.{statement}
 use Rattle.plain_listing.proofs.list_plain.Tie as tie
 
 returns : tie.Need-returns
@@ -29,7 +28,7 @@ returns-2 c =
     let entries = listing-entries (now (x .plain)) (check .check-plain .ensures) (c .before .before .if1 .left) in
     listed (now (x .plain)) (now (x .out)) room (rw entries (c .list-entries .ensures))
 
-pub list-plain-spec : {M : Type 1} → statement M
+pub list-plain-spec : {M : Type 1} → Rattle.plain_listing.proofs.list_plain.Statement.statement M
 list-plain-spec =
     tie.close
     (tie.spec (λ c κs. search needs) (λ c κs. search needs) (λ c κs. search needs) returns list-entries-requires returns-2)

@@ -1,5 +1,4 @@
 use Rattle.standard.proofs.Prelude.{needs}
-use Rattle.plain_listing.proofs.number.Statement.{statement}
 use Rattle.plain_listing.proofs.number.Tie as tie
 
 returns : tie.Need-returns
@@ -14,7 +13,7 @@ returns-3 c = rw (c .decimal2 .ensures, c .before .pair .ensures, c .before .bef
 returns-4 : tie.Need-returns-4
 returns-4 c = rw (c .before .before .enum-told4 .given .1) (c .word2 .ensures)
 
-pub number-spec : {M : Type 1} → statement M
+pub number-spec : {M : Type 1} → Rattle.plain_listing.proofs.number.Statement.statement M
 number-spec =
     tie.close
     (tie.spec (λ c. search needs) (λ c. search needs) (λ c κs. search needs) (λ c. search needs) (λ c. search needs) (λ c κs. search needs)

@@ -4,7 +4,6 @@ use Rattle.standard.specs.Listing.{refusedAt, refusedLine}
 use Rattle.standard.specs.Text.{ascii}
 use Rattle.lines.proofs.LineLaws.{behind, uncut}
 use Rattle.lines.specs.Lines.{emptyLine}
-use Rattle.plain_listing.proofs.refused_line.Statement.{statement}
 use Rattle.plain_listing.proofs.refused_line.Tie as tie
 
 returns : tie.Need-returns
@@ -14,6 +13,6 @@ returns c =
     (behind emptyLine (refusedAt _ _) (ascii "\n") (c .before .before .refused-at .ensures) (c .word .ensures))
     (refused-short _ _)
 
-pub refused-line-spec : {M : Type 1} → statement M
+pub refused-line-spec : {M : Type 1} → Rattle.plain_listing.proofs.refused_line.Statement.statement M
 refused-line-spec =
     tie.close (tie.spec (λ c κs. search needs) (λ c. search needs) (λ c κs. search needs) returns)

@@ -2,7 +2,6 @@ use Rattle.standard.proofs.Prelude.{_≡_, refl, _-_, _≤_, zero-le, arith}
 use Rattle.standard.proofs.HurdleLaws.{permuted}
 use Rattle.standard.proofs.TableLaws.{Placed, placed-none, placed-more, placed-all}
 use Rattle.standard.specs.Hurdle.{S}
-use Rattle.printed_tables.proofs.inverse.Statement.{statement}
 use Rattle.printed_tables.proofs.inverse.Tie as tie
 
 abbrev Inv-loop : tie.InvT-loop
@@ -41,7 +40,7 @@ returns c =
     let e : at .i ≡ 256 = omega arith in
     placed-all (at .out) (rw e at (at .inv .1))
 
-pub inverse-spec : {M : Type 1} → statement M
+pub inverse-spec : {M : Type 1} → Rattle.printed_tables.proofs.inverse.Statement.statement M
 inverse-spec =
     tie.close
     (tie.spec Inv-loop μ-loop loop-holds (λ c. omega arith) cast-y cast-out array-write-out (λ c. omega arith) (λ c. omega arith) loop-again returns)

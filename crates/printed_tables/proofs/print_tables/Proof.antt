@@ -1,7 +1,6 @@
 use Rattle.standard.proofs.Prelude.{_≡_, ap, _∙_, now, needs}
 use Rattle.standard.specs.Tables.{tableLine}
 use Rattle.printed_tables.proofs.PrintLaws.{short, whole}
-use Rattle.printed_tables.proofs.print_tables.Statement.{statement}
 use Rattle.printed_tables.proofs.print_tables.Tie as tie
 
 returns : tie.Need-returns
@@ -18,7 +17,7 @@ returns-2 c =
     let a = rw (made .before .inverse .ensures) at (lines .table-lines .ensures) in
     whole (now (x .out)) (test .if1 .left) a (line .table-line .ensures ∙ ap tableLine (made .rotations .ensures)) (put .put .ensures)
 
-pub print-tables-spec : {M : Type 1} → statement M
+pub print-tables-spec : {M : Type 1} → Rattle.printed_tables.proofs.print_tables.Statement.statement M
 print-tables-spec =
     tie.close
     (tie.spec (λ c κs. search needs) returns (λ c κs. search needs) (λ c κs. search needs) (λ c. search needs) (λ c κs. search needs)

@@ -6,7 +6,6 @@ use Rattle.standard.proofs.ScheduleLaws.{turn-next}
 use Rattle.standard.specs.Bytes.{_!_, table}
 use Rattle.standard.specs.Hurdle.{a}
 use Rattle.standard.specs.Tables.{runningSum, turn, rotations}
-use Rattle.printed_tables.proofs.rotations.Statement.{statement}
 use Rattle.printed_tables.proofs.rotations.Tie as tie
 
 abbrev Inv-loop : tie.InvT-loop
@@ -45,7 +44,7 @@ unfolding rotations
 returns c =
     let at = c .before .loop in filled (at .out) (λ j. turn (suc j)) 16 (at .i) (at .inv .2) (omega arith) (at .inv .4)
 
-pub rotations-spec : {M : Type 1} → statement M
+pub rotations-spec : {M : Type 1} → Rattle.printed_tables.proofs.rotations.Statement.statement M
 rotations-spec =
     tie.close
     (tie.spec Inv-loop μ-loop loop-holds (λ c. omega arith) (λ c. omega arith) add-sum (λ c. omega arith) (λ c. omega arith) (λ c. omega arith)

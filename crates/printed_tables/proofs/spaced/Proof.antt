@@ -5,7 +5,6 @@ use Rattle.standard.specs.Text.{ascii, hexByte}
 use Rattle.printed_tables.proofs.PrintLaws.{spaced-step}
 use Rattle.lines.proofs.LineLaws.{none, behind, next}
 use Rattle.lines.specs.Lines.{emptyLine, _▸_}
-use Rattle.printed_tables.proofs.spaced.Statement.{statement}
 use Rattle.printed_tables.proofs.spaced.Tie as tie
 
 abbrev Inv-loop : tie.InvT-loop
@@ -32,7 +31,7 @@ returns c =
     let t = now (c .before .before .before .before .args .t) in
     at .inv .1 ∙ ap (λ (s : List ℕ). emptyLine ▸ spaced s) (take-all (at .i) t (omega arith))
 
-pub spaced-spec : {M : Type 1} → statement M
+pub spaced-spec : {M : Type 1} → Rattle.printed_tables.proofs.spaced.Statement.statement M
 spaced-spec =
     tie.close
     (tie.spec Inv-loop μ-loop (λ c κs. search needs) loop-holds (λ c. omega arith) (λ c κs. search needs) (λ c. search needs) (λ c κs. search needs)

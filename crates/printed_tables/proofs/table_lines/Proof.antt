@@ -5,7 +5,6 @@ use Rattle.standard.specs.Lists.{recordAt}
 use Rattle.standard.specs.Tables.{tableLine, tableLines}
 use Rattle.lines.proofs.LineLaws.{put-keeps, put-none, lines-next, lines-most}
 use Rattle.lines.specs.Lines.{putCall}
-use Rattle.printed_tables.proofs.table_lines.Statement.{statement}
 use Rattle.printed_tables.proofs.table_lines.Tie as tie
 
 -- line i of a table
@@ -60,7 +59,7 @@ returns c =
     let e : at .i ≡ 16 = omega arith in
     rw e at (at .inv .1)
 
-pub table-lines-spec : {M : Type 1} → statement M
+pub table-lines-spec : {M : Type 1} → Rattle.printed_tables.proofs.table_lines.Statement.statement M
 table-lines-spec =
     tie.close
     (tie.spec Inv-loop μ-loop loop-holds (λ c. omega arith) (λ c. omega arith) (λ c. omega arith) (λ c. omega arith) (λ c. omega arith)

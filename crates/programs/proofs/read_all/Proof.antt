@@ -2,7 +2,6 @@
 -- Assumes nothing.
 use Rattle.standard.proofs.Prelude.{_≡_, refl, _-_, _≤_, zero-le, add-zero, arith, length, drop, needs}
 use Rattle.programs.proofs.ReadLaws.{failed, whole, further}
-use Rattle.programs.proofs.read_all.Statement.{statement}
 use Rattle.programs.proofs.read_all.Tie as tie
 
 abbrev Inv-loop : tie.InvT-loop
@@ -33,7 +32,7 @@ loop-again c =
 returns-3 : tie.Need-returns-3 Inv-loop μ-loop
 returns-3 c = whole _ _ _ (omega arith) (c .before .loop .inv .2)
 
-pub read-all-spec : {M : Type 1} → statement M
+pub read-all-spec : {M : Type 1} → Rattle.programs.proofs.read_all.Statement.statement M
 read-all-spec =
     tie.close
     (tie.spec Inv-loop μ-loop loop-holds (λ c. omega arith) (λ c. omega arith) (λ c. omega arith) (λ c κs. search needs) (λ c. omega arith) returns

@@ -1,6 +1,5 @@
 use Rattle.standard.proofs.Prelude.{_≤_, arith, length, take, length-append, length-take, now, needs}
 use Rattle.programs.proofs.ReadLaws.{copied}
-use Rattle.programs.proofs.read_piece.Statement.{statement}
 use Rattle.programs.proofs.read_piece.Tie as tie
 
 slice-aggregate-read-some : tie.Need-slice-aggregate-read-some
@@ -24,7 +23,7 @@ returns c =
     copied (some .read-some .result) _ (now (x .buf)) _ (simp length-append (omega arith)) fits (omega arith)
     (copy .copy .ensures) (some .read-some .ensures .2)
 
-pub read-piece-spec : {M : Type 1} → statement M
+pub read-piece-spec : {M : Type 1} → Rattle.programs.proofs.read_piece.Statement.statement M
 read-piece-spec =
     tie.close
     (tie.spec (λ c κs. search needs) (λ c κs. search needs) (λ c. search needs) slice-aggregate-read-some (λ c κs. search needs)

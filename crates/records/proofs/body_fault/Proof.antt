@@ -1,5 +1,4 @@
 use Rattle.standard.proofs.Prelude.{_∙_, needs}
-use Rattle.records.proofs.body_fault.Statement.{statement}
 use Rattle.records.proofs.body_fault.Tie as tie
 
 returns : tie.Need-returns
@@ -10,7 +9,7 @@ returns-2 c =
     let a = c .before .before .enum-told2 .given .1 in
     rw a (c .fault51 .ensures ∙ rw (c .before .highest-number .ensures, a))
 
-pub body-fault-spec : {M : Type 1} → statement M
+pub body-fault-spec : {M : Type 1} → Rattle.records.proofs.body_fault.Statement.statement M
 body-fault-spec =
     tie.close
     (tie.spec (λ c. search needs) (λ c κs. search needs) (λ c. search needs) (λ c κs. search needs) (λ c κs. search needs) (λ c. search needs)

@@ -1,6 +1,5 @@
 use Rattle.standard.proofs.Prelude.{_∙_, now, needs}
 use Rattle.records.proofs.RecordFormLaws.{named-by, open-unknown, open-set, open-clear, inspection-unknown, inspection-known}
-use Rattle.records.proofs.inspect_sealed.Statement.{statement}
 use Rattle.records.proofs.inspect_sealed.Tie as tie
 
 returns : tie.Need-returns
@@ -44,7 +43,7 @@ returns-3 c =
       flag .flag-of .ensures .1 ∙ inspection-known t _ e,
     )
 
-pub inspect-sealed-spec : {M : Type 1} → statement M
+pub inspect-sealed-spec : {M : Type 1} → Rattle.records.proofs.inspect_sealed.Statement.statement M
 inspect-sealed-spec =
     tie.close
     (tie.spec (λ c κs. search needs) (λ c κs. search needs) (λ c. search needs) (λ c. search needs) returns (λ c κs. search needs)

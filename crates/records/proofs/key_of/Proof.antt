@@ -1,6 +1,5 @@
 use Rattle.standard.proofs.Prelude.{now, needs}
 use Rattle.records.proofs.RecordFormLaws.{key-taken}
-use Rattle.records.proofs.key_of.Statement.{statement}
 use Rattle.records.proofs.key_of.Tie as tie
 
 returns : tie.Need-returns
@@ -12,7 +11,7 @@ returns c =
     key-taken (now (x .ring)) (now (x .rec)) (kind .kind-of .result) (first .byte-at .result) (kind .kind-of .ensures) (first .byte-at .ensures)
     (version .version-of .result .0) (c .core-key .result) (version .version-of .ensures) (c .core-key .ensures)
 
-pub key-of-spec : {M : Type 1} → statement M
+pub key-of-spec : {M : Type 1} → Rattle.records.proofs.key_of.Statement.statement M
 key-of-spec =
     tie.close
     (tie.spec (λ c κs. search needs) (λ c κs. search needs) (λ c κs. search needs) (λ c κs. search needs) returns)

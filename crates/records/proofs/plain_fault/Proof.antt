@@ -1,6 +1,5 @@
 use Rattle.standard.proofs.Prelude.{_∙_, now, needs}
 use Rattle.records.proofs.RecordFormLaws.{named-by, plain-unknown, plain-known}
-use Rattle.records.proofs.plain_fault.Statement.{statement}
 use Rattle.records.proofs.plain_fault.Tie as tie
 
 returns : tie.Need-returns
@@ -19,7 +18,7 @@ returns-2 c =
     rw (c .body-fault .ensures, c .before .part12 .ensures)
     (plain-known rec _ (named-by rec (first .byte-at .ensures) (found .from-byte .ensures) ∙ known .kind .given .1))
 
-pub plain-fault-spec : {M : Type 1} → statement M
+pub plain-fault-spec : {M : Type 1} → Rattle.records.proofs.plain_fault.Statement.statement M
 plain-fault-spec =
     tie.close
     (tie.spec (λ c κs. search needs) (λ c κs. search needs) (λ c. search needs) (λ c. search needs) returns (λ c κs. search needs)

@@ -1,6 +1,5 @@
 use Rattle.standard.proofs.Prelude.{_∙_, now, needs}
 use Rattle.records.proofs.RecordFormLaws.{opened-put}
-use Rattle.records.proofs.write_opened.Statement.{statement}
 use Rattle.records.proofs.write_opened.Tie as tie
 
 returns : tie.Need-returns
@@ -17,7 +16,7 @@ returns c =
     (kind .kind-of .ensures ∙ rw (first .byte-at .ensures)) (identity .decrypt-identity .ensures ∙ rw (identity .before .part3 .ensures))
     (body .body-of .ensures) (made .join-6-12 .ensures)
 
-pub write-opened-spec : {M : Type 1} → statement M
+pub write-opened-spec : {M : Type 1} → Rattle.records.proofs.write_opened.Statement.statement M
 write-opened-spec =
     tie.close
     (tie.spec (λ c κs. search needs) (λ c κs. search needs) (λ c κs. search needs) (λ c κs. search needs) (λ c κs. search needs)

@@ -1,6 +1,5 @@
 use Rattle.standard.proofs.Prelude.{_∙_, now, needs}
 use Rattle.records.proofs.RecordFormLaws.{sealed-put}
-use Rattle.records.proofs.write_sealed.Statement.{statement}
 use Rattle.records.proofs.write_sealed.Tie as tie
 
 returns : tie.Need-returns
@@ -13,7 +12,7 @@ returns c =
     (made .before .head-with .ensures) (c .before .before .copy .ensures) (x .text)
     (identity .encrypt-identity .ensures ∙ rw (identity .before .part3 .ensures)) (made .join-6-15 .ensures)
 
-pub write-sealed-spec : {M : Type 1} → statement M
+pub write-sealed-spec : {M : Type 1} → Rattle.records.proofs.write_sealed.Statement.statement M
 write-sealed-spec =
     tie.close
     (tie.spec (λ c κs. search needs) (λ c κs. search needs) (λ c κs. search needs) (λ c κs. search needs) (λ c. search needs) (λ c κs. search needs)

@@ -1,6 +1,5 @@
 use Rattle.standard.proofs.Prelude.{needs}
 use Rattle.register.proofs.RegisterStateLaws.{encrypted, decrypted}
-use Rattle.register.proofs.crypt.Statement.{statement}
 use Rattle.register.proofs.crypt.Tie as tie
 
 returns : tie.Need-returns
@@ -19,7 +18,7 @@ returns-2 c =
     rw (on .before .if1 .left)
     (encrypted (x .key) (x .block) _ _ _ (halves .split .ensures) (c .joined2 .ensures) (on .onward .ensures))
 
-pub crypt-spec : {M : Type 1} → statement M
+pub crypt-spec : {M : Type 1} → Rattle.register.proofs.crypt.Statement.statement M
 crypt-spec =
     tie.close
     (tie.spec (λ c κs. search needs) (λ c κs. search needs) (λ c κs. search needs) (λ c κs. search needs) (λ c κs. search needs) returns returns-2)

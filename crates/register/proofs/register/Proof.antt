@@ -2,7 +2,6 @@ use Rattle.standard.proofs.Prelude.{_%_, arith, now, needs, eq-eqb, ne-eqb}
 use Rattle.standard.proofs.BytesLaws.{spelled}
 use Rattle.standard.proofs.RegisterLaws.{begins-anew}
 use Rattle.standard.specs.Register.{registerCall}
-use Rattle.register.proofs.register.Statement.{statement}
 use Rattle.register.proofs.register.Tie as tie
 
 returns : tie.Need-returns
@@ -17,7 +16,7 @@ returns-2 c =
     let h = made .before .if1 .left in
     rw (c .turned .ensures, made .array16 .ensures, spelled 16 (now (x .key)) h, eq-eqb _ _ h, begins-anew (now (x .key)) (x .steps) h)
 
-pub register-spec : {M : Type 1} → statement M
+pub register-spec : {M : Type 1} → Rattle.register.proofs.register.Statement.statement M
 register-spec =
     tie.close
     (tie.spec (λ c κs. search needs) returns (λ c κs. search needs) (λ c κs. omega arith) returns-2)

@@ -1,7 +1,6 @@
 use Rattle.standard.proofs.Prelude.{_≡_, refl, _∙_, _+_, _-_, _%_, _≤_, zero-le, arith, length, take, length-set}
 use Rattle.standard.proofs.FillLaws.{fill-next, filled}
 use Rattle.standard.specs.Bytes.{_!_, table}
-use Rattle.register.proofs.rotated.Statement.{statement}
 use Rattle.register.proofs.rotated.Tie as tie
 
 abbrev Inv-loop : tie.InvT-loop
@@ -22,7 +21,7 @@ returns : tie.Need-returns Inv-loop μ-loop
 returns c =
     let at = c .before .loop in filled (at .out) _ 16 (at .i) (at .inv .1) (omega arith) (at .inv .2)
 
-pub rotated-spec : {M : Type 1} → statement M
+pub rotated-spec : {M : Type 1} → Rattle.register.proofs.rotated.Statement.statement M
 rotated-spec =
     tie.close
     (tie.spec Inv-loop μ-loop loop-holds (λ c. omega arith) (λ c. omega arith) (λ c. omega arith) (λ c. omega arith) (λ c. omega arith) loop-again

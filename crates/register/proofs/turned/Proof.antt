@@ -2,7 +2,6 @@ use Rattle.standard.proofs.Prelude.{_≡_, refl, _-_, _≤_, zero-le, arith}
 use Rattle.standard.specs.Hurdle.{a}
 use Rattle.standard.specs.Register.{turned}
 use Rattle.register.proofs.RegisterStateLaws.{rotation-most, turned-more}
-use Rattle.register.proofs.turned.Statement.{statement}
 use Rattle.register.proofs.turned.Tie as tie
 
 abbrev Inv-loop : tie.InvT-loop
@@ -31,7 +30,7 @@ returns c =
     let e : at .i ≡ c .before .before .args .steps = omega arith in
     rw e at (at .inv .2)
 
-pub turned-spec : {M : Type 1} → statement M
+pub turned-spec : {M : Type 1} → Rattle.register.proofs.turned.Statement.statement M
 turned-spec =
     tie.close
     (tie.spec Inv-loop μ-loop loop-holds (λ c. omega arith) (λ c. omega arith) step-requires (λ c. omega arith) (λ c. omega arith) loop-again returns)

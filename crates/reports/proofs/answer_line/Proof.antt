@@ -2,7 +2,6 @@ use Rattle.standard.proofs.Prelude.{needs}
 use Rattle.reports.proofs.ReportLaws.{answer-line-short}
 use Rattle.standard.specs.Programs.{answerLine}
 use Rattle.lines.proofs.LineLaws.{append, uncut}
-use Rattle.reports.proofs.answer_line.Statement.{statement}
 use Rattle.reports.proofs.answer_line.Tie as tie
 
 returns : tie.Need-returns
@@ -12,7 +11,7 @@ returns c =
     (simp append (rw (c .word .ensures, c .before .before .answer-text .ensures)))
     (answer-line-short _)
 
-pub answer-line-spec : {M : Type 1} → statement M
+pub answer-line-spec : {M : Type 1} → Rattle.reports.proofs.answer_line.Statement.statement M
 answer-line-spec =
     tie.close
     (tie.spec (λ c κs. search needs) (λ c. search needs) (λ c κs. search needs) returns)

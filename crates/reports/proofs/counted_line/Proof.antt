@@ -2,7 +2,6 @@ use Rattle.standard.proofs.Prelude.{needs}
 use Rattle.reports.proofs.ReportLaws.{counted-line-short}
 use Rattle.standard.specs.Programs.{countedLine}
 use Rattle.lines.proofs.LineLaws.{append, uncut}
-use Rattle.reports.proofs.counted_line.Statement.{statement}
 use Rattle.reports.proofs.counted_line.Tie as tie
 
 returns : tie.Need-returns
@@ -13,7 +12,7 @@ returns c =
     (simp append (rw (c .word2 .ensures, number .decimal .ensures, number .before .word .ensures, number .before .before .before .answer-text .ensures)))
     (counted-line-short _)
 
-pub counted-line-spec : {M : Type 1} → statement M
+pub counted-line-spec : {M : Type 1} → Rattle.reports.proofs.counted_line.Statement.statement M
 counted-line-spec =
     tie.close
     (tie.spec (λ c κs. search needs) (λ c. search needs) (λ c κs. search needs) (λ c κs. search needs) (λ c. search needs) (λ c κs. search needs)

@@ -1,9 +1,8 @@
 use Rattle.standard.proofs.Prelude.{refl, needs}
 use Rattle.reports.proofs.ReportLaws.{said, unsaid}
-use Rattle.reports.proofs.meaning.Statement.{statement}
 use Rattle.reports.proofs.meaning.Tie as tie
 
-pub meaning-spec : {M : Type 1} → statement M
+pub meaning-spec : {M : Type 1} → Rattle.reports.proofs.meaning.Statement.statement M
 meaning-spec =
     tie.close
     (tie.spec (λ c. search needs) (λ c κs. search needs) (λ c. search needs) (λ c κs. search needs) (λ c. search needs) (λ c κs. search needs)

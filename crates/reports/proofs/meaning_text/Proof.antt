@@ -1,7 +1,6 @@
 use Rattle.standard.proofs.Prelude.{refl, needs}
 use Rattle.standard.specs.Programs.{meaningText}
 use Rattle.lines.proofs.LineLaws.{append}
-use Rattle.reports.proofs.meaning_text.Statement.{statement}
 use Rattle.reports.proofs.meaning_text.Tie as tie
 
 returns : tie.Need-returns
@@ -11,7 +10,7 @@ returns c =
     let at = meaning .before in
     rw (c .word2 .ensures, meaning .meaning .ensures, at .word .ensures, at .before .before .refused-at .ensures) (simp append refl)
 
-pub meaning-text-spec : {M : Type 1} → statement M
+pub meaning-text-spec : {M : Type 1} → Rattle.reports.proofs.meaning_text.Statement.statement M
 meaning-text-spec =
     tie.close
     (tie.spec (λ c κs. search needs) (λ c. search needs) (λ c κs. search needs) (λ c κs. search needs) (λ c. search needs) (λ c κs. search needs)

@@ -1,7 +1,6 @@
 use Rattle.standard.proofs.Prelude.{needs}
 use Rattle.standard.specs.Programs.{wroteText}
 use Rattle.lines.proofs.LineLaws.{append}
-use Rattle.reports.proofs.wrote_text.Statement.{statement}
 use Rattle.reports.proofs.wrote_text.Tie as tie
 
 returns : tie.Need-returns
@@ -10,7 +9,7 @@ returns c =
     let number = c .before .before in
     simp append (rw (c .word2 .ensures, number .decimal .ensures, number .before .word .ensures, number .before .before .before .empty .ensures))
 
-pub wrote-text-spec : {M : Type 1} → statement M
+pub wrote-text-spec : {M : Type 1} → Rattle.reports.proofs.wrote_text.Statement.statement M
 wrote-text-spec =
     tie.close
     (tie.spec (λ c κs. search needs) (λ c. search needs) (λ c κs. search needs) (λ c κs. search needs) (λ c. search needs) (λ c κs. search needs)

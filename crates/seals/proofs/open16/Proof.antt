@@ -1,6 +1,5 @@
 use Rattle.standard.proofs.Prelude.{needs}
 use Rattle.seals.proofs.UnsealedBodyLaws.{key16-part, opened-part}
-use Rattle.seals.proofs.open16.Statement.{statement}
 use Rattle.seals.proofs.open16.Tie as tie
 
 returns : tie.Need-returns
@@ -14,7 +13,7 @@ returns c = rw (
   opened-part,
 )
 
-pub open16-spec : {M : Type 1} → statement M
+pub open16-spec : {M : Type 1} → Rattle.seals.proofs.open16.Statement.statement M
 open16-spec =
     tie.close
     (tie.spec (λ c κs. search needs) (λ c κs. search needs) (λ c κs. search needs) (λ c κs. search needs) (λ c κs. search needs) returns)

@@ -1,6 +1,5 @@
 use Rattle.standard.proofs.Prelude.{needs, not-true, not-false}
 use Rattle.seals.specs.UnsealedBodies.{unsealedBody}
-use Rattle.seals.proofs.open_if.Statement.{statement}
 use Rattle.seals.proofs.open_if.Tie as tie
 
 returns : tie.Need-returns
@@ -13,5 +12,5 @@ returns-2 c =
     let o = c .before .open-text .ensures in
     rw (o .is, o .told, not-false (c .before .before .before .args .right-lengths) (c .before .before .if1 .left))
 
-pub open-if-spec : {M : Type 1} → statement M
+pub open-if-spec : {M : Type 1} → Rattle.seals.proofs.open_if.Statement.statement M
 open-if-spec = tie.close (tie.spec returns (λ c κs. search needs) returns-2)

@@ -1,6 +1,5 @@
 use Rattle.standard.proofs.Prelude.{needs}
 use Rattle.standard.specs.Seals.{key10, seal, ta31Call}
-use Rattle.seals.proofs.ta31.Statement.{statement}
 use Rattle.seals.proofs.ta31.Tie as tie
 
 returns : tie.Need-returns
@@ -14,7 +13,7 @@ returns c = rw (
   c .before .before .before .before .before .have-lengths .ensures,
 )
 
-pub ta31-spec : {M : Type 1} → statement M
+pub ta31-spec : {M : Type 1} → Rattle.seals.proofs.ta31.Statement.statement M
 ta31-spec =
     tie.close
     (tie.spec (λ c κs. search needs) (λ c κs. search needs) (λ c κs. search needs) (λ c κs. search needs) (λ c κs. search needs)

@@ -1,7 +1,6 @@
 use Rattle.standard.proofs.Prelude.{needs}
 use Rattle.seals.proofs.UnsealedBodyLaws.{key10-part, opened-part, key-out}
 use Rattle.standard.specs.Seals.{form31, unseal, fails, ta32Call}
-use Rattle.seals.proofs.ta32.Statement.{statement}
 use Rattle.seals.proofs.ta32.Tie as tie
 
 returns : tie.Need-returns
@@ -19,7 +18,7 @@ returns c =
       opened-part,
     ) at (o .open-if .ensures)))
 
-pub ta32-spec : {M : Type 1} → statement M
+pub ta32-spec : {M : Type 1} → Rattle.seals.proofs.ta32.Statement.statement M
 ta32-spec =
     tie.close
     (tie.spec (λ c κs. search needs) (λ c κs. search needs) (λ c κs. search needs) (λ c κs. search needs) (λ c κs. search needs)

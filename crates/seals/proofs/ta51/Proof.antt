@@ -1,7 +1,6 @@
 use Rattle.standard.proofs.Prelude.{needs, le-leb, lt-leb}
 use Rattle.standard.proofs.BytesLaws.{failed, passed}
 use Rattle.standard.specs.Seals.{key16, seal, ta51Call}
-use Rattle.seals.proofs.ta51.Statement.{statement}
 use Rattle.seals.proofs.ta51.Tie as tie
 
 returns : tie.Need-returns
@@ -30,7 +29,7 @@ returns-3 c =
       le-leb _ _ (fit .if2 .left),
     )
 
-pub ta51-spec : {M : Type 1} → statement M
+pub ta51-spec : {M : Type 1} → Rattle.seals.proofs.ta51.Statement.statement M
 ta51-spec =
     tie.close
     (tie.spec (λ c κs. search needs) (λ c κs. search needs) returns (λ c κs. search needs) returns-2 (λ c κs. search needs) (λ c κs. search needs)

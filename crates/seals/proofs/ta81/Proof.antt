@@ -1,6 +1,5 @@
 use Rattle.standard.proofs.Prelude.{div-one, needs}
 use Rattle.standard.specs.Seals.{key16, seal, ta81Call}
-use Rattle.seals.proofs.ta81.Statement.{statement}
 use Rattle.seals.proofs.ta81.Tie as tie
 
 returns : tie.Need-returns
@@ -16,7 +15,7 @@ returns c =
       key .before .before .have-lengths .ensures,
     ) (simp div-one)
 
-pub ta81-spec : {M : Type 1} → statement M
+pub ta81-spec : {M : Type 1} → Rattle.seals.proofs.ta81.Statement.statement M
 ta81-spec =
     tie.close
     (tie.spec (λ c κs. search needs) (λ c κs. search needs) (λ c κs. search needs) (λ c. search needs) (λ c. search needs) (λ c κs. search needs)

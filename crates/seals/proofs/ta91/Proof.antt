@@ -1,6 +1,5 @@
 use Rattle.standard.proofs.Prelude.{needs}
 use Rattle.standard.specs.Seals.{key16, seal, ta91Call}
-use Rattle.seals.proofs.ta91.Statement.{statement}
 use Rattle.seals.proofs.ta91.Tie as tie
 
 returns : tie.Need-returns
@@ -13,7 +12,7 @@ returns c = rw (
   c .before .before .before .before .have-lengths .ensures,
 )
 
-pub ta91-spec : {M : Type 1} → statement M
+pub ta91-spec : {M : Type 1} → Rattle.seals.proofs.ta91.Statement.statement M
 ta91-spec =
     tie.close
     (tie.spec (λ c κs. search needs) (λ c κs. search needs) (λ c κs. search needs) (λ c κs. search needs) (λ c κs. search needs) returns)

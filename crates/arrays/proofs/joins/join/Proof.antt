@@ -1,6 +1,5 @@
 use Rattle.standard.proofs.Prelude.{now, needs}
 use Rattle.arrays.proofs.CopyLaws.{joined}
-use Rattle.arrays.proofs.joins.join.Statement.{statement}
 use Rattle.arrays.proofs.joins.join.Tie as tie
 
 returns : tie.Need-returns
@@ -11,7 +10,7 @@ returns c =
     let x = start .args in
     joined (x .seam) (now (x .a)) (now (x .b)) (now (x .out)) (start .pre .0) (start .pre .1) _ _ (first .copy .ensures) (second .copy2 .ensures)
 
-pub join-spec : {M : Type 1} → statement M
+pub join-spec : {M : Type 1} → Rattle.arrays.proofs.joins.join.Statement.statement M
 join-spec =
     tie.close
     (tie.spec (λ c κs. search needs) (λ c. search needs) (λ c. search needs) (λ c. search needs) (λ c κs. search needs) (λ c. search needs) returns)

@@ -2,7 +2,6 @@ use Rattle.standard.proofs.Prelude.{_≡_, refl, sym, ap, _∙_, List, _++_, �
 use Rattle.arrays.proofs.CopyLaws.{copy-next, copied}
 use Rattle.arrays.specs.Least.{Least}
 use Rattle.standard.specs.Bytes.{_!_}
-use Rattle.arrays.proofs.parts.copy.Statement.{statement}
 use Rattle.arrays.proofs.parts.copy.Tie as tie
 
 abbrev Inv-loop : tie.InvT-loop
@@ -30,7 +29,7 @@ returns c =
     let x = c .before .before .before .before .before .args in
     at .inv .2 ∙ copied (now (x .out)) (now (x .s)) (at .i) (at .inv .3) (omega arith)
 
-pub copy-spec : {M : Type 1} → statement M
+pub copy-spec : {M : Type 1} → Rattle.arrays.proofs.parts.copy.Statement.statement M
 copy-spec =
     tie.close
     (tie.spec Inv-loop μ-loop (λ c κs. omega arith) loop-holds (λ c. omega arith) (λ c. omega arith) (λ c. omega arith) (λ c. omega arith) loop-again

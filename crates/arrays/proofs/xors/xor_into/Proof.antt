@@ -1,7 +1,6 @@
 use Rattle.standard.proofs.Prelude.{_≡_, refl, _∙_, _-_, _≤_, zero-le, arith, length, take, length-set, now}
 use Rattle.standard.proofs.FillLaws.{fill-next, filled}
 use Rattle.standard.specs.Bytes.{_!_, _⊕_, xors}
-use Rattle.arrays.proofs.xors.xor_into.Statement.{statement}
 use Rattle.arrays.proofs.xors.xor_into.Tie as tie
 
 abbrev Inv-loop : tie.InvT-loop
@@ -28,7 +27,7 @@ returns c =
     let x = c .before .before .args in
     filled (at .out) (λ j. now (x .a) ! j ⊕ now (x .b) ! j) (length (now (x .out))) (at .i) (at .inv .1) (omega arith) (at .inv .2)
 
-pub xor-into-spec : {M : Type 1} → statement M
+pub xor-into-spec : {M : Type 1} → Rattle.arrays.proofs.xors.xor_into.Statement.statement M
 xor-into-spec =
     tie.close
     (tie.spec Inv-loop μ-loop loop-holds (λ c. omega arith) (λ c. omega arith) (λ c. omega arith) (λ c. omega arith) (λ c. omega arith) loop-again

@@ -3,7 +3,6 @@ use Rattle.books.proofs.DirectionLaws.{converted-by}
 use Rattle.books.specs.BothDirections.{outputSizeOf}
 use Rattle.cores.specs.declared.CoreOutput15.{CoreOutput15}
 use Rattle.lists.specs.Walks.{replaceAt}
-use Rattle.books.proofs.convert.convert_one.Statement.{statement}
 use Rattle.books.proofs.convert.convert_one.Tie as tie
 
 returns : tie.Need-returns
@@ -17,7 +16,7 @@ returns c =
       ap (λ (o : CoreOutput15). o .runs) (core .core .ensures),
     )
 
-pub convert-one-spec : {M : Type 1} → statement M
+pub convert-one-spec : {M : Type 1} → Rattle.books.proofs.convert.convert_one.Statement.statement M
 convert-one-spec =
     tie.close
     (tie.spec (λ c κs. search needs) (λ c κs. search needs) (λ c κs. search needs) (λ c. search needs) returns)

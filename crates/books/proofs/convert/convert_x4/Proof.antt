@@ -5,7 +5,6 @@ use Rattle.cores.specs.declared.CoreOutput15.{CoreOutput15}
 use Rattle.cores_x4.specs.Lanes.{lane15}
 use Rattle.lists.specs.Walks.{after, replaceX4}
 use Rattle.standard.specs.Lists.{recordAt}
-use Rattle.books.proofs.convert.convert_x4.Statement.{statement}
 use Rattle.books.proofs.convert.convert_x4.Tie as tie
 
 runs-of-requires : tie.Need-runs-of-requires
@@ -25,7 +24,7 @@ returns c =
       c .runs-of .ensures ∙ ap (λ (l : List CoreOutput15). lane15 l 0 .runs + lane15 l 1 .runs + lane15 l 2 .runs + lane15 l 3 .runs) o,
     )
 
-pub convert-x4-spec : {M : Type 1} → statement M
+pub convert-x4-spec : {M : Type 1} → Rattle.books.proofs.convert.convert_x4.Statement.statement M
 convert-x4-spec =
     tie.close
     (tie.spec (λ c κs. search needs) (λ c κs. search needs) (λ c κs. search needs) runs-of-requires (λ c. search needs) returns)

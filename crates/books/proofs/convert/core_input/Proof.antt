@@ -1,6 +1,5 @@
 use Rattle.standard.proofs.Prelude.{needs}
 use Rattle.books.proofs.DirectionLaws.{same-input}
-use Rattle.books.proofs.convert.core_input.Statement.{statement}
 use Rattle.books.proofs.convert.core_input.Tie as tie
 
 returns : tie.Need-returns
@@ -9,7 +8,7 @@ returns c = let e = c .sealing-input .ensures in rw (c .before .enum-told .given
 returns-2 : tie.Need-returns-2
 returns-2 c = let e = c .opening-input .ensures in rw (c .before .enum-told2 .given .1) (same-input (e .0) (e .1))
 
-pub core-input-spec : {M : Type 1} → statement M
+pub core-input-spec : {M : Type 1} → Rattle.books.proofs.convert.core_input.Statement.statement M
 core-input-spec =
     tie.close
     (tie.spec (λ c. search needs) (λ c κs. search needs) (λ c. search needs) (λ c κs. search needs) returns returns-2)

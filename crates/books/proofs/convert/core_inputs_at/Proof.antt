@@ -1,6 +1,5 @@
 use Rattle.standard.proofs.Prelude.{arith, needs}
 use Rattle.books.proofs.DirectionLaws.{places-fit}
-use Rattle.books.proofs.convert.core_inputs_at.Statement.{statement}
 use Rattle.books.proofs.convert.core_inputs_at.Tie as tie
 
 add-core-input-at : tie.Need-add-core-input-at
@@ -18,7 +17,7 @@ returns c =
     let second = third .before in
     rw (c .core-input-at4 .ensures, third .core-input-at3 .ensures, second .core-input-at2 .ensures, second .before .core-input-at .ensures)
 
-pub core-inputs-at-spec : {M : Type 1} → statement M
+pub core-inputs-at-spec : {M : Type 1} → Rattle.books.proofs.convert.core_inputs_at.Statement.statement M
 core-inputs-at-spec =
     tie.close
     (tie.spec (λ c κs. search needs) add-core-input-at (λ c κs. search needs) add-core-input-at-2 (λ c κs. search needs) add-core-input-at-3

@@ -1,5 +1,4 @@
 use Rattle.standard.proofs.Prelude.{needs}
-use Rattle.books.proofs.convert.core_x4.Statement.{statement}
 use Rattle.books.proofs.convert.core_x4.Tie as tie
 
 returns : tie.Need-returns
@@ -8,7 +7,7 @@ returns c = rw (c .before .enum-told .given .1) (c .seal-core-x4 .ensures)
 returns-2 : tie.Need-returns-2
 returns-2 c = rw (c .before .enum-told2 .given .1) (c .open-core-x4 .ensures)
 
-pub core-x4-spec : {M : Type 1} → statement M
+pub core-x4-spec : {M : Type 1} → Rattle.books.proofs.convert.core_x4.Statement.statement M
 core-x4-spec =
     tie.close
     (tie.spec (λ c. search needs) (λ c κs. search needs) (λ c. search needs) (λ c κs. search needs) returns returns-2)

@@ -3,7 +3,6 @@ use Rattle.books.proofs.DirectionLaws.{fits, lent-by, made-length}
 use Rattle.books.specs.BothDirections.{madeOf}
 use Rattle.lists.proofs.WalkLaws.{replaced-lent}
 use Rattle.lists.specs.Walks.{replaceAt}
-use Rattle.books.proofs.convert.write_at.Statement.{statement}
 use Rattle.books.proofs.convert.write_at.Tie as tie
 
 mul-a : tie.Need-mul-a
@@ -49,7 +48,7 @@ returns c =
     ∙ ap₂ (λ (v : ℕ) (y : List ℕ). replaceAt v (x .i) (made y) (now (x .out))) (outputs .ensures)
     (lent-by _ (x .i) _ (now (x .book)) (sizes .ensures) (start .pre .0))
 
-pub write-at-spec : {M : Type 1} → statement M
+pub write-at-spec : {M : Type 1} → Rattle.books.proofs.convert.write_at.Statement.statement M
 write-at-spec =
     tie.close
     (tie.spec (λ c κs. search needs) (λ c. search needs) (λ c κs. search needs) (λ c. search needs) mul-a mul-b add-write-record (λ c. search needs)

@@ -1,6 +1,5 @@
 use Rattle.standard.proofs.Prelude.{_+_, arith, needs}
 use Rattle.books.proofs.DirectionLaws.{both-ends, places-fit}
-use Rattle.books.proofs.convert.write_at_x4.Statement.{statement}
 use Rattle.books.proofs.convert.write_at_x4.Tie as tie
 
 add-write-at : tie.Need-add-write-at
@@ -48,7 +47,7 @@ returns c =
     let first = second .before .before .before .before .before in
     rw (fourth .write-at4 .ensures, third .write-at3 .ensures, second .write-at2 .ensures, first .write-at .ensures)
 
-pub write-at-x4-spec : {M : Type 1} → statement M
+pub write-at-x4-spec : {M : Type 1} → Rattle.books.proofs.convert.write_at_x4.Statement.statement M
 write-at-x4-spec =
     tie.close
     (tie.spec (λ c. search needs) (λ c κs. search needs) add-write-at (λ c. search needs) write-at-requires-2 add-write-at-2 (λ c. search needs)

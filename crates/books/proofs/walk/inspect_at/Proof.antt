@@ -1,7 +1,6 @@
 use Rattle.standard.proofs.Prelude.{ap, _∙_, arith, now, needs}
 use Rattle.books.proofs.DirectionLaws.{fits, lent-by}
 use Rattle.books.specs.BothDirections.{faultOf, inspectionOf}
-use Rattle.books.proofs.walk.inspect_at.Statement.{statement}
 use Rattle.books.proofs.walk.inspect_at.Tie as tie
 
 mul-a : tie.Need-mul-a
@@ -20,7 +19,7 @@ returns c =
     let part = lent-by _ (x .i) _ (now (x .book)) (c .before .before .size .ensures) (start .pre) in
     (c .inspect .ensures .0 ∙ ap (faultOf (now (x .ring)) (x .direction)) part, c .inspect .ensures .1 ∙ ap (inspectionOf (x .direction)) part)
 
-pub inspect-at-spec : {M : Type 1} → statement M
+pub inspect-at-spec : {M : Type 1} → Rattle.books.proofs.walk.inspect_at.Statement.statement M
 inspect-at-spec =
     tie.close
     (tie.spec (λ c κs. search needs) (λ c. search needs) mul-a add-inspect (λ c. search needs) (λ c. search needs) part-inspect-end

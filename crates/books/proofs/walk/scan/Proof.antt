@@ -8,7 +8,6 @@ use Rattle.standard.specs.Lists.{recordAt}
 use Rattle.standard.specs.Runs.{firstPass}
 use Rattle.books.proofs.DirectionLaws.{inspections-few, inspections-most, runs-fit}
 use Rattle.books.specs.BothDirections.{sizeOf, faultAt, inspectionAt}
-use Rattle.books.proofs.walk.scan.Statement.{statement}
 use Rattle.books.proofs.walk.scan.Tie as tie
 
 abbrev Inv-loop : tie.InvT-loop
@@ -83,7 +82,7 @@ returns-2 c =
       i .inv .2 ∙ ap (λ (k : ℕ). firstPass k g (inspectionAt (x .direction) (now (x .book)))) e,
     )
 
-pub scan-spec : {M : Type 1} → statement M
+pub scan-spec : {M : Type 1} → Rattle.books.proofs.walk.scan.Statement.statement M
 scan-spec =
     tie.close
     (tie.spec Inv-loop μ-loop loop-holds inspect-at-requires add-runs returns (λ c. search needs) (λ c. search needs) loop-again returns-2)

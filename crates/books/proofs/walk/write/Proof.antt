@@ -4,7 +4,6 @@ use Rattle.books.specs.BothDirections.{sizeOf, outputSizeOf, convertOf}
 use Rattle.identity.specs.declared.IdentityStrings.{IdentityStrings}
 use Rattle.standard.specs.Lists.{each}
 use Rattle.standard.specs.Runs.{identityRuns}
-use Rattle.books.proofs.walk.write.Statement.{statement}
 use Rattle.books.proofs.walk.write.Tie as tie
 
 -- what the identity strings answer
@@ -42,7 +41,7 @@ returns-2 c =
       rw (ne-eqb _ _ (made .before .if1 .left)) (omega (arith, one-run (made .identity-strings-of .ensures), wrote .write-with .ensures .1)),
     )
 
-pub write-spec : {M : Type 1} → statement M
+pub write-spec : {M : Type 1} → Rattle.books.proofs.walk.write.Statement.statement M
 write-spec =
     tie.close
     (tie.spec returns (λ c κs. search needs) write-with-requires add-result (λ c. search needs) returns-2)

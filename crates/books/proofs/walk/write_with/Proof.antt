@@ -5,7 +5,6 @@ use Rattle.lists.proofs.WalkLaws.{end-fits, first-fit}
 use Rattle.books.proofs.DirectionLaws.{runs-fit, Converted, converted-none, converted-one, converted-x4}
 use Rattle.books.specs.BothDirections.{sizeOf, outputSizeOf}
 use Rattle.standard.specs.Runs.{textRuns}
-use Rattle.books.proofs.walk.write_with.Statement.{statement}
 use Rattle.books.proofs.walk.write_with.Tie as tie
 
 abbrev Inv-loop : tie.InvT-loop
@@ -136,7 +135,7 @@ returns c =
     let e : at .i ≡ x .n = omega (arith, at .inv .0, c .loop2-test .left) in
     (rw e at (wrote .bytes), omega (arith, at .inv .2, e))
 
-pub write-with-spec : {M : Type 1} → statement M
+pub write-with-spec : {M : Type 1} → Rattle.books.proofs.walk.write_with.Statement.statement M
 write-with-spec =
     tie.close
     (tie.spec Inv-loop μ-loop Inv-loop2 μ-loop2 loop-holds sub-loop convert-x4-requires add-runs add-i loop-less loop-again loop2-holds

@@ -1,7 +1,6 @@
 use Rattle.standard.proofs.Prelude.{_≡_, refl, _∙_, _-_, _%_, _≤_, zero-le, arith, length, take, length-set}
 use Rattle.standard.proofs.FillLaws.{fill-next, filled}
 use Rattle.standard.specs.Bytes.{_!_, table}
-use Rattle.hurdle.proofs.key_schedule.doubled.Statement.{statement}
 use Rattle.hurdle.proofs.key_schedule.doubled.Tie as tie
 
 abbrev Inv-loop : tie.InvT-loop
@@ -21,7 +20,7 @@ loop-again c =
 returns : tie.Need-returns Inv-loop μ-loop
 returns c = let at = c .before .loop in filled (at .out) _ 32 (at .i) (at .inv .1) (omega arith) (at .inv .2)
 
-pub doubled-spec : {M : Type 1} → statement M
+pub doubled-spec : {M : Type 1} → Rattle.hurdle.proofs.key_schedule.doubled.Statement.statement M
 doubled-spec =
     tie.close
     (tie.spec Inv-loop μ-loop loop-holds (λ c. omega arith) (λ c. omega arith) (λ c. omega arith) (λ c. omega arith) loop-again returns)

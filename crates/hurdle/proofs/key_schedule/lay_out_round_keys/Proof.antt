@@ -2,7 +2,6 @@ use Rattle.standard.proofs.Prelude.{_≡_, refl, _∙_, _+_, _-_, _*_, _≤_, z
 use Rattle.hurdle.proofs.ScheduleLaws.{rotations, masks, rotation, made, made-at, all-made}
 use Rattle.standard.proofs.FillLaws.{fill-next, filled}
 use Rattle.standard.specs.Bytes.{_!_, table}
-use Rattle.hurdle.proofs.key_schedule.lay_out_round_keys.Statement.{statement}
 use Rattle.hurdle.proofs.key_schedule.lay_out_round_keys.Tie as tie
 
 abbrev Inv-loop2 : tie.InvT-loop2
@@ -62,7 +61,7 @@ returns c =
     filled (at .keys) (made rotations masks (made-of .result)) 192 (at .i * 12) (at .inv .1) (omega arith) (at .inv .2)
     ∙ all-made (c .before .before .before .args .key) (made-of .result) (made-of .ensures)
 
-pub lay-out-round-keys-spec : {M : Type 1} → statement M
+pub lay-out-round-keys-spec : {M : Type 1} → Rattle.hurdle.proofs.key_schedule.lay_out_round_keys.Statement.statement M
 lay-out-round-keys-spec =
     tie.close
     (tie.spec Inv-loop2 μ-loop2 Inv-loop μ-loop (λ c κs. search needs) loop-holds (λ c. omega arith) (λ c. omega arith) add-from loop2-holds

@@ -1,7 +1,6 @@
 use Rattle.standard.proofs.Prelude.{_∙_, now, needs}
 use Rattle.hurdle.proofs.LaneLaws.{crypted-x4}
 use Rattle.hurdle.specs.Lanes.{byLane}
-use Rattle.hurdle.proofs.lanes.crypt_x4.Statement.{statement}
 use Rattle.hurdle.proofs.lanes.crypt_x4.Tie as tie
 
 returns : tie.Need-returns
@@ -11,5 +10,5 @@ returns c =
     let K = byLane (now (x .ka)) (now (x .kb)) (now (x .kc)) (now (x .kd)) in
     c .joins .ensures ∙ crypted-x4 (x .back) K (cut .splits .result) (x .x) (c .before .rounds .result) (cut .splits .ensures) (c .before .rounds .ensures)
 
-pub crypt-x4-spec : {M : Type 1} → statement M
+pub crypt-x4-spec : {M : Type 1} → Rattle.hurdle.proofs.lanes.crypt_x4.Statement.statement M
 crypt-x4-spec = tie.close (tie.spec (λ c κs. search needs) (λ c κs. search needs) (λ c κs. search needs) returns)

@@ -3,7 +3,6 @@ use Rattle.hurdle.proofs.LaneLaws.{f-lanes}
 use Rattle.hurdle.specs.Lanes.{byLane}
 use Rattle.hurdle.specs.RoundSteps.{bytes4, halvesAt}
 use Rattle.standard.specs.Bytes.{part}
-use Rattle.hurdle.proofs.lanes.f_x4.Statement.{statement}
 use Rattle.hurdle.proofs.lanes.f_x4.Tie as tie
 
 returns : tie.Need-returns
@@ -17,7 +16,7 @@ returns c =
     let f = f-lanes (now (x .s)) (now (x .w)) X K (p .firsts .result) (q .seconds .result) (r .thirds .result) in
     f (c .gathers .result) (p .firsts .ensures) (q .seconds .ensures) (r .thirds .ensures) (c .gathers .ensures)
 
-pub f-x4-spec : {M : Type 1} → statement M
+pub f-x4-spec : {M : Type 1} → Rattle.hurdle.proofs.lanes.f_x4.Statement.statement M
 f-x4-spec =
     tie.close
     (tie.spec (λ c κs. search needs) (λ c κs. search needs) (λ c κs. search needs) (λ c κs. search needs) returns)

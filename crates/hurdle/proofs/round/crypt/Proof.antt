@@ -1,6 +1,5 @@
 use Rattle.standard.proofs.Prelude.{_∙_, now, needs}
 use Rattle.hurdle.proofs.RoundLaws.{crypted}
-use Rattle.hurdle.proofs.round.crypt.Statement.{statement}
 use Rattle.hurdle.proofs.round.crypt.Tie as tie
 
 returns : tie.Need-returns
@@ -9,5 +8,5 @@ returns c =
     let x = cut .before .args in
     c .joined .ensures ∙ crypted (x .back) (now (x .keys)) (cut .split .ensures) (c .before .rounds .ensures)
 
-pub crypt-spec : {M : Type 1} → statement M
+pub crypt-spec : {M : Type 1} → Rattle.hurdle.proofs.round.crypt.Statement.statement M
 crypt-spec = tie.close (tie.spec (λ c κs. search needs) (λ c κs. search needs) (λ c κs. search needs) returns)

@@ -1,7 +1,6 @@
 use Rattle.standard.proofs.Prelude.{_≡_, refl, sym, _∙_, _-_, _≤_, zero-le, arith, length, drop, now}
 use Rattle.standard.specs.Bytes.{sameOn, same}
 use Rattle.inverses.proofs.SameLaws.{same-next, same-end}
-use Rattle.inverses.proofs.bits.same.Statement.{statement}
 use Rattle.inverses.proofs.bits.same.Tie as tie
 
 abbrev Inv-loop : tie.InvT-loop
@@ -25,7 +24,7 @@ returns c =
     let x = c .before .before .args in
     sym (at .inv .1 ∙ same-end (at .t) (now (x .a)) (now (x .b)) (at .i) (omega arith) (omega arith))
 
-pub same-spec : {M : Type 1} → statement M
+pub same-spec : {M : Type 1} → Rattle.inverses.proofs.bits.same.Statement.statement M
 same-spec =
     tie.close
     (tie.spec Inv-loop μ-loop loop-holds (λ c. omega arith) (λ c. omega arith) (λ c. omega arith) (λ c. omega arith) loop-again returns)

@@ -1,7 +1,6 @@
 use Rattle.standard.proofs.Prelude.{_≡_, refl, _∙_, arith, length, length-set}
 use Rattle.keys.proofs.MaskLaws.{Gathered, gather-none, gather-more, gather-past, gather-all}
 use Rattle.standard.specs.Bytes.{bit}
-use Rattle.keys.proofs.masks.gathered.Statement.{statement}
 use Rattle.keys.proofs.masks.gathered.Tie as tie
 
 abbrev Inv-loop : tie.InvT-loop
@@ -43,7 +42,7 @@ loop-again-2 c =
 returns : tie.Need-returns Inv-loop μ-loop
 returns c = gather-all (c .before .loop .inv .1) (omega arith)
 
-pub gathered-spec : {M : Type 1} → statement M
+pub gathered-spec : {M : Type 1} → Rattle.keys.proofs.masks.gathered.Statement.statement M
 gathered-spec =
     tie.close
     (tie.spec Inv-loop μ-loop loop-holds (λ c. omega arith) cast-if1 shr-if1 sub-out (λ c. omega arith) array-write-out add-k (λ c. omega arith)

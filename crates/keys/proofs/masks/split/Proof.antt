@@ -1,5 +1,4 @@
 use Rattle.standard.proofs.Prelude.{needs}
-use Rattle.keys.proofs.masks.split.Statement.{statement}
 use Rattle.keys.proofs.masks.split.Tie as tie
 
 returns : tie.Need-returns
@@ -8,7 +7,7 @@ returns c =
     let response = key .before in
     rw (c .first10 .ensures, key .gathered2 .ensures, response .first4 .ensures, response .before .gathered .ensures)
 
-pub split-spec : {M : Type 1} → statement M
+pub split-spec : {M : Type 1} → Rattle.keys.proofs.masks.split.Statement.statement M
 split-spec =
     tie.close
     (tie.spec (λ c κs. search needs) (λ c κs. search needs) (λ c κs. search needs) (λ c κs. search needs) returns)

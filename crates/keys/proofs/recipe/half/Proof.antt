@@ -1,6 +1,5 @@
 use Rattle.standard.proofs.Prelude.{_≡_, true, false, needs, not-true, not-false}
 use Rattle.keys.proofs.MaskLaws.{whole-split}
-use Rattle.keys.proofs.recipe.half.Statement.{statement}
 use Rattle.keys.proofs.recipe.half.Tie as tie
 
 returns : tie.Need-returns
@@ -19,7 +18,7 @@ returns-2 c =
       t,
     )
 
-pub half-spec : {M : Type 1} → statement M
+pub half-spec : {M : Type 1} → Rattle.keys.proofs.recipe.half.Statement.statement M
 half-spec =
     tie.close
     (tie.spec returns (λ c κs. search needs) (λ c κs. search needs) (λ c κs. search needs) returns-2)

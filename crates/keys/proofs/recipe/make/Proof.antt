@@ -2,7 +2,6 @@ use Rattle.standard.proofs.Prelude.{_≡_, needs}
 use Rattle.standard.specs.Derivation.{half1, half2}
 use Rattle.standard.specs.Mixing.{tb4}
 use Rattle.keys.proofs.RecipeLaws.{ring-made}
-use Rattle.keys.proofs.recipe.make.Statement.{statement}
 use Rattle.keys.proofs.recipe.make.Tie as tie
 
 returns : tie.Need-returns
@@ -20,7 +19,7 @@ returns c =
     (c .join-26-26 .ensures) in
     rw (made, o₁, o₂)
 
-pub make-spec : {M : Type 1} → statement M
+pub make-spec : {M : Type 1} → Rattle.keys.proofs.recipe.make.Statement.statement M
 make-spec =
     tie.close
     (tie.spec (λ c κs. search needs) (λ c κs. search needs) (λ c κs. search needs) (λ c κs. search needs) (λ c κs. search needs)

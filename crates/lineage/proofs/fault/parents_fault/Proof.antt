@@ -1,6 +1,5 @@
 use Rattle.standard.proofs.Prelude.{arith, now, needs, not-true, not-false}
 use Rattle.lineage.proofs.SheetLaws.{both-below, not-before, other-length, parents-fit}
-use Rattle.lineage.proofs.fault.parents_fault.Statement.{statement}
 use Rattle.lineage.proofs.fault.parents_fault.Tie as tie
 
 returns : tie.Need-returns
@@ -41,7 +40,7 @@ returns-3 c =
     (lengths .before .before .before .key-length .ensures) (lengths .before .before .before .before .record-at .ensures)
     (lengths .before .key-length2 .ensures) (lengths .before .before .record-at2 .ensures) (lengths .derived-length .ensures) (not-false _ (c .if2 .left))
 
-pub parents-fault-spec : {M : Type 1} → statement M
+pub parents-fault-spec : {M : Type 1} → Rattle.lineage.proofs.fault.parents_fault.Statement.statement M
 parents-fault-spec =
     tie.close
     (tie.spec (λ c κs. search needs) (λ c κs. search needs) returns record-at-requires (λ c κs. search needs) record-at-requires-2

@@ -4,7 +4,6 @@ use Rattle.standard.proofs.BytesLaws.{failed, passed}
 use Rattle.standard.specs.Bytes.{_!_}
 use Rattle.standard.specs.Lineage.{filled, parentTests}
 use Rattle.standard.specs.Refusals.{first}
-use Rattle.lineage.proofs.fault.record_fault.Statement.{statement}
 use Rattle.lineage.proofs.fault.record_fault.Tie as tie
 
 returns : tie.Need-returns
@@ -30,7 +29,7 @@ returns-3 c =
     ∙ fault-parents (now (x .sheet)) (x .i) (passed (tested .filled .ensures ∙ ap filled (made .record-at .ensures)) (c .before .before .if1 .left))
     (λ z. c .before .if2 .left (ap (λ (p : List ℕ). p ! 0) (made .record-at .ensures) ∙ z))
 
-pub record-fault-spec : {M : Type 1} → statement M
+pub record-fault-spec : {M : Type 1} → Rattle.lineage.proofs.fault.record_fault.Statement.statement M
 record-fault-spec =
     tie.close
     (tie.spec (λ c κs. search needs) (λ c κs. search needs) returns (λ c. search needs) returns-2 (λ c κs. search needs) returns-3)

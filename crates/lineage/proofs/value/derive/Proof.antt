@@ -3,7 +3,6 @@ use Rattle.lineage.proofs.SheetLaws.{as-value, by-ta11, by-ta21, by-ta4
 use Rattle.standard.specs.Bytes.{_!_, table, part}
 use Rattle.standard.specs.Derivation.{core}
 use Rattle.standard.specs.Lineage.{derived}
-use Rattle.lineage.proofs.value.derive.Statement.{statement}
 use Rattle.lineage.proofs.value.derive.Tie as tie
 
 returns : tie.Need-returns
@@ -47,7 +46,7 @@ returns-5 c =
     (by-ta71 (x .operation) (x .t2) (x .t3) (r .0 .0 .0 .1) (r .0 .0 .1) (r .0 .1) (r .1)) in
     c .array162 .ensures ∙ ap (part 0 16) e
 
-pub derive-spec : {M : Type 1} → statement M
+pub derive-spec : {M : Type 1} → Rattle.lineage.proofs.value.derive.Statement.statement M
 derive-spec =
     tie.close
     (tie.spec (λ c. search needs) (λ c κs. search needs) (λ c. search needs) (λ c κs. search needs) (λ c κs. search needs) (λ c κs. search needs)

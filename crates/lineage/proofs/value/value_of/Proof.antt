@@ -5,7 +5,6 @@ use Rattle.standard.specs.Bytes.{_!_, part}
 use Rattle.standard.specs.Lineage.{parent1, parent2, derived}
 use Rattle.standard.specs.Lists.{recordAt}
 use Rattle.standard.specs.Sizes.{valueSize}
-use Rattle.lineage.proofs.value.value_of.Statement.{statement}
 use Rattle.lineage.proofs.value.value_of.Tie as tie
 
 returns : tie.Need-returns
@@ -44,7 +43,7 @@ returns-2 c =
     (first .value-at .ensures ∙ ap (recordAt valueSize (now (x .values))) (first .before .first-parent .ensures ∙ ap parent1 e))
     (second .value-at2 .ensures ∙ ap (recordAt valueSize (now (x .values))) (second .before .second-parent .ensures ∙ ap parent2 e))
 
-pub value-of-spec : {M : Type 1} → statement M
+pub value-of-spec : {M : Type 1} → Rattle.lineage.proofs.value.value_of.Statement.statement M
 value-of-spec =
     tie.close
     (tie.spec (λ c κs. search needs) (λ c. search needs) (λ c κs. search needs) returns (λ c κs. search needs) value-at-requires

@@ -4,7 +4,6 @@ use Rattle.standard.proofs.Prelude.{sym, _∙_, _-_, _≤_, zero-le, arith, nee
 use Rattle.lists.proofs.WalkLaws.{clean-none, clean-more, stopped-at, stopped-not}
 use Rattle.lists.specs.Walks.{Clean}
 use Rattle.standard.specs.Lineage.{lineageFault}
-use Rattle.lineage.proofs.walk.scan.Statement.{statement}
 use Rattle.lineage.proofs.walk.scan.Tie as tie
 
 abbrev Inv-loop : tie.InvT-loop
@@ -29,7 +28,7 @@ loop-again c =
 returns-2 : tie.Need-returns-2 Inv-loop μ-loop
 returns-2 c = stopped-not _ _ (λ j h. c .before .loop .inv .1 j (omega arith))
 
-pub scan-spec : {M : Type 1} → statement M
+pub scan-spec : {M : Type 1} → Rattle.lineage.proofs.walk.scan.Statement.statement M
 scan-spec =
     tie.close
     (tie.spec Inv-loop μ-loop loop-holds (λ c κs. search needs) returns (λ c. search needs) (λ c. search needs) loop-again returns-2)

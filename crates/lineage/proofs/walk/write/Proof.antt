@@ -6,7 +6,6 @@ use Rattle.lists.proofs.WalkLaws.{PrefixWritten, prefix-none, prefix-more}
 use Rattle.standard.proofs.LineageLaws.{value-length}
 use Rattle.standard.specs.Lineage.{valueOf}
 use Rattle.standard.specs.Sizes.{valueSize}
-use Rattle.lineage.proofs.walk.write.Statement.{statement}
 use Rattle.lineage.proofs.walk.write.Tie as tie
 
 abbrev Inv-loop : tie.InvT-loop
@@ -56,7 +55,7 @@ returns c =
     let e : at .i ≡ c .before .before .before .before .args .n = omega arith in
     rw e at (at .inv .1 .bytes)
 
-pub write-spec : {M : Type 1} → statement M
+pub write-spec : {M : Type 1} → Rattle.lineage.proofs.walk.write.Statement.statement M
 write-spec =
     tie.close
     (tie.spec Inv-loop μ-loop loop-holds value-of-requires (λ c. search needs) (λ c. search needs) (λ c. search needs) (λ c. search needs)

@@ -1,6 +1,5 @@
 use Rattle.standard.proofs.Prelude.{needs, lt-ltb, le-ltb}
 use Rattle.lines.specs.Lines.{_▸_}
-use Rattle.lines.proofs.Line.byte.Statement.{statement}
 use Rattle.lines.proofs.Line.byte.Tie as tie
 
 returns : tie.Need-returns
@@ -11,5 +10,5 @@ returns-2 : tie.Need-returns-2
 unfolding _▸_
 returns-2 c = rw (lt-ltb _ _ (c .before .if1 .left))
 
-pub byte-spec : {M : Type 1} → statement M
+pub byte-spec : {M : Type 1} → Rattle.lines.proofs.Line.byte.Statement.statement M
 byte-spec = tie.close (tie.spec returns (λ c. search needs) (λ c. search needs) returns-2)

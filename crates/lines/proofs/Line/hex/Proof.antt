@@ -5,7 +5,6 @@ use Rattle.lines.proofs.LineLaws.{none, next}
 use Rattle.lines.proofs.TextLaws.{hex-step}
 use Rattle.standard.specs.Text.{hexByte, hex}
 use Rattle.lines.specs.Lines.{_▸_}
-use Rattle.lines.proofs.Line.hex.Statement.{statement}
 use Rattle.lines.proofs.Line.hex.Tie as tie
 
 abbrev Inv-loop : tie.InvT-loop
@@ -30,7 +29,7 @@ returns c =
     let x = c .before .before .before .args in
     at .inv .1 ∙ ap (λ (t : List ℕ). x .self ▸ hex t) (take-all (at .i) (now (x .s)) (omega arith))
 
-pub hex-spec : {M : Type 1} → statement M
+pub hex-spec : {M : Type 1} → Rattle.lines.proofs.Line.hex.Statement.statement M
 hex-spec =
     tie.close
     (tie.spec Inv-loop μ-loop loop-holds (λ c. omega arith) (λ c κs. search needs) (λ c. omega arith) (λ c. omega arith) loop-again returns)

@@ -1,7 +1,6 @@
 use Rattle.standard.proofs.Prelude.{[], _∷_, _/_, _%_, needs}
 use Rattle.standard.specs.Text.{hexDigit}
 use Rattle.lines.proofs.LineLaws.{behind}
-use Rattle.lines.proofs.Line.hex_byte.Statement.{statement}
 use Rattle.lines.proofs.Line.hex_byte.Tie as tie
 
 returns : tie.Need-returns
@@ -11,7 +10,7 @@ returns c =
     let high = rw (c .before .before .before .hex-digit .ensures) at (c .before .before .byte .ensures) in
     behind (x .self) (hexDigit (x .b / 16) ∷ []) (hexDigit (x .b % 16) ∷ []) high low
 
-pub hex-byte-spec : {M : Type 1} → statement M
+pub hex-byte-spec : {M : Type 1} → Rattle.lines.proofs.Line.hex_byte.Statement.statement M
 hex-byte-spec =
     tie.close
     (tie.spec (λ c κs. search needs) (λ c κs. search needs) (λ c κs. search needs) (λ c κs. search needs) returns)

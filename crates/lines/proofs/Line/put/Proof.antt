@@ -1,7 +1,6 @@
 use Rattle.standard.proofs.Prelude.{arith, length-take, now, needs}
 use Rattle.lines.proofs.LineLaws.{size-most, put-past, put-copy}
 use Rattle.lines.specs.Lines.{shown}
-use Rattle.lines.proofs.Line.put.Statement.{statement}
 use Rattle.lines.proofs.Line.put.Tie as tie
 
 returns : tie.Need-returns
@@ -25,7 +24,7 @@ returns-2 c =
     let x = size .before .before .args in
     put-copy (x .self .bytes) (now (x .out)) _ (x .at) (x .self .len) _ (size .size .ensures) (c .before .before .copy .ensures)
 
-pub put-spec : {M : Type 1} → statement M
+pub put-spec : {M : Type 1} → Rattle.lines.proofs.Line.put.Statement.statement M
 put-spec =
     tie.close
     (tie.spec (λ c κs. search needs) returns array-share-prefix-bytes slice-aggregate-copy (λ c. search needs) (λ c. search needs) (λ c. search needs)

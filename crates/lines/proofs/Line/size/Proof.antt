@@ -1,6 +1,5 @@
 use Rattle.standard.proofs.Prelude.{_≡_, length, needs}
 use Rattle.lines.proofs.LineLaws.{size-room, size-full}
-use Rattle.lines.proofs.Line.size.Statement.{statement}
 use Rattle.lines.proofs.Line.size.Tie as tie
 
 returns : tie.Need-returns
@@ -15,5 +14,5 @@ returns-2 c =
     let n : length (l .bytes) ≡ 160 = search needs in
     size-full (l .bytes) (l .len) n (c .if1 .left)
 
-pub size-spec : {M : Type 1} → statement M
+pub size-spec : {M : Type 1} → Rattle.lines.proofs.Line.size.Statement.statement M
 size-spec = tie.close (tie.spec returns returns-2)

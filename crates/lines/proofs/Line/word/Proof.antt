@@ -3,7 +3,6 @@
 use Rattle.standard.proofs.Prelude.{_≡_, refl, ap, _∙_, List, [], _∷_, ℕ, _-_, _≤_, zero-le, arith, length, take, take-all, now, needs}
 use Rattle.lines.proofs.LineLaws.{none, next}
 use Rattle.lines.specs.Lines.{_▸_}
-use Rattle.lines.proofs.Line.word.Statement.{statement}
 use Rattle.lines.proofs.Line.word.Tie as tie
 
 abbrev Inv-loop : tie.InvT-loop
@@ -27,7 +26,7 @@ returns c =
     let x = c .before .before .before .args in
     at .inv .1 ∙ ap (λ (t : List ℕ). x .self ▸ t) (take-all (at .i) (now (x .w)) (omega arith))
 
-pub word-spec : {M : Type 1} → statement M
+pub word-spec : {M : Type 1} → Rattle.lines.proofs.Line.word.Statement.statement M
 word-spec =
     tie.close
     (tie.spec Inv-loop μ-loop loop-holds (λ c. omega arith) (λ c κs. search needs) (λ c. omega arith) (λ c. omega arith) loop-again returns)

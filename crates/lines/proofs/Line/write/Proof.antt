@@ -1,7 +1,6 @@
 use Rattle.standard.proofs.Prelude.{arith, now, needs}
 use Rattle.lines.proofs.LineLaws.{put-length, put-over, write-short, write-whole}
 use Rattle.lines.specs.Lines.{shown}
-use Rattle.lines.proofs.Line.write.Statement.{statement}
 use Rattle.lines.proofs.Line.write.Tie as tie
 
 returns : tie.Need-returns
@@ -18,7 +17,7 @@ returns-2 c =
     let length-put = put-length 0 w (now (x .out)) (put .put .ensures) in
     write-whole w (now (x .out)) length-put (omega (arith, length-put, put .before .before .if1 .left)) (put-over 0 w (now (x .out)) (put .put .ensures))
 
-pub write-spec : {M : Type 1} → statement M
+pub write-spec : {M : Type 1} → Rattle.lines.proofs.Line.write.Statement.statement M
 write-spec =
     tie.close
     (tie.spec (λ c κs. search needs) (λ c κs. search needs) returns (λ c κs. search needs) (λ c. search needs) returns-2)

@@ -3,7 +3,6 @@ use Rattle.standard.proofs.FillLaws.{fill-next, filled}
 use Rattle.standard.proofs.MixingLaws.{twice-exact, twice-fits, tb1-at}
 use Rattle.standard.specs.Bytes.{_!_, table}
 use Rattle.standard.specs.Mixing.{tb1}
-use Rattle.mixing.proofs.fields.tb1_of.Statement.{statement}
 use Rattle.mixing.proofs.fields.tb1_of.Tie as tie
 
 abbrev Inv-loop : tie.InvT-loop
@@ -43,7 +42,7 @@ returns c =
     let x = c .before .before .args in
     filled (at .out) (λ j. tb1 (x .value) (x .width) ! j) 16 (at .i) (at .inv .1) (omega arith) (at .inv .2)
 
-pub tb1-of-spec : {M : Type 1} → statement M
+pub tb1-of-spec : {M : Type 1} → Rattle.mixing.proofs.fields.tb1_of.Statement.statement M
 tb1-of-spec =
     tie.close
     (tie.spec Inv-loop μ-loop (λ c. omega arith) add-twice loop-holds (λ c. omega arith) (λ c. omega arith) (λ c. omega arith) (λ c. omega arith)

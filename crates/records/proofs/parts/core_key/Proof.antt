@@ -1,6 +1,5 @@
 use Rattle.standard.proofs.Prelude.{needs}
 use Rattle.standard.specs.Seals.{key10, key16}
-use Rattle.records.proofs.parts.core_key.Statement.{statement}
 use Rattle.records.proofs.parts.core_key.Tie as tie
 
 returns : tie.Need-returns
@@ -21,7 +20,7 @@ returns-4 : tie.Need-returns-4
 unfolding key16
 returns-4 c = rw (c .before .enum-told4 .given .1, c .key163 .ensures, c .before .before .before .ring-key .ensures)
 
-pub core-key-spec : {M : Type 1} → statement M
+pub core-key-spec : {M : Type 1} → Rattle.records.proofs.parts.core_key.Statement.statement M
 core-key-spec =
     tie.close
     (tie.spec (λ c κs. search needs) (λ c. search needs) (λ c. search needs) (λ c κs. search needs) (λ c κs. search needs) (λ c. search needs)

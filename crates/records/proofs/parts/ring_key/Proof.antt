@@ -1,5 +1,4 @@
 use Rattle.standard.proofs.Prelude.{needs}
-use Rattle.records.proofs.parts.ring_key.Statement.{statement}
 use Rattle.records.proofs.parts.ring_key.Tie as tie
 
 returns : tie.Need-returns
@@ -13,7 +12,7 @@ returns-2 c = rw (c .before .before .enum-told2 .given .1, c .part16 .ensures)
 returns-3 : tie.Need-returns-3
 returns-3 c = rw (c .before .before .enum-told3 .given .1, c .part162 .ensures)
 
-pub ring-key-spec : {M : Type 1} → statement M
+pub ring-key-spec : {M : Type 1} → Rattle.records.proofs.parts.ring_key.Statement.statement M
 ring-key-spec =
     tie.close
     (tie.spec (λ c. search needs) (λ c κs. search needs) (λ c. search needs) (λ c κs. search needs) (λ c. search needs) (λ c κs. search needs)

@@ -1,6 +1,5 @@
 use Rattle.standard.proofs.Prelude.{needs, ne-eqb}
 use Rattle.standard.specs.Seals.{kindOf}
-use Rattle.standard.proofs.Kind.from_byte.Statement.{statement}
 use Rattle.standard.proofs.Kind.from_byte.Tie as tie
 
 returns : tie.Need-returns
@@ -34,7 +33,7 @@ returns-7 c =
     let q = r .0 .0 .0 in
     rw (ne-eqb _ _ (q .0 .0 .1), ne-eqb _ _ (q .0 .1), ne-eqb _ _ (q .1), ne-eqb _ _ (r .0 .0 .1), ne-eqb _ _ (r .0 .1), ne-eqb _ _ (r .1))
 
-pub from-byte-spec : {M : Type 1} → statement M
+pub from-byte-spec : {M : Type 1} → Rattle.standard.proofs.Kind.from_byte.Statement.statement M
 from-byte-spec =
     tie.close
     (tie.spec (λ c κs. search needs) (λ c κs. search needs) (λ c κs. search needs) (λ c κs. search needs) (λ c κs. search needs)

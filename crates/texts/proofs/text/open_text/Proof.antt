@@ -1,6 +1,5 @@
 use Rattle.standard.proofs.Prelude.{needs}
 use Rattle.standard.specs.Seals.{opened}
-use Rattle.texts.proofs.text.open_text.Statement.{statement}
 use Rattle.texts.proofs.text.open_text.Tie as tie
 
 returns : tie.Need-returns
@@ -12,7 +11,7 @@ returns c =
       told = rw (c .failed-of .ensures, made .open-core .ensures, made .before .opening-of .ensures);
     }
 
-pub open-text-spec : {M : Type 1} → statement M
+pub open-text-spec : {M : Type 1} → Rattle.texts.proofs.text.open_text.Statement.statement M
 open-text-spec =
     tie.close
     (tie.spec (λ c κs. search needs) (λ c κs. search needs) (λ c κs. search needs) (λ c κs. search needs) returns)

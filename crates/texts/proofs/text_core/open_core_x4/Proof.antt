@@ -1,11 +1,10 @@
 use Rattle.standard.proofs.Prelude.{needs}
-use Rattle.texts.proofs.text_core.open_core_x4.Statement.{statement}
 use Rattle.texts.proofs.text_core.open_core_x4.Tie as tie
 
 returns : tie.Need-returns
 returns c = rw (c .bl2-x4 .ensures, c .before .inputs .ensures, c .before .before .keys .ensures)
 
-pub open-core-x4-spec : {M : Type 1} → statement M
+pub open-core-x4-spec : {M : Type 1} → Rattle.texts.proofs.text_core.open_core_x4.Statement.statement M
 open-core-x4-spec =
     tie.close
     (tie.spec (λ c κs. search needs) (λ c κs. search needs) (λ c κs. search needs) returns)
