@@ -1,5 +1,7 @@
 // TA61 and its inverse: the K strings, the permutation P, and the calls.
 use arrays::array10;
+use arrays::bytes3;
+use arrays::word;
 use cores::exp4;
 use hurdle::encrypt_block;
 use hurdle::substitute;
@@ -12,8 +14,8 @@ use std::num::wrapping_add_u8;
 use std::num::wrapping_sub_u8;
 ghost use mathlib.Core.List.{[], _∷_};
 ghost use mathlib.Core.Path.{_≡_};
-ghost use Prim.Native.Nat.{_+_, _-_, _*_, _%_};
-ghost use Rattle.standard.specs.Bytes.{_!_, _⊕_, table, xors, bytesOf, number3 as number3Of};
+ghost use Prim.Native.Nat.{_+_, _-_, _%_};
+ghost use Rattle.standard.specs.Bytes.{_!_, _⊕_, table, xors, number3 as number3Of};
 ghost use Rattle.standard.specs.Identity.{mix as mixOf, unmix as unmixOf, P, P⁻¹, bc as bcOf, K1, K2, K3};
 ghost use Rattle.standard.specs.Identity.{encryptIdentity, decryptIdentity, ta61Call, ta61⁻¹Call};
 ghost use Rattle.standard.specs.Runs.{identityRuns};
@@ -142,26 +144,10 @@ pub fn decrypt_identity(b: [u8; 8], y: [u8; 3]) -> [u8; 3]
     xor3(twice, k1(b))
 }
 
-fn bytes3(n: u64) -> [u8; 3]
-    ensures { λ r. ⌜ r ≡ bytesOf 3 n ⌝ }
-{
-    [
-        (n / 65536 % 256) as u8,
-        (n / 256 % 256) as u8,
-        (n % 256) as u8,
-    ]
-}
-
-fn number(a: u8, b: u8, c: u8) -> u32
-    ensures { λ r. ⌜ r ≡ 65536 * a + 256 * b + c ⌝ }
-{
-    65536 * (a as u32) + 256 * (b as u32) + (c as u32)
-}
-
 fn number3(b: [u8; 3]) -> u32
     ensures { λ r. ⌜ r ≡ number3Of b ⌝ }
 {
-    number(b[0], b[1], b[2])
+    word(0, b[0], b[1], b[2])
 }
 
 pub fn ta61(common_key: &[u8], identity: u64) -> Identity
