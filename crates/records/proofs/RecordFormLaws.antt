@@ -1,9 +1,10 @@
 -- What the steps on one record add up to.
 -- Assumes nothing.
-use Rattle.standard.proofs.Prelude.{_≡_, refl, sym, ap, _∙_, Bool, true, false, not, List, _∷_, _++_, ℕ, length, take, drop}
+use Rattle.standard.proofs.Prelude.{_≡_, refl, sym, ap, _∙_, Bool, true, false, not, List, [], _∷_, _++_, ℕ, length, take, drop}
 use Rattle.standard.specs.Books.{sealingKey, named, plainFault, openFault, inspectionRuns}
-use Rattle.standard.specs.Bytes.{_!_, part, bytesOf}
+use Rattle.standard.specs.Bytes.{_!_, part, choose}
 use Rattle.standard.specs.Identity.{encryptIdentity, decryptIdentity}
+use Rattle.standard.specs.Refusals.{flagSet, first}
 use Rattle.standard.specs.Seals.{clear, kindOf, form, opened, fails, clears}
 use Rattle.standard.specs.Sizes.{plainSize, sealedSize}
 use Rattle.standard.specs.declared.Kind.{Kind}
@@ -39,47 +40,37 @@ pub inspection-known : (t : List ℕ) (k : Kind) → kindOf (t ! 0) ≡ Known k 
 unfolding inspectionRuns
 inspection-known t k e = rw e
 
-not-swap : (a : Bool) {s : Bool} → s ≡ not a → a ≡ not s
-not-swap true h = rw h
-not-swap false h = rw h
+-- the flag, from the text opened under the core's key
+pub open-flag : (r t : List ℕ) {k : Kind} {key v text : List ℕ} (set : Bool) → kindOf (t ! 0) ≡ Known k → key ≡ form k .key (sealingKey k r) v
+    → v ≡ part 4 2 t → text ≡ part 6 15 t → set ≡ not (clear (form k) (opened key text)) → choose set flagSet 0 ≡ openFault r t
+unfolding openFault fails
+open-flag r t {k} set e q ev et f = rw e (go (clears (form k) (sealingKey k r) (part 4 2 t) (part 6 15 t)) (rw (q, ev, et) at f))
+  where
+    go : (a : Bool) → set ≡ not a → choose set flagSet 0 ≡ first ((a, flagSet) ∷ [])
+    go true h = rw h
+    go false h = rw h
 
-module _ (r t : List ℕ) (k : Kind) (e : kindOf (t ! 0) ≡ Known k) (key : List ℕ) (v : ℕ) (text : List ℕ)
-    (q : key ≡ form k .key (sealingKey k r) (bytesOf 2 v)) (ev : bytesOf 2 v ≡ part 4 2 t) (et : text ≡ part 6 15 t)
-    (set : Bool) (f : set ≡ not (clear (form k) (opened key text))) where
-  cleared : clears (form k) (sealingKey k r) (part 4 2 t) (part 6 15 t) ≡ not set
-  unfolding fails
-  cleared = not-swap _ (rw (q, ev, et) at f)
+-- ---- what the core takes of a record, whose first byte names kind k
 
-  pub open-set : set ≡ true → 6 ≡ openFault r t
-  unfolding openFault
-  open-set h = rw (e, cleared, h)
+module _ (rec : List ℕ) {k : Kind} {b : ℕ} (ek : k ≡ named (kindOf b)) (eb : b ≡ rec ! 0) where
+  pub input-taken : {body input : List ℕ} → body ≡ part 6 12 rec → input ≡ form k .input body → input ≡ plainInput rec
+  unfolding plainInput
+  input-taken eh ei = rw (ei, eh, ek, eb)
 
-  pub open-clear : set ≡ false → 0 ≡ openFault r t
-  unfolding openFault
-  open-clear h = rw (e, cleared, h)
-
--- ---- what the core takes of a record, whose first byte is b
-
-pub input-taken : (rec : List ℕ) (k : Kind) (b : ℕ) → k ≡ named (kindOf b) → b ≡ rec ! 0 → (body input : List ℕ) → body ≡ part 6 12 rec
-    → input ≡ form k .input body → input ≡ plainInput rec
-unfolding plainInput
-input-taken rec k b ek eb body input eh ei = rw (ei, eh, ek, eb)
-
-pub key-taken : (r rec : List ℕ) (k : Kind) (b : ℕ) → k ≡ named (kindOf b) → b ≡ rec ! 0 → (v : ℕ) (key : List ℕ) → bytesOf 2 v ≡ part 4 2 rec
-    → key ≡ form k .key (sealingKey k r) (bytesOf 2 v) → key ≡ coreKey r rec
-unfolding coreKey
-key-taken r rec k b ek eb v key ev eq = rw (eq, ev, ek, eb)
+  pub key-taken : (r : List ℕ) {v key : List ℕ} → v ≡ part 4 2 rec → key ≡ form k .key (sealingKey k r) v → key ≡ coreKey r rec
+  unfolding coreKey
+  key-taken r ev eq = rw (eq, ev, ek, eb)
 
 -- ---- what is made of the core's output: the head with another identity, and what stands after it
 
-module _ (b rec id h out exit made : List ℕ) (e : h ≡ rec ! 0 ∷ part 0 3 id ++ part 4 2 rec)
+module _ (b rec out : List ℕ) {id h exit made : List ℕ} (e : h ≡ rec ! 0 ∷ part 0 3 id ++ part 4 2 rec)
     (ec : exit ≡ take (length out) made ++ drop (length made) out) where
   pub sealed-put : (text : List ℕ) → id ≡ encryptIdentity b (part 1 3 rec) → made ≡ part 0 6 h ++ part 0 15 text
       → exit ≡ take (length out) (sealedWith b rec text) ++ drop sealedSize out
   unfolding sealedWith
   sealed-put text ei em = ec ∙ rw (em, e, ei)
 
-  pub opened-put : (k : Kind) (u body : List ℕ) → k ≡ named (kindOf (rec ! 0)) → id ≡ decryptIdentity b (part 1 3 rec) → body ≡ form k .shrink u
+  pub opened-put : (u : List ℕ) {k : Kind} {body : List ℕ} → k ≡ named (kindOf (rec ! 0)) → id ≡ decryptIdentity b (part 1 3 rec) → body ≡ form k .shrink u
       → made ≡ part 0 6 h ++ part 0 12 body → exit ≡ take (length out) (openedWith b rec u) ++ drop plainSize out
   unfolding openedWith
-  opened-put k u body ek ei eb em = ec ∙ rw (em, eb, e, ei, ek)
+  opened-put u ek ei eb em = ec ∙ rw (em, eb, e, ei, ek)

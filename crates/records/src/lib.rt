@@ -37,9 +37,9 @@ ghost use mathlib.Core.Path.{_≡_};
 ghost use lib.Dec.{eqb, leb};
 ghost use lib.ListN.{length, take, drop};
 ghost use Rattle.standard.specs.Books.{commonKey, named, plainFault, openFault, inspectionRuns};
-ghost use Rattle.standard.specs.Bytes.{_!_, part};
+ghost use Rattle.standard.specs.Bytes.{_!_, part, choose};
 ghost use Rattle.standard.specs.Identity.{bc as bcOf};
-ghost use Rattle.standard.specs.Refusals.{notZero, wrongNumber, first};
+ghost use Rattle.standard.specs.Refusals.{notZero, wrongNumber, flagSet, first};
 ghost use Rattle.standard.specs.Runs.{identityRuns};
 ghost use Rattle.standard.specs.Seals.{form, form31, kindOf, with8 as with8Of};
 ghost use Rattle.standard.specs.Sizes.{plainSize, sealedSize};
@@ -112,6 +112,12 @@ pub struct Inspection {
     pub runs: usize,
 }
 
+fn flag_refusal(set: bool) -> u32
+    ensures { λ r. ⌜ r ≡ choose set flagSet 0 ⌝ }
+{
+    if set { FLAG_SET } else { 0 }
+}
+
 // The inspection of a sealed record under a ring.
 pub fn inspect_sealed(ring: &RingBytes, rec: &[u8]) -> Inspection
     ensures { λ l. ⌜ (l .refusal ≡ openFault (now (ring .entry)) (now (rec .entry))) × (l .runs ≡ inspectionRuns (now (rec .entry))) ⌝ }
@@ -125,14 +131,8 @@ pub fn inspect_sealed(ring: &RingBytes, rec: &[u8]) -> Inspection
     let algorithm = kind.algorithm;
     let key = core_key(kind, ring, version_of(rec));
     let flag = flag_of(algorithm, key, part15(rec, 6));
-    if flag.set {
-        return Inspection {
-            refusal: FLAG_SET,
-            runs: flag.runs,
-        };
-    }
     Inspection {
-        refusal: 0,
+        refusal: flag_refusal(flag.set),
         runs: flag.runs,
     }
 }
@@ -150,36 +150,24 @@ pub fn kind_of(b: u8) -> Kind
     }
 }
 
-// The core's key for a record, plain or sealed.
-fn key_of(ring: &RingBytes, rec: &[u8]) -> [u8; 16]
-    ensures { λ k. ⌜ k ≡ coreKey (now (ring .entry)) (now (rec .entry)) ⌝ }
-{
-    core_key(kind_of(byte_at(rec, 0)), ring, version_of(rec))
-}
-
-// BL1's input for a plain record.
-fn plain_input(rec: &[u8]) -> [u8; 16]
-    ensures { λ x. ⌜ x ≡ plainInput (now (rec .entry)) ⌝ }
-{
-    let kind = kind_of(byte_at(rec, 0));
-    let algorithm = kind.algorithm;
-    input_of(algorithm, part12(rec, 6))
-}
-
+// What BL1 takes of a plain record: the core's key, and the input.
 pub fn sealing_input(ring: &RingBytes, rec: &[u8]) -> CoreInput
     ensures { λ t. ⌜ (t .key ≡ coreKey (now (ring .entry)) (now (rec .entry))) × (t .input ≡ plainInput (now (rec .entry))) ⌝ }
 {
+    let kind = kind_of(byte_at(rec, 0));
+    let algorithm = kind.algorithm;
     CoreInput {
-        key: key_of(ring, rec),
-        input: plain_input(rec),
+        key: core_key(kind, ring, version_of(rec)),
+        input: input_of(algorithm, part12(rec, 6)),
     }
 }
 
-// BL2's input for a sealed record is its text.
+// What BL2 takes of a sealed record, whose text is the input.
 pub fn opening_input(ring: &RingBytes, rec: &[u8]) -> CoreInput
     ensures { λ t. ⌜ (t .key ≡ coreKey (now (ring .entry)) (now (rec .entry))) × (t .input ≡ with8Of (part 6 15 (now (rec .entry)))) ⌝ }
 {
-    opening_of(key_of(ring, rec), part15(rec, 6))
+    let kind = kind_of(byte_at(rec, 0));
+    opening_of(core_key(kind, ring, version_of(rec)), part15(rec, 6))
 }
 
 // The sealed record of a plain one and its sealed text, into its own part of the output. `identity_strings` are the ring's.

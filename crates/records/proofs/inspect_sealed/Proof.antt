@@ -1,5 +1,5 @@
 use Rattle.standard.proofs.Prelude.{_∙_, now, needs}
-use Rattle.records.proofs.RecordFormLaws.{named-by, open-unknown, open-set, open-clear, inspection-unknown, inspection-known}
+use Rattle.records.proofs.RecordFormLaws.{named-by, open-unknown, open-flag, inspection-unknown, inspection-known}
 use Rattle.records.proofs.inspect_sealed.Tie as tie
 
 returns : tie.Need-returns
@@ -21,25 +21,9 @@ returns-2 c =
     let x = first .before .before .args in
     let t = now (x .rec) in
     let e = named-by t (first .byte-at .ensures) (found .from-byte .ensures) ∙ known .kind .given .1 in (
-      open-set (now (x .ring)) t (known .kind .given .0 .0) e (core .core-key .result) (core .before .version-of .result .0) (flag .before .part15 .result)
-          (core .core-key .ensures) (core .before .version-of .ensures) (flag .before .part15 .ensures) (flag .flag-of .result .set)
-          (flag .flag-of .ensures .0) (c .if1 .taken),
-      flag .flag-of .ensures .1 ∙ inspection-known t _ e,
-    )
-
-returns-3 : tie.Need-returns-3
-returns-3 c =
-    let flag = c .before in
-    let core = flag .before .before in
-    let known = core .before .before .before in
-    let found = known .before .before in
-    let first = found .before in
-    let x = first .before .before .args in
-    let t = now (x .rec) in
-    let e = named-by t (first .byte-at .ensures) (found .from-byte .ensures) ∙ known .kind .given .1 in (
-      open-clear (now (x .ring)) t (known .kind .given .0 .0) e (core .core-key .result) (core .before .version-of .result .0) (flag .before .part15 .result)
-          (core .core-key .ensures) (core .before .version-of .ensures) (flag .before .part15 .ensures) (flag .flag-of .result .set)
-          (flag .flag-of .ensures .0) (c .if1 .left),
+      c .flag-refusal .ensures
+          ∙ open-flag (now (x .ring)) t (flag .flag-of .result .set) e (core .core-key .ensures) (core .before .version-of .ensures)
+          (flag .before .part15 .ensures) (flag .flag-of .ensures .0),
       flag .flag-of .ensures .1 ∙ inspection-known t _ e,
     )
 
@@ -47,4 +31,4 @@ pub inspect-sealed-spec : {M : Type 1} → Rattle.records.proofs.inspec
 inspect-sealed-spec =
     tie.close
     (tie.spec (λ c κs. search needs) (λ c κs. search needs) (λ c. search needs) (λ c. search needs) returns (λ c κs. search needs)
-    (λ c κs. search needs) (λ c κs. search needs) (λ c κs. search needs) returns-2 returns-3)
+    (λ c κs. search needs) (λ c κs. search needs) (λ c κs. search needs) (λ c κs. search needs) returns-2)

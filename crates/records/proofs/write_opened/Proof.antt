@@ -10,9 +10,7 @@ returns c =
     let kind = identity .before .before in
     let first = kind .before in
     let x = first .before .before .before .args in
-    opened-put (x .identity-strings) (now (x .rec)) (identity .decrypt-identity .result) (body .before .head-with .result) (now (x .out)) _
-    (made .join-6-12 .result)
-    (body .before .head-with .ensures) (c .before .before .copy .ensures) (kind .kind-of .result) (x .u) (body .body-of .result)
+    opened-put (x .identity-strings) (now (x .rec)) (now (x .out)) (body .before .head-with .ensures) (c .before .before .copy .ensures) (x .u)
     (kind .kind-of .ensures ∙ rw (first .byte-at .ensures)) (identity .decrypt-identity .ensures ∙ rw (identity .before .part3 .ensures))
     (body .body-of .ensures) (made .join-6-12 .ensures)
 
