@@ -7,12 +7,16 @@ use crate::text_core::CoreInput;
 use crate::text_core::open_core;
 use crate::text_core::opening_of;
 use crate::text_core::seal_core;
+use arrays::array10;
+use arrays::array16;
+use arrays::join_8_8;
+use arrays::xor16;
 use cores::exp4;
 use standard::Algorithm;
 use standard::Version;
 ghost use mathlib.Core.Bool.{not};
 ghost use mathlib.Core.Path.{_≡_};
-ghost use Rattle.standard.specs.Bytes.{bytesOf, xors};
+ghost use Rattle.standard.specs.Bytes.{bytesOf};
 ghost use Rattle.standard.specs.Runs.{textRuns};
 ghost use Rattle.standard.specs.Seals.{clear, formOf, sealed as sealedOf, opened as openedOf, key10 as key10Of, key16 as key16Of, repeated};
 ghost use Rattle.texts.specs.OpenedTexts.{Opened as OpenedOf};
@@ -24,59 +28,26 @@ fn bytes_of(version: Version) -> [u8; 2]
     [(version.0 / 256 % 256) as u8, (version.0 % 256) as u8]
 }
 
-// The version written five times ⊕ the sealing key.
-fn mixed10(s: [u8; 10], v: [u8; 2]) -> [u8; 10]
-    ensures { λ r. ⌜ r ≡ xors 10 (repeated 10 v) s ⌝ }
+// The version written four times.
+fn four_times(v: [u8; 2]) -> [u8; 8]
+    ensures { λ r. ⌜ r ≡ repeated 8 v ⌝ }
 {
-    [
-        v[0] ^ s[0],
-        v[1] ^ s[1],
-        v[0] ^ s[2],
-        v[1] ^ s[3],
-        v[0] ^ s[4],
-        v[1] ^ s[5],
-        v[0] ^ s[6],
-        v[1] ^ s[7],
-        v[0] ^ s[8],
-        v[1] ^ s[9],
-    ]
+    [v[0], v[1], v[0], v[1], v[0], v[1], v[0], v[1]]
 }
 
-fn mixed16(s: [u8; 16], v: [u8; 2]) -> [u8; 16]
-    ensures { λ r. ⌜ r ≡ xors 16 (repeated 16 v) s ⌝ }
-{
-    [
-        v[0] ^ s[0],
-        v[1] ^ s[1],
-        v[0] ^ s[2],
-        v[1] ^ s[3],
-        v[0] ^ s[4],
-        v[1] ^ s[5],
-        v[0] ^ s[6],
-        v[1] ^ s[7],
-        v[0] ^ s[8],
-        v[1] ^ s[9],
-        v[0] ^ s[10],
-        v[1] ^ s[11],
-        v[0] ^ s[12],
-        v[1] ^ s[13],
-        v[0] ^ s[14],
-        v[1] ^ s[15],
-    ]
-}
-
-// The core's key for kind 1.
-pub fn key10(sealing_key: [u8; 10], version: Version) -> [u8; 16]
-    ensures { λ r. ⌜ r ≡ key10Of «sealing_key» (bytesOf 2 (version .0)) ⌝ }
-{
-    exp4(mixed10(sealing_key, bytes_of(version)))
-}
-
-// The core's key for kinds 2 to 6.
+// The core's key for kinds 2 to 6: the version written eight times ⊕ the sealing key.
 pub fn key16(sealing_key: [u8; 16], version: Version) -> [u8; 16]
     ensures { λ r. ⌜ r ≡ key16Of «sealing_key» (bytesOf 2 (version .0)) ⌝ }
 {
-    mixed16(sealing_key, bytes_of(version))
+    let copies = four_times(bytes_of(version));
+    xor16(join_8_8(copies, copies), sealing_key)
+}
+
+// For kind 1 it is expanded from the first ten bytes of that.
+pub fn key10(sealing_key: [u8; 10], version: Version) -> [u8; 16]
+    ensures { λ r. ⌜ r ≡ key10Of «sealing_key» (bytesOf 2 (version .0)) ⌝ }
+{
+    exp4(array10(&key16(array16(&sealing_key), version)))
 }
 
 // The sealed text of a body.
