@@ -1,12 +1,13 @@
 -- What the steps of a round compute, on words of 32 bits, on their way to the definitions.
 -- Assumes nothing.
 use mathlib.Core.Bool.{Bool, true, false, _&&_}
-use mathlib.Core.List.{List, [], _∷_, map}
+use mathlib.Core.List.{List, [], _∷_, _++_, map}
 use mathlib.Core.Path.{_≡_}
 use Prim.Native.Nat.{ℕ, zero, suc, _+_, _-_, _*_, _/_, _%_, _^_}
 use lib.ListN.{getD}
 use Rattle.hurdle.specs.declared.round.Halves.{Halves as Words}
-use Rattle.standard.specs.Bytes.{_!_, byte, bit, _⊕_, _⊞_, table, part}
+use Rattle.hurdle.specs.declared.round.Part.{Part}
+use Rattle.standard.specs.Bytes.{_!_, byte, bit, _⊕_, table, part}
 use Rattle.standard.specs.Hurdle.{S, E, Halves, crypt, schedule, roundKey}
 use Rattle.standard.specs.Refusals.{wrongLength, hasLength, first, answer8}
 use Rattle.standard.specs.declared.Bytes8.{Bytes8}
@@ -20,31 +21,39 @@ abbrev pub place : Bool → ℕ → ℕ
 place false i = i
 place true i = 15 - i
 
--- ---- f over tables s and w in the places of S and of its spread bits: the code takes copies, made once for a block or for four side by side
+-- ---- f over tables s and w in the places of S, twice, and of its spread bits: the code takes copies, made once for a block or for four
 
--- the index in s of link j, of those after the byte t: each takes s at the index before
+-- the index in s of link j, of those after the byte t: each takes s at the index before. A sum of two bytes has nine bits
 abbrev pub linked : (s : List ℕ) (t : ℕ) (e k : ℕ → ℕ) → ℕ → ℕ
-linked s t e k zero = (e 0 ⊞ k 0) ⊕ t
-linked s t e k (suc j) = (e (suc j) ⊞ k (suc j)) ⊕ s ! linked s t e k j
+linked s t e k zero = (e 0 + k 0) ⊕ t
+linked s t e k (suc j) = (e (suc j) + k (suc j)) ⊕ s ! (linked s t e k j % 512)
 
 -- the indexes of links n to n + 3 of f's chain, after the byte t
 unfoldable pub linksOver : (s : List ℕ) (t : ℕ) (x k : List ℕ) → ℕ → List ℕ
-linksOver s t x k n = table 4 (linked s t (λ j. E x (n + j)) (λ j. byte 12 k (n + j)))
+linksOver s t x k n = table 4 (linked s t (λ j. E x (j + n)) (λ j. byte 12 k (j + n)))
+
+-- the byte of the chain after four links
+abbrev pub lastOver : (s i : List ℕ) → ℕ
+lastOver s i = s ! (i ! 3 % 512)
 
 -- the sum of w at four indexes, each one bit further left
 abbrev pub nibblesOver : (w i : List ℕ) → ℕ
-nibblesOver w i = w ! (i ! 0) + 2 * w ! (i ! 1) + 4 * w ! (i ! 2) + 8 * w ! (i ! 3)
+nibblesOver w i = (w ! (i ! 0 % 256) + 2 * w ! (i ! 1 % 256) + 4 * w ! (i ! 2 % 256) + 8 * w ! (i ! 3 % 256)) % 4294967296
 
--- the same of eight, as a word
-abbrev pub gatherOver : (w q r : List ℕ) → ℕ
-gatherOver w q r = (nibblesOver w q + 16 * nibblesOver w r) % 4294967296
+-- T3
+abbrev pub firstOver : (s x k : List ℕ) → ℕ
+firstOver s x k = lastOver s (linksOver s 0 x k 0)
 
--- from T4 to T7 and T8 to T11, each after the byte before
-abbrev pub lastOver : (s w x k q : List ℕ) → ℕ
-lastOver s w x k q = gatherOver w q (linksOver s (s ! (q ! 3)) x k 8)
+-- T7 and the bits of T4 to T7, after t
+abbrev pub secondOver : (s w : List ℕ) (t : ℕ) (x k : List ℕ) → Part
+secondOver s w t x k = record { t = lastOver s (linksOver s t x k 4); y = nibblesOver w (linksOver s t x k 4) }
+
+-- with the bits of T8 to T11
+abbrev pub thirdOver : (s w : List ℕ) → Part → (x k : List ℕ) → ℕ
+thirdOver s w p x k = (p .y + 16 * nibblesOver w (linksOver s (p .t) x k 8)) % 4294967296
 
 unfoldable pub fOver : (s w x k : List ℕ) → ℕ
-fOver s w x k = lastOver s w x k (linksOver s (s ! (linksOver s 0 x k 0 ! 3)) x k 4)
+fOver s w x k = thirdOver s w (secondOver s w (firstOver s x k) x k) x k
 
 -- the halves exchanged, after the left one ⊕ y
 abbrev pub exchangedBy : Words → ℕ → Words
@@ -57,6 +66,10 @@ roundOver s w k h = exchangedBy h (fOver s w (bytes4 (h .r)) k)
 abbrev pub spreadOf : ℕ → ℕ
 spreadOf t = bit 0 t + 256 * bit 1 t + 65536 * bit 2 t + 16777216 * bit 3 t
 
+-- S, and S again
+unfoldable pub twice : List ℕ
+twice = S ++ S
+
 -- S's entries, spread
 unfoldable pub spreads : List ℕ
 spreads = map spreadOf S
@@ -64,11 +77,14 @@ spreads = map spreadOf S
 -- n rounds
 unfoldable pub roundsOver : Bool → List ℕ → ℕ → Words → Words
 roundsOver back keys zero h = h
-roundsOver back keys (suc n) h = roundOver S spreads (roundKey keys (place back n)) (roundsOver back keys n h)
+roundsOver back keys (suc n) h = roundOver twice spreads (roundKey keys (place back n)) (roundsOver back keys n h)
 
--- of four pairs of halves, lane j's
+-- of four pairs of halves, or of four parts of the chain, lane j's
 abbrev pub halvesAt : List Words → ℕ → Words
 halvesAt hs j = getD hs j (record { l = 0; r = 0 })
+
+abbrev pub partAt : List Part → ℕ → Part
+partAt ps j = getD ps j (record { t = 0; y = 0 })
 
 -- the bytes of both halves
 abbrev pub halfBytes : Words → Halves

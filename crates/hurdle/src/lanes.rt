@@ -1,14 +1,14 @@
 // Four blocks side by side, one to a lane, each lane under round keys of its own. In a block each lookup waits for the one before; the
 // lanes take four links in turn, so that the lookups of one overlap with those of the others.
 use crate::round::Halves;
+use crate::round::Part;
 use crate::round::first;
-use crate::round::gather;
 use crate::round::joined;
 use crate::round::place;
 use crate::round::second;
 use crate::round::split;
 use crate::round::third;
-use crate::tables::S;
+use crate::tables::S_TWICE;
 use crate::tables::SPREAD;
 ghost use mathlib.Core.List.{_++_};
 ghost use mathlib.Core.Path.{_≡_};
@@ -17,20 +17,21 @@ ghost use lib.ListN.{length};
 ghost use Rattle.standard.specs.Bytes.{_!_, part};
 ghost use Rattle.standard.specs.Hurdle.{crypt as cryptOf, roundKey};
 ghost use Rattle.hurdle.specs.Lanes.{lanes, lane, byLane, eachLane};
-ghost use Rattle.hurdle.specs.RoundSteps.{bytes4, linksOver, gatherOver, fOver, exchangedBy, roundsOver, place as placeOf, HalvesOf, halvesAt};
+ghost use Rattle.hurdle.specs.RoundSteps.{bytes4, firstOver, secondOver, thirdOver, fOver, exchangedBy, roundsOver, place as placeOf, HalvesOf};
+ghost use Rattle.hurdle.specs.RoundSteps.{halvesAt, partAt};
 
 fn firsts(
-    s: &[u8; 256],
+    s: &[u8; 512],
     h: [Halves; 4],
     ka: &[u8],
     kb: &[u8],
     kc: &[u8],
     kd: &[u8],
     at: usize,
-) -> [[u8; 4]; 4]
+) -> [u8; 4]
     requires { ⌜ (at + 12 ≤ length (now ka)) × (at + 12 ≤ length (now kb)) × (at + 12 ≤ length (now kc)) × (at + 12 ≤ length (now kd)) ⌝ }
-    ensures { λ r. ⌜ r ≡ lanes (λ j. linksOver (now (s .entry)) 0 (bytes4 (halvesAt h j .r))
-        (part at 12 (byLane (now (ka .entry)) (now (kb .entry)) (now (kc .entry)) (now (kd .entry)) j)) 0) ⌝ }
+    ensures { λ r. ⌜ r ≡ lanes (λ j. firstOver (now (s .entry)) (bytes4 (halvesAt h j .r))
+        (part at 12 (byLane (now (ka .entry)) (now (kb .entry)) (now (kc .entry)) (now (kd .entry)) j))) ⌝ }
 {
     [
         first(s, h[0].r, ka, at),
@@ -41,79 +42,54 @@ fn firsts(
 }
 
 fn seconds(
-    s: &[u8; 256],
-    p: [[u8; 4]; 4],
+    s: &[u8; 512],
+    w: &[u32; 256],
+    t: [u8; 4],
     h: [Halves; 4],
     ka: &[u8],
     kb: &[u8],
     kc: &[u8],
     kd: &[u8],
     at: usize,
-) -> [[u8; 4]; 4]
+) -> [Part; 4]
     requires { ⌜ (at + 12 ≤ length (now ka)) × (at + 12 ≤ length (now kb)) × (at + 12 ≤ length (now kc)) × (at + 12 ≤ length (now kd)) ⌝ }
-    ensures { λ r. ⌜ r ≡ lanes (λ j. linksOver (now (s .entry)) (now (s .entry) ! (lane p j ! 3)) (bytes4 (halvesAt h j .r))
-        (part at 12 (byLane (now (ka .entry)) (now (kb .entry)) (now (kc .entry)) (now (kd .entry)) j)) 4) ⌝ }
+    ensures { λ r. ⌜ r ≡ lanes (λ j. secondOver (now (s .entry)) (now (w .entry)) (t ! j) (bytes4 (halvesAt h j .r))
+        (part at 12 (byLane (now (ka .entry)) (now (kb .entry)) (now (kc .entry)) (now (kd .entry)) j))) ⌝ }
 {
-    let pa = p[0];
-    let pb = p[1];
-    let pc = p[2];
-    let pd = p[3];
     [
-        second(s, pa, h[0].r, ka, at),
-        second(s, pb, h[1].r, kb, at),
-        second(s, pc, h[2].r, kc, at),
-        second(s, pd, h[3].r, kd, at),
+        second(s, w, t[0], h[0].r, ka, at),
+        second(s, w, t[1], h[1].r, kb, at),
+        second(s, w, t[2], h[2].r, kc, at),
+        second(s, w, t[3], h[3].r, kd, at),
     ]
 }
 
 fn thirds(
-    s: &[u8; 256],
-    q: [[u8; 4]; 4],
+    s: &[u8; 512],
+    w: &[u32; 256],
+    p: [Part; 4],
     h: [Halves; 4],
     ka: &[u8],
     kb: &[u8],
     kc: &[u8],
     kd: &[u8],
     at: usize,
-) -> [[u8; 4]; 4]
+) -> [u32; 4]
     requires { ⌜ (at + 12 ≤ length (now ka)) × (at + 12 ≤ length (now kb)) × (at + 12 ≤ length (now kc)) × (at + 12 ≤ length (now kd)) ⌝ }
-    ensures { λ r. ⌜ r ≡ lanes (λ j. linksOver (now (s .entry)) (now (s .entry) ! (lane q j ! 3)) (bytes4 (halvesAt h j .r))
-        (part at 12 (byLane (now (ka .entry)) (now (kb .entry)) (now (kc .entry)) (now (kd .entry)) j)) 8) ⌝ }
+    ensures { λ r. ⌜ r ≡ lanes (λ j. thirdOver (now (s .entry)) (now (w .entry)) (partAt p j) (bytes4 (halvesAt h j .r))
+        (part at 12 (byLane (now (ka .entry)) (now (kb .entry)) (now (kc .entry)) (now (kd .entry)) j))) ⌝ }
 {
-    let qa = q[0];
-    let qb = q[1];
-    let qc = q[2];
-    let qd = q[3];
     [
-        third(s, qa, h[0].r, ka, at),
-        third(s, qb, h[1].r, kb, at),
-        third(s, qc, h[2].r, kc, at),
-        third(s, qd, h[3].r, kd, at),
-    ]
-}
-
-fn gathers(w: &[u32; 256], q: [[u8; 4]; 4], r: [[u8; 4]; 4]) -> [u32; 4]
-    ensures { λ y. ⌜ y ≡ lanes (λ j. gatherOver (now (w .entry)) (lane q j) (lane r j)) ⌝ }
-{
-    let qa = q[0];
-    let qb = q[1];
-    let qc = q[2];
-    let qd = q[3];
-    let ra = r[0];
-    let rb = r[1];
-    let rc = r[2];
-    let rd = r[3];
-    [
-        gather(w, qa, ra),
-        gather(w, qb, rb),
-        gather(w, qc, rc),
-        gather(w, qd, rd),
+        third(s, w, p[0], h[0].r, ka, at),
+        third(s, w, p[1], h[1].r, kb, at),
+        third(s, w, p[2], h[2].r, kc, at),
+        third(s, w, p[3], h[3].r, kd, at),
     ]
 }
 
 // f in each lane.
 fn f_x4(
-    s: &[u8; 256],
+    s: &[u8; 512],
     w: &[u32; 256],
     h: [Halves; 4],
     ka: &[u8],
@@ -126,10 +102,9 @@ fn f_x4(
     ensures { λ r. ⌜ r ≡ lanes (λ j. fOver (now (s .entry)) (now (w .entry)) (bytes4 (halvesAt h j .r))
         (part at 12 (byLane (now (ka .entry)) (now (kb .entry)) (now (kc .entry)) (now (kd .entry)) j))) ⌝ }
 {
-    let p = firsts(s, h, ka, kb, kc, kd, at);
-    let q = seconds(s, p, h, ka, kb, kc, kd, at);
-    let r = thirds(s, q, h, ka, kb, kc, kd, at);
-    gathers(w, q, r)
+    let t = firsts(s, h, ka, kb, kc, kd, at);
+    let p = seconds(s, w, t, h, ka, kb, kc, kd, at);
+    thirds(s, w, p, h, ka, kb, kc, kd, at)
 }
 
 // The end of a round in each lane, written out: calls would cost time here.
@@ -168,7 +143,7 @@ fn rounds(
     ensures { λ o. ⌜ eachLane (λ j. halvesAt o j ≡ roundsOver back
         (byLane (now (ka .entry)) (now (kb .entry)) (now (kc .entry)) (now (kd .entry)) j) 16 (halvesAt h j)) ⌝ }
 {
-    let s = S;
+    let s = S_TWICE;
     let w = SPREAD;
     let a = &ka[..];
     let b = &kb[..];

@@ -1,16 +1,15 @@
 // f, and the sixteen rounds on the halves L and R, which are words here.
-use crate::tables::S;
+use crate::tables::S_TWICE;
 use crate::tables::SPREAD;
-use crate::tables::entry;
+use crate::tables::chained;
 use crate::tables::spread;
-use std::num::wrapping_add_u8;
 ghost use mathlib.Core.List.{[], _∷_, _++_};
 ghost use mathlib.Core.Path.{_≡_};
 ghost use Prim.Native.Nat.{_+_, _<_, _≤_};
 ghost use lib.ListN.{length};
-ghost use Rattle.standard.specs.Bytes.{_!_, byte, _⊕_, _⊞_, table, part};
+ghost use Rattle.standard.specs.Bytes.{_!_, byte, _⊕_, table, part};
 ghost use Rattle.standard.specs.Hurdle.{crypt as cryptOf, roundKey};
-ghost use Rattle.hurdle.specs.RoundSteps.{bytes4, linked, linksOver, nibblesOver, gatherOver, fOver, exchangedBy, roundOver, roundsOver};
+ghost use Rattle.hurdle.specs.RoundSteps.{bytes4, linked, nibblesOver, firstOver, secondOver, thirdOver, fOver, exchangedBy, roundOver, roundsOver};
 ghost use Rattle.hurdle.specs.RoundSteps.{place as placeOf, HalvesOf};
 
 // The bytes of a half, the rightmost first, as E numbers them.
@@ -25,91 +24,92 @@ fn half_bytes(x: u32) -> [u8; 4]
     ]
 }
 
-// The index of a link in S: (e + k) ⊕ t.
-fn link(t: u8, e: u8, k: u8) -> u8
-    ensures { λ r. ⌜ r ≡ (e ⊞ k) ⊕ t ⌝ }
+// The index of a link in S_TWICE: (e + k) ⊕ t.
+fn link(t: u8, e: u8, k: u8) -> usize
+    ensures { λ r. ⌜ r ≡ (e + k) ⊕ t ⌝ }
 {
-    wrapping_add_u8(e, k) ^ t
+    (e as usize + k as usize) ^ t as usize
 }
 
 // The indexes of four links after the byte t of the chain.
-fn links(s: &[u8; 256], t: u8, e: [u8; 4], k: [u8; 4]) -> [u8; 4]
+fn links(s: &[u8; 512], t: u8, e: [u8; 4], k: [u8; 4]) -> [usize; 4]
     ensures { λ r. ⌜ r ≡ table 4 (linked (now (s .entry)) t (_!_ e) (_!_ k)) ⌝ }
 {
     let a = link(t, e[0], k[0]);
-    let b = link(entry(s, a), e[1], k[1]);
-    let c = link(entry(s, b), e[2], k[2]);
-    let d = link(entry(s, c), e[3], k[3]);
+    let b = link(chained(s, a), e[1], k[1]);
+    let c = link(chained(s, b), e[2], k[2]);
+    let d = link(chained(s, c), e[3], k[3]);
     [a, b, c, d]
 }
 
-// The indexes of f's chain in three fours, under the round key of twelve bytes from index `at` on: those of T0 to T3, where T0 is a link
-// after 0.
-pub(crate) fn first(s: &[u8; 256], x: u32, k: &[u8], at: usize) -> [u8; 4]
-    requires { ⌜ at + 12 ≤ length (now k) ⌝ }
-    ensures { λ r. ⌜ r ≡ linksOver (now (s .entry)) 0 (bytes4 x) (part at 12 (now (k .entry))) 0 ⌝ }
-{
-    let e = half_bytes(x);
-    links(s, 0, e, [k[at + 11], k[at + 10], k[at + 9], k[at + 8]])
-}
-
-// T4 to T7, after T3.
-pub(crate) fn second(s: &[u8; 256], p: [u8; 4], x: u32, k: &[u8], at: usize) -> [u8; 4]
-    requires { ⌜ at + 12 ≤ length (now k) ⌝ }
-    ensures { λ r. ⌜ r ≡ linksOver (now (s .entry)) (now (s .entry) ! (p ! 3)) (bytes4 x) (part at 12 (now (k .entry))) 4 ⌝ }
-{
-    let e = half_bytes(x);
-    let t = entry(s, p[3]);
-    links(
-        s,
-        t,
-        [e[0], e[2], e[1], e[3]],
-        [k[at + 7], k[at + 6], k[at + 5], k[at + 4]],
-    )
-}
-
-// T8 to T11, after T7.
-pub(crate) fn third(s: &[u8; 256], q: [u8; 4], x: u32, k: &[u8], at: usize) -> [u8; 4]
-    requires { ⌜ at + 12 ≤ length (now k) ⌝ }
-    ensures { λ r. ⌜ r ≡ linksOver (now (s .entry)) (now (s .entry) ! (q ! 3)) (bytes4 x) (part at 12 (now (k .entry))) 8 ⌝ }
-{
-    let e = half_bytes(x);
-    let t = entry(s, q[3]);
-    links(
-        s,
-        t,
-        [e[2], e[0], e[3], e[1]],
-        [k[at + 3], k[at + 2], k[at + 1], k[at]],
-    )
-}
-
 // Byte n of the word has bit n of the entries of S at four indexes.
-fn nibbles(w: &[u32; 256], i: [u8; 4]) -> u64
-    ensures { λ r. ⌜ (r ≡ nibblesOver (now (w .entry)) i) × (r < 64424509440) ⌝ }
+fn nibbles(w: &[u32; 256], i: [usize; 4]) -> u32
+    ensures { λ r. ⌜ r ≡ nibblesOver (now (w .entry)) i ⌝ }
 {
     let a = spread(w, i[0]) as u64;
     let b = spread(w, i[1]) as u64;
     let c = spread(w, i[2]) as u64;
     let d = spread(w, i[3]) as u64;
-    a + 2 * b + 4 * c + 8 * d
+    ((a + 2 * b + 4 * c + 8 * d) % 4294967296) as u32
 }
 
-// Byte n, whose bit m T(m+4) has as bit n.
-pub(crate) fn gather(w: &[u32; 256], q: [u8; 4], r: [u8; 4]) -> u32
-    ensures { λ y. ⌜ y ≡ gatherOver (now (w .entry)) q r ⌝ }
+// f's chain in three fours of links, under the round key of twelve bytes from index `at` on. The first ends with T3; T0 is a link after 0.
+pub(crate) fn first(s: &[u8; 512], x: u32, k: &[u8], at: usize) -> u8
+    requires { ⌜ at + 12 ≤ length (now k) ⌝ }
+    ensures { λ r. ⌜ r ≡ firstOver (now (s .entry)) (bytes4 x) (part at 12 (now (k .entry))) ⌝ }
 {
-    ((nibbles(w, q) + 16 * nibbles(w, r)) % 4294967296) as u32
+    let e = half_bytes(x);
+    let i = links(s, 0, e, [k[at + 11], k[at + 10], k[at + 9], k[at + 8]]);
+    chained(s, i[3])
+}
+
+// T7, and the bits of T4 to T7.
+pub(crate) struct Part {
+    pub t: u8,
+    pub y: u32,
+}
+
+pub(crate) fn second(s: &[u8; 512], w: &[u32; 256], t: u8, x: u32, k: &[u8], at: usize) -> Part
+    requires { ⌜ at + 12 ≤ length (now k) ⌝ }
+    ensures { λ r. ⌜ r ≡ secondOver (now (s .entry)) (now (w .entry)) t (bytes4 x) (part at 12 (now (k .entry))) ⌝ }
+{
+    let e = half_bytes(x);
+    let i = links(
+        s,
+        t,
+        [e[0], e[2], e[1], e[3]],
+        [k[at + 7], k[at + 6], k[at + 5], k[at + 4]],
+    );
+    Part {
+        t: chained(s, i[3]),
+        y: nibbles(w, i),
+    }
+}
+
+// T8 to T11, after T7: byte n of the result has bit n of T(m+4) as its bit m.
+pub(crate) fn third(s: &[u8; 512], w: &[u32; 256], p: Part, x: u32, k: &[u8], at: usize) -> u32
+    requires { ⌜ at + 12 ≤ length (now k) ⌝ }
+    ensures { λ r. ⌜ r ≡ thirdOver (now (s .entry)) (now (w .entry)) p (bytes4 x) (part at 12 (now (k .entry))) ⌝ }
+{
+    let e = half_bytes(x);
+    let i = links(
+        s,
+        p.t,
+        [e[2], e[0], e[3], e[1]],
+        [k[at + 3], k[at + 2], k[at + 1], k[at]],
+    );
+    let high = nibbles(w, i) as u64;
+    ((p.y as u64 + 16 * high) % 4294967296) as u32
 }
 
 // f of a half and the round key from index `at` on.
-fn f(s: &[u8; 256], w: &[u32; 256], x: u32, k: &[u8], at: usize) -> u32
+fn f(s: &[u8; 512], w: &[u32; 256], x: u32, k: &[u8], at: usize) -> u32
     requires { ⌜ at + 12 ≤ length (now k) ⌝ }
     ensures { λ r. ⌜ r ≡ fOver (now (s .entry)) (now (w .entry)) (bytes4 x) (part at 12 (now (k .entry))) ⌝ }
 {
-    let p = first(s, x, k, at);
-    let q = second(s, p, x, k, at);
-    let r = third(s, q, x, k, at);
-    gather(w, q, r)
+    let t = first(s, x, k, at);
+    let p = second(s, w, t, x, k, at);
+    third(s, w, p, x, k, at)
 }
 
 pub struct Halves {
@@ -124,8 +124,8 @@ pub(crate) fn exchanged(h: Halves, y: u32) -> Halves
     Halves { l: h.r, r: h.l ^ y }
 }
 
-// A round under bytes 11 to 0 of a register, over tables of which the caller has copies: S and SPREAD.
-pub fn round_under(s: &[u8; 256], w: &[u32; 256], h: Halves, q: &[u8; 16]) -> Halves
+// A round under bytes 11 to 0 of a register, over tables of which the caller has copies: S_TWICE and SPREAD.
+pub fn round_under(s: &[u8; 512], w: &[u32; 256], h: Halves, q: &[u8; 16]) -> Halves
     ensures { λ o. ⌜ o ≡ roundOver (now (s .entry)) (now (w .entry)) (part 4 12 (now (q .entry))) h ⌝ }
 {
     exchanged(h, f(s, w, h.r, &q[..], 4))
@@ -171,16 +171,21 @@ pub fn joined(h: Halves) -> [u8; 8]
     ]
 }
 
+// Two rounds a turn: called twice, f stays a function, which has the tables' addresses in registers. Within the loop the compiler would
+// reach them by an offset from the stack's, and each lookup of the chain would take a cycle more.
 fn rounds(keys: &[u8; 192], h: Halves, back: bool) -> Halves
     ensures { λ o. ⌜ o ≡ roundsOver back (now (keys .entry)) 16 h ⌝ }
 {
-    let s = S;
+    let s = S_TWICE;
     let w = SPREAD;
     let laid = &keys[..];
     let mut state = h;
-    for i in 0..16 {
-        let y = f(&s, &w, state.r, laid, place(back, i) * 12);
-        state = exchanged(state, y);
+    for i in 0..8 {
+        let n = 2 * i;
+        let y = f(&s, &w, state.r, laid, place(back, n) * 12);
+        let middle = exchanged(state, y);
+        let z = f(&s, &w, middle.r, laid, place(back, n + 1) * 12);
+        state = exchanged(middle, z);
     }
     state
 }

@@ -2,11 +2,11 @@
 -- Assumes nothing.
 use Rattle.standard.proofs.Prelude.{_≡_, sym, ap, ap₂, _∙_, List, _++_, ℕ, _+_, _-_, _%_, _≤_, _<_, mod-eq-of-lt, add-one, length}
 use Rattle.hurdle.proofs.RoundLaws.{round-word}
-use Rattle.hurdle.specs.RoundSteps.{bytes4, halfBytes, roundOver, spreads, HalvesOf}
+use Rattle.hurdle.specs.RoundSteps.{bytes4, halfBytes, roundOver, spreads, twice, HalvesOf}
 use Rattle.hurdle.specs.declared.round.Halves.{Halves as Words}
 use Rattle.standard.proofs.RegisterLaws.{a-most, same-cipher}
 use Rattle.standard.specs.Bytes.{_!_, part, xors}
-use Rattle.standard.specs.Hurdle.{S, Halves, D, a, rotl, next, encrypt, decrypt}
+use Rattle.standard.specs.Hurdle.{Halves, D, a, rotl, next, encrypt, decrypt}
 use Rattle.standard.specs.Register.{step, stepBack, turned, State, roundUnder, onward, backward, encryptRegister, decryptRegister}
 use Rattle.register.specs.RegisterStates.{stateOf}
 
@@ -14,7 +14,7 @@ abbrev state : List ℕ → Halves → State
 state q h = record { register = q; halves = h }
 
 -- a round over the code's copies of S and its spread bits
-under : (q : List ℕ) (h o : Words) → o ≡ roundOver S spreads (part 4 12 q) h → halfBytes o ≡ roundUnder q (halfBytes h)
+under : (q : List ℕ) (h o : Words) → o ≡ roundOver twice spreads (part 4 12 q) h → halfBytes o ≡ roundUnder q (halfBytes h)
 under q h o e = ap halfBytes e ∙ round-word (part 4 12 q) h
 
 -- the code's rotations are those of the sequence a, so none goes beyond sixteen
@@ -23,14 +23,14 @@ rotation-most rots i t h = rw t (a-most i h)
 
 -- one turn of encryption, and one of decryption
 module _ (rots : List ℕ) (i : ℕ) (s : State) (q : List ℕ) (h : Words) (q₁ : List ℕ) (h₁ : Words) (t : rots ≡ a) where
-  pub onward-more : stateOf q h ≡ onward i s → h₁ ≡ roundOver S spreads (part 4 12 q) h → q₁ ≡ next (rots ! i) q → stateOf q₁ h₁ ≡ onward (i + 1) s
+  pub onward-more : stateOf q h ≡ onward i s → h₁ ≡ roundOver twice spreads (part 4 12 q) h → q₁ ≡ next (rots ! i) q → stateOf q₁ h₁ ≡ onward (i + 1) s
   unfolding onward
   onward-more e r p =
       ap₂ state (p ∙ ap (λ (b : List ℕ). next (b ! i) q) t) (under q h h₁ r)
       ∙ ap (λ (u : State). state (step i (u .register)) (roundUnder (u .register) (u .halves))) e
       ∙ ap (λ (n : ℕ). onward n s) (sym (add-one i))
 
-  pub backward-more : stateOf q h ≡ backward i s → q₁ ≡ rotl (16 - rots ! (15 - i)) (xors 16 q D) → h₁ ≡ roundOver S spreads (part 4 12 q₁) h
+  pub backward-more : stateOf q h ≡ backward i s → q₁ ≡ rotl (16 - rots ! (15 - i)) (xors 16 q D) → h₁ ≡ roundOver twice spreads (part 4 12 q₁) h
       → stateOf q₁ h₁ ≡ backward (i + 1) s
   unfolding backward
   backward-more e p r =

@@ -1,5 +1,5 @@
 use Rattle.standard.proofs.Prelude.{_≡_, refl, ap, _-_, _≤_, zero-le, arith, needs}
-use Rattle.hurdle.specs.RoundSteps.{spreads}
+use Rattle.hurdle.specs.RoundSteps.{spreads, twice}
 use Rattle.standard.specs.Bytes.{bit}
 use Rattle.standard.specs.Hurdle.{S, a}
 use Rattle.standard.specs.Register.{State, backward}
@@ -23,7 +23,7 @@ step-back-requires c κs =
     rotation-most _ (15 - at .i) (at .inv .1) (omega arith)
 
 loop-again : tie.Need-loop-again Inv-loop μ-loop
-unfolding S spreads bit
+unfolding S twice spreads bit
 loop-again c =
     let stepped = c .before .before .before .before in
     let at = stepped .before .before .before .loop in (

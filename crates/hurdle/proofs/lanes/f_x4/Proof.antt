@@ -7,16 +7,15 @@ use Rattle.hurdle.proofs.lanes.f_x4.Tie as tie
 
 returns : tie.Need-returns
 returns c =
-    let r = c .before in
-    let q = r .before in
-    let p = q .before in
-    let x = p .before .before .before .before .before .args in
+    let p = c .before in
+    let t = p .before in
+    let x = t .before .before .before .before .before .args in
     let K : ℕ → List ℕ = λ j. part (x .at) 12 (byLane (now (x .ka)) (now (x .kb)) (now (x .kc)) (now (x .kd)) j) in
     let X : ℕ → List ℕ = λ j. bytes4 (halvesAt (x .h) j .r) in
-    let f = f-lanes (now (x .s)) (now (x .w)) X K (p .firsts .result) (q .seconds .result) (r .thirds .result) in
-    f (c .gathers .result) (p .firsts .ensures) (q .seconds .ensures) (r .thirds .ensures) (c .gathers .ensures)
+    let f = f-lanes (now (x .s)) (now (x .w)) X K (t .firsts .result) (p .seconds .result) (c .thirds .result) in
+    f (t .firsts .ensures) (p .seconds .ensures) (c .thirds .ensures)
 
 pub f-x4-spec : {M : Type 1} → Rattle.hurdle.proofs.lanes.f_x4.Statement.statement M
 f-x4-spec =
     tie.close
-    (tie.spec (λ c κs. search needs) (λ c κs. search needs) (λ c κs. search needs) (λ c κs. search needs) returns)
+    (tie.spec (λ c κs. search needs) (λ c κs. search needs) (λ c κs. search needs) returns)

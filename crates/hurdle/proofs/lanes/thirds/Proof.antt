@@ -2,10 +2,13 @@ use Rattle.standard.proofs.Prelude.{needs}
 use Rattle.hurdle.proofs.lanes.thirds.Tie as tie
 
 returns : tie.Need-returns
-returns c = rw (c .third4 .ensures, c .before .third3 .ensures, c .before .before .third2 .ensures, c .before .before .before .third .ensures)
+returns c =
+    let c3 = c .before .before in
+    let c2 = c3 .before .before in
+    rw (c .third4 .ensures, c3 .third3 .ensures, c2 .third2 .ensures, c2 .before .before .third .ensures)
 
 pub thirds-spec : {M : Type 1} → Rattle.hurdle.proofs.lanes.thirds.Statement.statement M
 thirds-spec =
     tie.close
-    (tie.spec (λ c. search needs) (λ c. search needs) (λ c. search needs) (λ c. search needs) (λ c. search needs) (λ c κs. search needs)
-    (λ c. search needs) (λ c κs. search needs) (λ c. search needs) (λ c κs. search needs) (λ c. search needs) (λ c κs. search needs) returns)
+    (tie.spec (λ c. search needs) (λ c. search needs) (λ c κs. search needs) (λ c. search needs) (λ c. search needs) (λ c κs. search needs)
+    (λ c. search needs) (λ c. search needs) (λ c κs. search needs) (λ c. search needs) (λ c. search needs) (λ c κs. search needs) returns)

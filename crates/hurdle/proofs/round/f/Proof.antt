@@ -4,9 +4,9 @@ use Rattle.hurdle.proofs.round.f.Tie as tie
 
 returns : tie.Need-returns
 unfolding fOver
-returns c = rw (c .gather .ensures, c .before .third .ensures, c .before .before .second .ensures, c .before .before .before .first .ensures)
+returns c = rw (c .third .ensures, c .before .second .ensures, c .before .before .first .ensures)
 
 pub f-spec : {M : Type 1} → Rattle.hurdle.proofs.round.f.Statement.statement M
 f-spec =
     tie.close
-    (tie.spec (λ c κs. search needs) (λ c κs. search needs) (λ c κs. search needs) (λ c κs. search needs) returns)
+    (tie.spec (λ c κs. search needs) (λ c κs. search needs) (λ c κs. search needs) returns)

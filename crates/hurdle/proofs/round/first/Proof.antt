@@ -4,10 +4,12 @@ use Rattle.hurdle.proofs.round.first.Tie as tie
 
 returns : tie.Need-returns
 unfolding linksOver
-returns c = rw (c .links .ensures, c .before .before .before .before .before .half-bytes .ensures)
+returns c =
+    let linked = c .before in
+    rw (c .chained .ensures, linked .links .ensures, linked .before .before .before .before .before .half-bytes .ensures)
 
 pub first-spec : {M : Type 1} → Rattle.hurdle.proofs.round.first.Statement.statement M
 first-spec =
     tie.close
     (tie.spec (λ c κs. search needs) (λ c. search needs) (λ c. search needs) (λ c. search needs) (λ c. search needs) (λ c. search needs)
-    (λ c. search needs) (λ c. search needs) (λ c. search needs) (λ c κs. search needs) returns)
+    (λ c. search needs) (λ c. search needs) (λ c. search needs) (λ c κs. search needs) (λ c. search needs) (λ c κs. search needs) returns)

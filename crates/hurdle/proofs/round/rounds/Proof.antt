@@ -1,39 +1,44 @@
-use Rattle.standard.proofs.Prelude.{_≡_, refl, _-_, _≤_, zero-le, arith, now}
+use Rattle.standard.proofs.Prelude.{_≡_, refl, ap, _∙_, ℕ, _+_, _-_, _*_, _≤_, zero-le, arith, now}
 use Rattle.hurdle.proofs.RoundLaws.{rounds-more}
-use Rattle.hurdle.specs.RoundSteps.{roundsOver, spreads}
+use Rattle.hurdle.specs.RoundSteps.{roundsOver, spreads, twice}
 use Rattle.standard.specs.Bytes.{bit}
 use Rattle.standard.specs.Hurdle.{S}
 use Rattle.hurdle.proofs.round.rounds.Tie as tie
 
 abbrev Inv-loop : tie.InvT-loop
-Inv-loop keys back s w laid state₀ i₀ state i = (i ≤ 16) × (state ≡ roundsOver back keys i state₀)
+Inv-loop keys back s w laid state₀ i₀ state i = (i ≤ 8) × (state ≡ roundsOver back keys (2 * i) state₀)
 
 abbrev μ-loop : tie.MeasureT-loop
-μ-loop keys back s w laid state₀ i₀ state i = 16 - i
+μ-loop keys back s w laid state₀ i₀ state i = 8 - i
 
 loop-holds : tie.Need-loop-holds Inv-loop μ-loop
 unfolding roundsOver
 loop-holds c = (zero-le, refl)
 
 loop-again : tie.Need-loop-again Inv-loop μ-loop
-unfolding S spreads bit
+unfolding S twice spreads bit
 loop-again c =
-    let made = c .before in
-    let placed = made .before in
+    let placed2 = c .before .before in
+    let middle = placed2 .before .before .before in
+    let placed = middle .before .before in
     let head = placed .before .before .before .before in
-    let x = head .before .before .args in (
-      omega arith,
-      rounds-more (x .back) (now (x .keys)) (head .loop .i) _ (x .h) (placed .place .ensures .0) (head .loop .inv .1) (made .f .ensures)
-          (c .exchanged .ensures),
-    )
+    let x = head .before .before .args in
+    let i : ℕ = head .loop .i in
+    let keys = now (x .keys) in
+    let once = rounds-more (x .back) keys (2 * i) _ (x .h) (placed .place .ensures .0) (head .loop .inv .1) (middle .before .f .ensures)
+    (middle .exchanged .ensures) in
+    let again = rounds-more (x .back) keys (2 * i + 1) _ (x .h) (placed2 .place2 .ensures .0) once (c .before .f2 .ensures) (c .exchanged2 .ensures) in
+    let e : 2 * i + 1 + 1 ≡ 2 * (i + 1) = omega arith in
+    (omega arith, again ∙ ap (λ (n : ℕ). roundsOver (x .back) keys n (x .h)) e)
 
 returns : tie.Need-returns Inv-loop μ-loop
 returns c =
-    let e : c .before .loop .i ≡ 16 = omega arith in
+    let e : 2 * c .before .loop .i ≡ 16 = omega arith in
     rw e at (c .before .loop .inv .1)
 
 pub rounds-spec : {M : Type 1} → Rattle.hurdle.proofs.round.rounds.Statement.statement M
 rounds-spec =
     tie.close
-    (tie.spec Inv-loop μ-loop loop-holds (λ c κs. omega arith) (λ c. omega arith) (λ c κs. omega arith) (λ c κs. tt) (λ c. omega arith)
-    (λ c. omega arith) loop-again returns)
+    (tie.spec Inv-loop μ-loop loop-holds (λ c. omega arith) (λ c κs. omega arith) (λ c. omega arith) (λ c κs. omega arith) (λ c κs. omega arith)
+    (λ c. omega arith) (λ c κs. omega arith) (λ c. omega arith) (λ c κs. omega arith) (λ c κs. omega arith) (λ c. omega arith) (λ c. omega arith)
+    loop-again returns)

@@ -5,12 +5,12 @@ use Rattle.hurdle.proofs.round.second.Tie as tie
 returns : tie.Need-returns
 unfolding linksOver
 returns c =
-    let t = c .before .before .before .before .before in
-    rw (c .links .ensures, t .entry .ensures, t .before .half-bytes .ensures)
+    let linked = c .before .before in
+    rw (c .nibbles .ensures, c .before .chained .ensures, linked .links .ensures, linked .before .before .before .before .before .half-bytes .ensures)
 
 pub second-spec : {M : Type 1} → Rattle.hurdle.proofs.round.second.Statement.statement M
 second-spec =
     tie.close
-    (tie.spec (λ c κs. search needs) (λ c. search needs) (λ c κs. search needs) (λ c. search needs) (λ c. search needs) (λ c. search needs)
+    (tie.spec (λ c κs. search needs) (λ c. search needs) (λ c. search needs) (λ c. search needs) (λ c. search needs) (λ c. search needs)
     (λ c. search needs) (λ c. search needs) (λ c. search needs) (λ c. search needs) (λ c. search needs) (λ c. search needs) (λ c. search needs)
-    (λ c. search needs) (λ c. search needs) (λ c κs. search needs) returns)
+    (λ c κs. search needs) (λ c. search needs) (λ c κs. search needs) (λ c κs. search needs) returns)

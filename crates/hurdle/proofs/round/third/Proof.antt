@@ -5,12 +5,12 @@ use Rattle.hurdle.proofs.round.third.Tie as tie
 returns : tie.Need-returns
 unfolding linksOver
 returns c =
-    let t = c .before .before .before .before .before in
-    rw (c .links .ensures, t .entry .ensures, t .before .half-bytes .ensures, add-zero)
+    let linked = c .before .before in
+    rw (c .before .nibbles .ensures, linked .links .ensures, linked .before .before .before .before .before .half-bytes .ensures, add-zero)
 
 pub third-spec : {M : Type 1} → Rattle.hurdle.proofs.round.third.Statement.statement M
 third-spec =
     tie.close
-    (tie.spec (λ c κs. search needs) (λ c. search needs) (λ c κs. search needs) (λ c. search needs) (λ c. search needs) (λ c. search needs)
-    (λ c. search needs) (λ c. search needs) (λ c. search needs) (λ c. search needs) (λ c. search needs) (λ c. search needs) (λ c. search needs)
-    (λ c. search needs) (λ c κs. search needs) returns)
+    (tie.spec (λ c κs. search needs) (λ c. search needs) (λ c. search needs) (λ c. search needs) (λ c. search needs) (λ c. search needs)
+    (λ c. search needs) (λ c. search needs) (λ c. search needs) (λ c. search needs) (λ c. search needs) (λ c. search needs) (λ c κs. search needs)
+    (λ c κs. search needs) (λ c. search needs) (λ c. search needs) (λ c. search needs) (λ c. search needs) (λ c. search needs) returns)
