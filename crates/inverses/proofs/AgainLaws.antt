@@ -1,15 +1,10 @@
 -- What TB1, TB3, TB5 and TB6 make of the fields that were read off: each fits its width, so the call refuses none.
 -- Assumes nothing.
-use Rattle.standard.proofs.Prelude.{_≡_, true, _&&_, List, ℕ, length, eqb-true, lt-ltb}
-use Rattle.standard.proofs.BytesLaws.{and-split}
+use Rattle.standard.proofs.Prelude.{_≡_, true, List, ℕ, lt-ltb}
 use Rattle.standard.proofs.FindLaws.{field-lt}
 use Rattle.standard.specs.Inverses.{field}
 use Rattle.standard.specs.Mixing.{tb1, tb3, tb5, tb6, tb1Call, tb3Call, tb5Call, tb6Call}
 use Rattle.standard.specs.Refusals.{hasLength, wide}
-
--- both lengths were tested, and with them the result's
-pub result-length : (m n : ℕ) (a y : List ℕ) → hasLength m a && hasLength n y ≡ true → length y ≡ n
-result-length m n a y t = eqb-true (length y) n (and-split (hasLength m a) (hasLength n y) t .1)
 
 pub tb1-again : (b : List ℕ) (w : ℕ) → wide w ≡ true → tb1Call (field 0 w b) w .bytes ≡ tb1 (field 0 w b) w
 unfolding tb1Call

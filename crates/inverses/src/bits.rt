@@ -4,7 +4,6 @@ use arrays::word;
 use arrays::xor8;
 ghost use mathlib.Core.Path.{_≡_};
 ghost use Prim.Native.Nat.{_+_, _≤_};
-ghost use lib.ListN.{length};
 ghost use Rattle.standard.specs.Bytes.{xors, number as numberOf, same as sameOf};
 ghost use Rattle.standard.specs.Inverses.{field as fieldOf};
 
@@ -32,12 +31,14 @@ pub(crate) fn unmixed(key: &[u8], result: &[u8]) -> [u8; 8]
     xor8(array8(key), array8(result))
 }
 
-// Two strings of the same length are the same.
+// Two strings are the same.
 pub(crate) fn same(a: &[u8], b: &[u8]) -> bool
-    requires { ⌜ length (now a) ≡ length (now b) ⌝ }
     ensures { λ r. ⌜ r ≡ sameOf (now (a .entry)) (now (b .entry)) ⌝ }
 {
     let n = a.len();
+    if n != b.len() {
+        return false;
+    }
     let mut t = true;
     for i in 0..n {
         t = t & (a[i] == b[i]);

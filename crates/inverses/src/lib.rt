@@ -20,14 +20,12 @@ use standard::WRONG_LENGTH;
 use standard::WRONG_WIDTH;
 ghost use mathlib.Core.List.{[], _∷_};
 ghost use mathlib.Core.Path.{_≡_};
-ghost use lib.ListN.{length};
 ghost use Rattle.standard.specs.Bytes.{same as sameOf};
-ghost use Rattle.standard.specs.Inverses.{tb1⁻¹Call, tb3⁻¹Call, tb5⁻¹Call, tb6⁻¹Call};
-ghost use Rattle.standard.specs.Refusals.{noInput, first, value as valueOf};
+ghost use Rattle.standard.specs.Inverses.{field as fieldOf, tb1⁻¹Call, tb3⁻¹Call, tb5⁻¹Call, tb6⁻¹Call};
+ghost use Rattle.standard.specs.Refusals.{noInput, first, value as valueOf, cell as cellOf, carrierIdentity};
 
 // The value, if what was made of it is the result.
 fn confirmed(value: u32, made: [u8; 16], result: &[u8]) -> Value
-    requires { ⌜ length (now result) ≡ 16 ⌝ }
     ensures { λ r. ⌜ r ≡ valueOf (first ((sameOf made (now (result .entry)), noInput) ∷ [])) value ⌝ }
 {
     if !same(&made, result) {
@@ -66,31 +64,46 @@ pub fn tb3_inverse(input: &[u8], result: &[u8], width: u64) -> Value
     confirmed(value, bytes, result)
 }
 
+// The fields that TB5 mixes in, read off the front.
+fn cell_at(front: [u8; 8]) -> Cell
+    ensures { λ r. ⌜ r ≡ cellOf 0 (fieldOf 0 14 front) (fieldOf 14 12 front) (fieldOf 26 6 front) ⌝ }
+{
+    Cell {
+        refusal: 0,
+        location_area: field(front, 0, 14),
+        carrier: field(front, 14, 12),
+        colour_code: field(front, 26, 6),
+    }
+}
+
 pub fn tb5_inverse(cipher_key: &[u8], result: &[u8]) -> Cell
     ensures { λ r. ⌜ r ≡ tb5⁻¹Call (now («cipher_key» .entry)) (now (result .entry)) ⌝ }
 {
     if !have_lengths(cipher_key, 10, result, 10) {
         return Cell::refused(WRONG_LENGTH);
     }
-    let front = unmixed(cipher_key, result);
-    let location_area = field(front, 0, 14);
-    let carrier = field(front, 14, 12);
-    let colour_code = field(front, 26, 6);
+    let fields = cell_at(unmixed(cipher_key, result));
     let made = tb5(
         cipher_key,
-        location_area as u64,
-        carrier as u64,
-        colour_code as u64,
+        fields.location_area as u64,
+        fields.carrier as u64,
+        fields.colour_code as u64,
     );
     let bytes = made.bytes;
     if !same(&bytes, result) {
         return Cell::refused(NO_INPUT);
     }
-    Cell {
+    fields
+}
+
+// The fields that TB6 mixes in, read off the front.
+fn carrier_identity_at(front: [u8; 8]) -> CarrierIdentity
+    ensures { λ r. ⌜ r ≡ carrierIdentity 0 (fieldOf 0 12 front) (fieldOf 12 24 front) ⌝ }
+{
+    CarrierIdentity {
         refusal: 0,
-        location_area,
-        carrier,
-        colour_code,
+        carrier: field(front, 0, 12),
+        identity: field(front, 12, 24),
     }
 }
 
@@ -100,17 +113,11 @@ pub fn tb6_inverse(cipher_key: &[u8], result: &[u8]) -> CarrierIdentity
     if !have_lengths(cipher_key, 10, result, 10) {
         return CarrierIdentity::refused(WRONG_LENGTH);
     }
-    let front = unmixed(cipher_key, result);
-    let carrier = field(front, 0, 12);
-    let identity = field(front, 12, 24);
-    let made = tb6(cipher_key, carrier as u64, identity as u64);
+    let fields = carrier_identity_at(unmixed(cipher_key, result));
+    let made = tb6(cipher_key, fields.carrier as u64, fields.identity as u64);
     let bytes = made.bytes;
     if !same(&bytes, result) {
         return CarrierIdentity::refused(NO_INPUT);
     }
-    CarrierIdentity {
-        refusal: 0,
-        carrier,
-        identity,
-    }
+    fields
 }

@@ -4,7 +4,7 @@ use Rattle.standard.proofs.BytesLaws.{and-split, failed, passed}
 use Rattle.standard.specs.Bytes.{xors}
 use Rattle.standard.specs.Inverses.{tb3⁻¹Call}
 use Rattle.standard.specs.Refusals.{hasLength, wide}
-use Rattle.inverses.proofs.AgainLaws.{result-length, tb3-again}
+use Rattle.inverses.proofs.AgainLaws.{tb3-again}
 use Rattle.inverses.proofs.tb3_inverse.Tie as tie
 
 returns : tie.Need-returns
@@ -26,12 +26,6 @@ field-requires c κs =
     let x = c .before .before .before .before .before .before .before .args in
     let s = wide-split (x .width) (passed (c .before .before .wide .ensures) (c .before .if2 .left)) in
     (omega (arith, s), omega (arith, s), omega (arith, s))
-
-confirmed-requires : tie.Need-confirmed-requires
-confirmed-requires c κs =
-    let tested = c .before .before .before .before .before .before in
-    let x = tested .before .before .before .before .args in
-    result-length 16 16 (now (x .input)) (now (x .result)) (passed (tested .before .have-lengths .ensures) (tested .if1 .left))
 
 returns-3 : tie.Need-returns-3
 unfolding tb3⁻¹Call
@@ -58,4 +52,4 @@ pub tb3-inverse-spec : {M : Type 1} → Rattle.inverses.proofs.tb3_inve
 tb3-inverse-spec =
     tie.close
     (tie.spec (λ c κs. search needs) (λ c κs. search needs) returns (λ c κs. search needs) (λ c κs. search needs) returns-2 (λ c κs. search needs)
-    field-requires (λ c. search needs) (λ c κs. search needs) confirmed-requires returns-3)
+    field-requires (λ c. search needs) (λ c κs. search needs) (λ c κs. search needs) returns-3)
