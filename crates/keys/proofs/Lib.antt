@@ -1,2 +1,2 @@
 pub mod MaskLaws
-pub mod RecipeLaws
+pub mod RingLaws

@@ -1,7 +1,7 @@
 use Rattle.standard.proofs.Prelude.{_≡_, needs}
 use Rattle.standard.specs.Derivation.{half1, half2}
 use Rattle.standard.specs.Mixing.{tb4}
-use Rattle.keys.proofs.RecipeLaws.{ring-made}
+use Rattle.keys.proofs.RingLaws.{ring-made}
 use Rattle.keys.proofs.recipe.make.Tie as tie
 
 returns : tie.Need-returns
