@@ -1,6 +1,6 @@
 -- A sheet's records and values as code comes to them, and the ways in which the call returns.
 -- Assumes nothing.
-use Rattle.standard.proofs.Prelude.{_≡_, refl, sym, ap, ap₂, _∙_, Bool, true, false, _&&_, List, _++_, ℕ, _*_, _/_, _≤_, _<_, eqb, ltb, length, drop}
+use Rattle.standard.proofs.Prelude.{_≡_, refl, sym, ap, ap₂, _∙_, Bool, true, false, _&&_, List, _++_, ℕ, _-_, _*_, _/_, _≤_, _<_, eqb, ltb, length, drop}
 use Rattle.standard.proofs.Prelude.{eq-eqb, ne-eqb, leb-true, ltb-true}
 use Rattle.lists.proofs.ListReturnLaws.{call-refused, call-stopped, call-done}
 use Rattle.lists.proofs.WalkLaws.{PrefixWritten, prefix-at}
@@ -8,8 +8,8 @@ use Rattle.lists.specs.Walks.{Clean, Stopped}
 use Rattle.standard.proofs.BytesLaws.{spelled, and-split}
 use Rattle.standard.proofs.FirstLaws.{all-pass}
 use Rattle.standard.proofs.LineageLaws.{from-same, value-length, parents-before, value-step}
-use Rattle.standard.specs.Bytes.{part}
-use Rattle.standard.specs.Derivation.{ta11, ta21, ta41, ta71}
+use Rattle.standard.specs.Bytes.{_!_, table, part, choose}
+use Rattle.standard.specs.Derivation.{core, ta71}
 use Rattle.standard.specs.Lineage.{operation, parent1, parent2, derivedLength, keyLength, filled, parentTests, lineageFault}
 use Rattle.standard.specs.Lineage.{derived, valueFrom, valueOf, lineageCall}
 use Rattle.standard.specs.Lists.{recordAt, joined, listTests, refused}
@@ -40,14 +40,14 @@ pub both-below : (a b i : ℕ) → ltb a i && ltb b i ≡ true → (a < i) × (b
 both-below a b i t = let q = and-split _ _ t in (ltb-true _ _ (q .0), ltb-true _ _ (q .1))
 
 -- 15, by the parents' indexes a and b, then 16, by their lengths k and l and what the operation takes, d
-module _ (s p : List ℕ) (i a b : ℕ) (ea : a ≡ parent1 p) (eb : b ≡ parent2 p) where
+module _ (s p : List ℕ) (i : ℕ) {a b : ℕ} (ea : a ≡ parent1 p) (eb : b ≡ parent2 p) where
   before-test : ltb a i && ltb b i ≡ (ltb (parent1 p) i && ltb (parent2 p) i)
   before-test = ap₂ (λ (x y : ℕ). ltb x i && ltb y i) ea eb
 
   pub not-before : ltb a i && ltb b i ≡ false → wrongParent ≡ first (parentTests s p i)
   not-before t = rw (sym before-test ∙ t)
 
-  module _ (t : ltb a i && ltb b i ≡ true) (k l d : ℕ) {q r : List ℕ} (ek : k ≡ keyLength q) (eq : q ≡ recordAt sheetSize s a)
+  module _ (t : ltb a i && ltb b i ≡ true) {k l d : ℕ} {q r : List ℕ} (ek : k ≡ keyLength q) (eq : q ≡ recordAt sheetSize s a)
       (el : l ≡ keyLength r) (er : r ≡ recordAt sheetSize s b) (ed : d ≡ derivedLength (operation p)) where
     fit-test : eqb k d && eqb l 10
         ≡ (eqb (keyLength (recordAt sheetSize s (parent1 p))) (derivedLength (operation p)) && eqb (keyLength (recordAt sheetSize s (parent2 p))) 10)
@@ -55,37 +55,36 @@ module _ (s p : List ℕ) (i a b : ℕ) (ea : a ≡ parent1 p) (eb : b ≡ paren
         ap₂ (λ (x y : Bool). x && y) (ap₂ eqb (ek ∙ ap keyLength (eq ∙ ap (recordAt sheetSize s) ea)) ed)
         (ap (λ (x : ℕ). eqb x 10) (el ∙ ap keyLength (er ∙ ap (recordAt sheetSize s) eb)))
 
-    pub other-length : eqb k d && eqb l 10 ≡ false → parentLength ≡ first (parentTests s p i)
-    other-length u = rw (sym before-test ∙ t, sym fit-test ∙ u)
+    pub lengths-tested : choose (eqb k d && eqb l 10) 0 parentLength ≡ first (parentTests s p i)
+    lengths-tested = rw (sym before-test ∙ t, ← fit-test)
 
-    pub parents-fit : eqb k d && eqb l 10 ≡ true → 0 ≡ first (parentTests s p i)
-    parents-fit u = rw (sym before-test ∙ t, sym fit-test ∙ u)
+-- ---- the value o of an operation k, as code makes it of two values and the ten bytes t of the second
 
--- ---- the key of an operation, as code makes it of two values
-
-pub as-value : (o x : List ℕ) → length o ≡ valueSize → o ≡ x → o ≡ part 0 valueSize x
+as-value : (o x : List ℕ) → length o ≡ valueSize → o ≡ x → o ≡ part 0 valueSize x
 as-value o x l e = sym (spelled valueSize o l) ∙ ap (part 0 valueSize) e
 
-module _ (k : ℕ) (a b : List ℕ) where
-  pub by-ta11 : k ≡ 1 → length a ≡ 16 → ta11 a (part 0 10 b) ≡ derived k a b
-  unfolding derived
-  by-ta11 e l = rw (e, spelled 16 a l)
+module _ (k : ℕ) (a b : List ℕ) {t o : List ℕ} (et : t ≡ part 0 10 b) where
+  module _ (la : length a ≡ 16) (lo : length o ≡ valueSize) where
+    pub by-ta11 : k ≡ 1 → o ≡ core a t → o ≡ part 0 valueSize (derived k a b)
+    unfolding derived
+    by-ta11 e f = as-value o (derived k a b) lo (f ∙ rw (et, e, spelled 16 a la))
 
-  pub by-ta21 : k ≡ 2 → length a ≡ 16 → ta21 a (part 0 10 b) ≡ derived k a b
-  unfolding derived
-  by-ta21 e l = rw (e, spelled 16 a l)
+    pub by-ta21 : k ≡ 2 → {r : List ℕ} → r ≡ table 10 (λ i. t ! (9 - i)) → o ≡ core a r → o ≡ part 0 valueSize (derived k a b)
+    unfolding derived
+    by-ta21 e er f = as-value o (derived k a b) lo (f ∙ rw (er, et, e, spelled 16 a la))
 
-  pub by-ta41 : k ≡ 3 → length a ≡ 16 → ta41 a (part 0 10 b) ≡ derived k a b
-  unfolding derived
-  by-ta41 e l = rw (e, spelled 16 a l)
+    pub by-ta41 : k ≡ 3 → o ≡ core a t → o ≡ part 0 valueSize (derived k a b)
+    unfolding derived
+    by-ta41 e f = as-value o (derived k a b) lo (f ∙ rw (et, e, spelled 16 a la))
 
-  pub by-tb4 : k ≡ 4 → tb4 (part 0 10 a) (part 0 10 b) ≡ derived k a b
-  unfolding derived
-  by-tb4 e = rw e
+  module _ {s m : List ℕ} (es : s ≡ part 0 10 a) (f : o ≡ part 0 16 m) where
+    pub by-tb4 : k ≡ 4 → m ≡ tb4 s t → o ≡ part 0 valueSize (derived k a b)
+    unfolding derived
+    by-tb4 e g = f ∙ rw (g, es, et, e)
 
-  pub by-ta71 : (k ≡ 1 → ⊥) → (k ≡ 2 → ⊥) → (k ≡ 3 → ⊥) → (k ≡ 4 → ⊥) → ta71 (part 0 10 a) (part 0 10 b) ≡ derived k a b
-  unfolding derived
-  by-ta71 e₁ e₂ e₃ e₄ = rw (ne-eqb k 1 e₁, ne-eqb k 2 e₂, ne-eqb k 3 e₃, ne-eqb k 4 e₄)
+    pub by-ta71 : (k ≡ 1 → ⊥) → (k ≡ 2 → ⊥) → (k ≡ 3 → ⊥) → (k ≡ 4 → ⊥) → m ≡ ta71 s t → o ≡ part 0 valueSize (derived k a b)
+    unfolding derived
+    by-ta71 e₁ e₂ e₃ e₄ g = f ∙ rw (g, es, et, ne-eqb k 1 e₁, ne-eqb k 2 e₂, ne-eqb k 3 e₃, ne-eqb k 4 e₄)
 
 -- ---- the value of a record
 

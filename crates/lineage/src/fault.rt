@@ -11,22 +11,23 @@ use standard::WRONG_PARENT;
 ghost use mathlib.Core.Path.{_≡_};
 ghost use Prim.Native.Nat.{_+_, _*_, _≤_};
 ghost use lib.ListN.{length};
+ghost use Rattle.standard.specs.Bytes.{choose};
 ghost use Rattle.standard.specs.Lineage.{givenFilled, derivedFilled, filled as filledOf, parentTests, lineageFault};
-ghost use Rattle.standard.specs.Refusals.{first};
+ghost use Rattle.standard.specs.Refusals.{parentLength, first};
 ghost use Rattle.standard.specs.Sizes.{sheetSize};
 
-// Both parents zero, a length of 10 or 16, zero bytes after it.
+// Both parents zero, a length of 10 or 16, zero bytes after the key.
 fn given_filled(p: Record) -> bool
     ensures { λ r. ⌜ r ≡ givenFilled p ⌝ }
 {
     let parents = (p[1] == 0) & (p[2] == 0) & (p[3] == 0) & (p[4] == 0);
-    let behind = (p[16] == 0)
+    let after = (p[16] == 0)
         & (p[17] == 0)
         & (p[18] == 0)
         & (p[19] == 0)
         & (p[20] == 0)
         & (p[21] == 0);
-    parents & ((p[5] == 16) | ((p[5] == 10) & behind))
+    parents & ((p[5] == 16) | ((p[5] == 10) & after))
 }
 
 // Length and value zero.
@@ -62,6 +63,12 @@ fn filled(p: Record) -> bool
     derived_filled(p)
 }
 
+fn length_refusal(fit: bool) -> u32
+    ensures { λ r. ⌜ r ≡ choose fit 0 parentLength ⌝ }
+{
+    if fit { 0 } else { PARENT_LENGTH }
+}
+
 // 15 and 16: both parents of record i stand before it, and then have the lengths that its operation takes.
 fn parents_fault(sheet: &[u8], p: Record, i: usize) -> u32
     requires { ⌜ sheetSize * i ≤ length (now sheet) ⌝ }
@@ -75,11 +82,7 @@ fn parents_fault(sheet: &[u8], p: Record, i: usize) -> u32
     }
     let first = key_length(record_at(sheet, a));
     let second = key_length(record_at(sheet, b));
-    let fit = (first == derived_length(p[0])) & (second == 10);
-    if !fit {
-        return PARENT_LENGTH;
-    }
-    0
+    length_refusal((first == derived_length(p[0])) & (second == 10))
 }
 
 pub(crate) fn record_fault(sheet: &[u8], i: usize) -> u32

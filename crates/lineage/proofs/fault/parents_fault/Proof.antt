@@ -1,11 +1,11 @@
-use Rattle.standard.proofs.Prelude.{arith, now, needs, not-true, not-false}
-use Rattle.lineage.proofs.SheetLaws.{both-below, not-before, other-length, parents-fit}
+use Rattle.standard.proofs.Prelude.{_∙_, arith, now, needs, not-true, not-false}
+use Rattle.lineage.proofs.SheetLaws.{both-below, not-before, lengths-tested}
 use Rattle.lineage.proofs.fault.parents_fault.Tie as tie
 
 returns : tie.Need-returns
 returns c =
     let x = c .before .before .before .before .args in
-    not-before (now (x .sheet)) (x .t2) (x .i) _ _ (c .before .before .first-parent .ensures) (c .before .second-parent .ensures) (not-true _ (c .if1 .taken))
+    not-before (now (x .sheet)) (x .t2) (x .i) (c .before .before .first-parent .ensures) (c .before .second-parent .ensures) (not-true _ (c .if1 .taken))
 
 record-at-requires : tie.Need-record-at-requires
 record-at-requires c κs =
@@ -25,23 +25,13 @@ returns-2 c =
     let lengths = c .before in
     let tested = lengths .before .before .before .before .before in
     let x = tested .before .before .before .before .args in
-    other-length (now (x .sheet)) (x .t2) (x .i) _ _ (tested .before .before .first-parent .ensures) (tested .before .second-parent .ensures)
-    (not-false _ (tested .if1 .left)) _ _ _
-    (lengths .before .before .before .key-length .ensures) (lengths .before .before .before .before .record-at .ensures)
-    (lengths .before .key-length2 .ensures) (lengths .before .before .record-at2 .ensures) (lengths .derived-length .ensures) (not-true _ (c .if2 .taken))
-
-returns-3 : tie.Need-returns-3
-returns-3 c =
-    let lengths = c .before in
-    let tested = lengths .before .before .before .before .before in
-    let x = tested .before .before .before .before .args in
-    parents-fit (now (x .sheet)) (x .t2) (x .i) _ _ (tested .before .before .first-parent .ensures) (tested .before .second-parent .ensures)
-    (not-false _ (tested .if1 .left)) _ _ _
-    (lengths .before .before .before .key-length .ensures) (lengths .before .before .before .before .record-at .ensures)
-    (lengths .before .key-length2 .ensures) (lengths .before .before .record-at2 .ensures) (lengths .derived-length .ensures) (not-false _ (c .if2 .left))
+    c .length-refusal .ensures
+    ∙ lengths-tested (now (x .sheet)) (x .t2) (x .i) (tested .before .before .first-parent .ensures) (tested .before .second-parent .ensures)
+    (not-false _ (tested .if1 .left)) (lengths .before .before .before .key-length .ensures) (lengths .before .before .before .before .record-at .ensures)
+    (lengths .before .key-length2 .ensures) (lengths .before .before .record-at2 .ensures) (lengths .derived-length .ensures)
 
 pub parents-fault-spec : {M : Type 1} → Rattle.lineage.proofs.fault.parents_fault.Statement.statement M
 parents-fault-spec =
     tie.close
     (tie.spec (λ c κs. search needs) (λ c κs. search needs) returns record-at-requires (λ c κs. search needs) record-at-requires-2
-    (λ c κs. search needs) (λ c. search needs) (λ c κs. search needs) returns-2 returns-3)
+    (λ c κs. search needs) (λ c. search needs) (λ c κs. search needs) (λ c κs. search needs) returns-2)
