@@ -6,12 +6,13 @@ use Rattle.standard.proofs.Prelude.{add-one, arith, length, length-append, shl-
 use mathlib.Core.List.{foldl, foldl-append}
 use Prim.Native.Nat.{min, max}
 use lib.Count.{ones, ones-cat}
-use Rattle.hurdle.specs.Lanes.{lane}
+use Rattle.hurdle.specs.Lanes.{lanes}
+use Rattle.lists.specs.Walks.{after}
 use Rattle.standard.proofs.BytesLaws.{table-same, table-add}
 use Rattle.standard.proofs.DiffusionLaws.{length-changes, least-from}
-use Rattle.standard.specs.Bytes.{_!_, table, part, xors}
-use Rattle.standard.specs.Diffusion.{flipped, bitsSet, change, recordChanges, changes, total, least, greatest, diffusionCall}
-use Rattle.standard.specs.Hurdle.{schedule, encryptWith, encrypt}
+use Rattle.standard.specs.Bytes.{_!_, table, part}
+use Rattle.standard.specs.Diffusion.{change, recordChanges, changes, total, least, greatest, diffusionCall}
+use Rattle.standard.specs.Hurdle.{schedule, encrypt}
 use Rattle.standard.specs.Lists.{recordAt, each, lengthTests}
 use Rattle.standard.specs.Refusals.{first}
 use Rattle.standard.specs.Sizes.{diffusionSize}
@@ -29,15 +30,6 @@ module _ (a b c d : ℕ) (ha : a < 256) (hb : b < 256) (hc : c < 256) (hd : d < 
   word-ones =
       ap ones (omega arith) ∙ ones-cat 24 a (b * 65536 + (c * 256 + d)) (omega arith)
       ∙ ap (_+_ (ones a)) (ones-cat 16 b (c * 256 + d) (omega arith) ∙ ap (_+_ (ones b)) (ones-cat 8 c d (omega arith)))
-
-pub changed-is : (keys block : List ℕ) (i : ℕ) {output flip other : List ℕ} {r : ℕ} → output ≡ encryptWith keys block → flip ≡ flipped i block
-    → other ≡ encryptWith keys flip → r ≡ bitsSet (xors 8 output other) → r ≡ changeWith keys block i
-unfolding changeWith
-changed-is keys block i e f g h = h ∙ ap₂ (λ (u v : List ℕ). bitsSet (xors 8 u v)) e (g ∙ ap (λ (b : List ℕ). encryptWith keys b) f)
-
--- equal in each lane
-pub lane-same : (j : ℕ) {xs ys : List (List ℕ)} → xs ≡ ys → lane xs j ≡ lane ys j
-lane-same j e = ap (λ (l : List (List ℕ)). lane l j) e
 
 -- under a key's round keys
 same-change : (k b : List ℕ) (i : ℕ) → changeWith (schedule k) b i ≡ change k b i
@@ -65,13 +57,13 @@ module _ {t l g : ℕ} where
     }
 
     -- four entries of a table more
-    pub counted-four : (f : ℕ → ℕ) (q : ℕ) {a b c d : ℕ} → (a ≡ f (4 * q)) × (b ≡ f (4 * q + 1)) × (c ≡ f (4 * q + 2)) × (d ≡ f (4 * q + 3))
-        → Counted t l g (table (4 * q) f) t′ l′ g′ → Counted t′ l′ g′ (a ∷ b ∷ c ∷ d ∷ []) t″ l″ g″
+    pub counted-four : (f : ℕ → ℕ) (q : ℕ) {cs : List ℕ} → cs ≡ lanes (λ j. f (after (4 * q) j))
+        → Counted t l g (table (4 * q) f) t′ l′ g′ → Counted t′ l′ g′ (lanes (λ j. cs ! j)) t″ l″ g″
         → Counted t l g (table (4 * (q + 1)) f) t″ l″ g″
     counted-four f q e h k =
         let next : 4 * (q + 1) ≡ 4 * q + 4 = omega arith in
         let from : f (4 * q) ≡ f (4 * q + 0) = ap f (sym (add-zero (4 * q))) in
-        rw (next, table-add (4 * q) 4 f) (counted-more h (rw (e .0 ∙ from, e .1, e .2, e .3) at k))
+        rw (next, table-add (4 * q) 4 f) (counted-more h (rw (e, from) at k))
 
     -- a record more
     pub counted-record : (xs : List ℕ) (i : ℕ) (x : List ℕ) → x ≡ recordAt diffusionSize xs i

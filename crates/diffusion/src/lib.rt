@@ -13,8 +13,9 @@ ghost use mathlib.Core.Path.{_≡_};
 ghost use Prim.Native.Nat.{_+_, _*_, _<_, _≤_, min, max};
 ghost use lib.Count.{ones};
 ghost use lib.ListN.{length};
-ghost use Rattle.hurdle.specs.Lanes.{lane};
-ghost use Rattle.standard.specs.Bytes.{table, xors, bytesOf};
+ghost use Rattle.hurdle.specs.Lanes.{lanes, lane, eachLane};
+ghost use Rattle.lists.specs.Walks.{after};
+ghost use Rattle.standard.specs.Bytes.{_!_, table, xors, bytesOf};
 ghost use Rattle.standard.specs.Diffusion.{flipped, bitsSet, recordChanges, diffusionCall};
 ghost use Rattle.standard.specs.Hurdle.{encryptWith};
 ghost use Rattle.standard.specs.Lists.{each};
@@ -60,18 +61,10 @@ fn changed(a: [u8; 8], b: [u8; 8]) -> u32
     l + r
 }
 
-// A change of each lane.
-struct Changes {
-    a: u32,
-    b: u32,
-    c: u32,
-    d: u32,
-}
-
 // The flips of four bits, from bit i on.
 fn flips(block: [u8; 8], i: u32) -> [[u8; 8]; 4]
     requires { ⌜ i + 4 ≤ 64 ⌝ }
-    ensures { λ x. ⌜ x ≡ flipped i block ∷ flipped (i + 1) block ∷ flipped (i + 2) block ∷ flipped (i + 3) block ∷ [] ⌝ }
+    ensures { λ x. ⌜ x ≡ lanes (λ j. flipped (after i j) block) ⌝ }
 {
     [
         flip(block, i),
@@ -82,34 +75,24 @@ fn flips(block: [u8; 8], i: u32) -> [[u8; 8]; 4]
 }
 
 // How many bits of each lane differ from those of the output.
-fn differences(output: [u8; 8], y: [[u8; 8]; 4]) -> Changes
-    ensures { λ r. ⌜ (r .a ≡ bitsSet (xors 8 output (lane y 0)))
-        × (r .b ≡ bitsSet (xors 8 output (lane y 1)))
-        × (r .c ≡ bitsSet (xors 8 output (lane y 2)))
-        × (r .d ≡ bitsSet (xors 8 output (lane y 3))) ⌝ }
-    ensures { λ r. ⌜ (r .a ≤ 64) × (r .b ≤ 64) × (r .c ≤ 64) × (r .d ≤ 64) ⌝ }
+fn differences(output: [u8; 8], y: [[u8; 8]; 4]) -> [u32; 4]
+    ensures { λ r. ⌜ r ≡ lanes (λ j. bitsSet (xors 8 output (lane y j))) ⌝ }
+    ensures { λ r. ⌜ eachLane (λ j. r ! j ≤ 64) ⌝ }
 {
-    let ya = y[0];
-    let yb = y[1];
-    let yc = y[2];
-    let yd = y[3];
-    Changes {
-        a: changed(output, ya),
-        b: changed(output, yb),
-        c: changed(output, yc),
-        d: changed(output, yd),
-    }
+    [
+        changed(output, y[0]),
+        changed(output, y[1]),
+        changed(output, y[2]),
+        changed(output, y[3]),
+    ]
 }
 
 // The changes of four flips, from bit i on. `output` is the block's own.
-fn four_changes(keys: &[u8; 192], block: [u8; 8], output: [u8; 8], i: u32) -> Changes
+fn four_changes(keys: &[u8; 192], block: [u8; 8], output: [u8; 8], i: u32) -> [u32; 4]
     requires { ⌜ output ≡ encryptWith (now keys) block ⌝ }
     requires { ⌜ i + 4 ≤ 64 ⌝ }
-    ensures { λ r. ⌜ (r .a ≡ changeWith (now (keys .entry)) block i)
-        × (r .b ≡ changeWith (now (keys .entry)) block (i + 1))
-        × (r .c ≡ changeWith (now (keys .entry)) block (i + 2))
-        × (r .d ≡ changeWith (now (keys .entry)) block (i + 3)) ⌝ }
-    ensures { λ r. ⌜ (r .a ≤ 64) × (r .b ≤ 64) × (r .c ≤ 64) × (r .d ≤ 64) ⌝ }
+    ensures { λ r. ⌜ r ≡ lanes (λ j. changeWith (now (keys .entry)) block (after i j)) ⌝ }
+    ensures { λ r. ⌜ eachLane (λ j. r ! j ≤ 64) ⌝ }
 {
     differences(
         output,
@@ -150,16 +133,15 @@ fn counted(t: Figures, change: u32) -> Figures
 }
 
 // Four changes more.
-fn counted4(t: Figures, changes: Changes) -> Figures
+fn counted_x4(t: Figures, changes: [u32; 4]) -> Figures
     requires { ⌜ t .total < 1073741824 ⌝ }
-    requires { ⌜ (changes .a ≤ 64) × (changes .b ≤ 64) × (changes .c ≤ 64) × (changes .d ≤ 64) ⌝ }
-    ensures { λ r. ⌜ Counted (t .total) (t .least) (t .greatest) (changes .a ∷ changes .b ∷ changes .c ∷ changes .d ∷ [])
-        (r .total) (r .least) (r .greatest) ⌝ }
+    requires { ⌜ eachLane (λ j. changes ! j ≤ 64) ⌝ }
+    ensures { λ r. ⌜ Counted (t .total) (t .least) (t .greatest) (lanes (λ j. changes ! j)) (r .total) (r .least) (r .greatest) ⌝ }
 {
-    let a = counted(t, changes.a);
-    let b = counted(a, changes.b);
-    let c = counted(b, changes.c);
-    counted(c, changes.d)
+    let a = counted(t, changes[0]);
+    let b = counted(a, changes[1]);
+    let c = counted(b, changes[2]);
+    counted(c, changes[3])
 }
 
 // The changes of a block's 64 flips, counted after those so far.
@@ -170,7 +152,7 @@ fn count_flips(keys: &[u8; 192], block: [u8; 8], t: Figures) -> Figures
     let output = encrypt_with(keys, block);
     let mut figures = t;
     for q in 0..16 {
-        figures = counted4(figures, four_changes(keys, block, output, 4 * q));
+        figures = counted_x4(figures, four_changes(keys, block, output, 4 * q));
     }
     figures
 }

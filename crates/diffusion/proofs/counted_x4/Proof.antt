@@ -1,6 +1,6 @@
 use Rattle.standard.proofs.Prelude.{needs}
 use Rattle.diffusion.proofs.CountLaws.{counted-more}
-use Rattle.diffusion.proofs.counted4.Tie as tie
+use Rattle.diffusion.proofs.counted_x4.Tie as tie
 
 returns : tie.Need-returns
 returns c =
@@ -10,7 +10,8 @@ returns c =
     let three = counted-more two (third .counted3 .ensures) in
     counted-more three (c .counted4 .ensures)
 
-pub counted4-spec : {M : Type 1} → Rattle.diffusion.proofs.counted4.Statement.statement M
-counted4-spec =
+pub counted-x4-spec : {M : Type 1} → Rattle.diffusion.proofs.counted_x4.Statement.statement M
+counted-x4-spec =
     tie.close
-    (tie.spec (λ c κs. search needs) (λ c κs. search needs) (λ c κs. search needs) (λ c κs. search needs) returns)
+    (tie.spec (λ c. search needs) (λ c κs. search needs) (λ c. search needs) (λ c κs. search needs) (λ c. search needs) (λ c κs. search needs)
+    (λ c. search needs) (λ c κs. search needs) returns)
