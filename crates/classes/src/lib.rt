@@ -7,7 +7,6 @@ use arrays::join_4_10;
 use cores::CoreOutput16;
 use cores::bl1_with;
 use cores::exp2;
-use cores_x4::Strings16;
 use cores_x4::bl1_with_x4;
 use hurdle::schedule;
 use keys::mask_refusal;
@@ -22,6 +21,7 @@ ghost use mathlib.Core.Path.{_≡_};
 ghost use Prim.Native.Nat.{_+_, _*_, _≤_};
 ghost use lib.ListN.{length, drop};
 ghost use Rattle.cores_x4.specs.Lanes.{lane16};
+ghost use Rattle.hurdle.specs.Lanes.{lanes};
 ghost use Rattle.lists.specs.Walks.{after, replaceAt, replaceX4};
 ghost use Rattle.standard.specs.Classes.{ta12ClassCall};
 ghost use Rattle.standard.specs.Lists.{recordAt, each};
@@ -68,17 +68,16 @@ fn write_one(
     write_at(o, response_mask, key_mask, i, out);
 }
 
-fn inputs_at(challenges: &[u8], i: usize) -> Strings16
+fn inputs_at(challenges: &[u8], i: usize) -> [[u8; 16]; 4]
     requires { ⌜ challengeSize * (i + 4) ≤ length (now challenges) ⌝ }
-    ensures { λ r. ⌜ (r .a ≡ inputAt (now (challenges .entry)) i) × (r .b ≡ inputAt (now (challenges .entry)) (i + 1))
-        × (r .c ≡ inputAt (now (challenges .entry)) (i + 2)) × (r .d ≡ inputAt (now (challenges .entry)) (i + 3)) ⌝ }
+    ensures { λ r. ⌜ r ≡ lanes (λ j. inputAt (now (challenges .entry)) (after i j)) ⌝ }
 {
-    Strings16 {
-        a: input_at(challenges, i),
-        b: input_at(challenges, i + 1),
-        c: input_at(challenges, i + 2),
-        d: input_at(challenges, i + 3),
-    }
+    [
+        input_at(challenges, i),
+        input_at(challenges, i + 1),
+        input_at(challenges, i + 2),
+        input_at(challenges, i + 3),
+    ]
 }
 
 fn write_at_x4(o: [CoreOutput16; 4], response_mask: u16, key_mask: u16, i: usize, out: &mut [u8])

@@ -17,31 +17,25 @@ ghost use Rattle.cores.specs.CoreOutputs.{bl2With, counted16, counted15};
 ghost use Rattle.standard.specs.Bytes.{_!_, _⊕_, part, xors};
 ghost use Rattle.standard.specs.Cores.{bl1With, bl1, bl2};
 
-// A string of sixteen bytes for each lane: keys, or the cores' inputs.
-pub struct Strings16 {
-    pub a: [u8; 16],
-    pub b: [u8; 16],
-    pub c: [u8; 16],
-    pub d: [u8; 16],
+fn left_x4(x: [[u8; 16]; 4]) -> [[u8; 8]; 4]
+    ensures { λ r. ⌜ r ≡ lanes (λ j. part 0 8 (lane x j)) ⌝ }
+{
+    [left(x[0]), left(x[1]), left(x[2]), left(x[3])]
 }
 
-fn lefts(x: Strings16) -> [[u8; 8]; 4]
-    ensures { λ r. ⌜ r ≡ lanes (λ j. part 0 8 (byLane (x .a) (x .b) (x .c) (x .d) j)) ⌝ }
+fn right_x4(x: [[u8; 16]; 4]) -> [[u8; 8]; 4]
+    ensures { λ r. ⌜ r ≡ lanes (λ j. part 8 8 (lane x j)) ⌝ }
 {
-    let xa = x.a;
-    let xb = x.b;
-    let xc = x.c;
-    let xd = x.d;
-    [left(xa), left(xb), left(xc), left(xd)]
+    [right(x[0]), right(x[1]), right(x[2]), right(x[3])]
 }
 
-fn chains(x: Strings16, l: [[u8; 8]; 4]) -> [[u8; 8]; 4]
-    ensures { λ r. ⌜ r ≡ lanes (λ j. xors 8 (part 8 8 (byLane (x .a) (x .b) (x .c) (x .d) j)) (lane l j)) ⌝ }
+fn bl1_right_input_x4(x: [[u8; 16]; 4], l: [[u8; 8]; 4]) -> [[u8; 8]; 4]
+    ensures { λ r. ⌜ r ≡ lanes (λ j. xors 8 (part 8 8 (lane x j)) (lane l j)) ⌝ }
 {
-    let xa = x.a;
-    let xb = x.b;
-    let xc = x.c;
-    let xd = x.d;
+    let xa = x[0];
+    let xb = x[1];
+    let xc = x[2];
+    let xd = x[3];
     let la = l[0];
     let lb = l[1];
     let lc = l[2];
@@ -54,7 +48,7 @@ fn chains(x: Strings16, l: [[u8; 8]; 4]) -> [[u8; 8]; 4]
     ]
 }
 
-fn joins(l: [[u8; 8]; 4], r: [[u8; 8]; 4]) -> [CoreOutput16; 4]
+fn bl1_output_x4(l: [[u8; 8]; 4], r: [[u8; 8]; 4]) -> [CoreOutput16; 4]
     ensures { λ o. ⌜ o ≡ lanes (λ j. counted16 (part 0 8 (lane l j) ++ part 0 8 (lane r j))) ⌝ }
 {
     let la = l[0];
@@ -79,48 +73,33 @@ pub fn bl1_with_x4(
     kb: &[u8; 192],
     kc: &[u8; 192],
     kd: &[u8; 192],
-    x: Strings16,
+    x: [[u8; 16]; 4],
 ) -> [CoreOutput16; 4]
-    ensures { λ o. ⌜ o ≡ counted16 (bl1With (now (ka .entry)) (x .a)) ∷ counted16 (bl1With (now (kb .entry)) (x .b))
-        ∷ counted16 (bl1With (now (kc .entry)) (x .c)) ∷ counted16 (bl1With (now (kd .entry)) (x .d)) ∷ [] ⌝ }
+    ensures { λ o. ⌜ o ≡ lanes (λ j. counted16 (bl1With
+        (byLane (now (ka .entry)) (now (kb .entry)) (now (kc .entry)) (now (kd .entry)) j) (lane x j))) ⌝ }
 {
-    let l = encrypt_with_x4(ka, kb, kc, kd, lefts(x));
-    let r = encrypt_with_x4(ka, kb, kc, kd, chains(x, l));
-    joins(l, r)
+    let l = encrypt_with_x4(ka, kb, kc, kd, left_x4(x));
+    let r = encrypt_with_x4(ka, kb, kc, kd, bl1_right_input_x4(x, l));
+    bl1_output_x4(l, r)
 }
 
-pub fn bl1_x4(k: Strings16, x: Strings16) -> [CoreOutput16; 4]
-    ensures { λ o. ⌜ o ≡ counted16 (bl1 (k .a) (x .a)) ∷ counted16 (bl1 (k .b) (x .b))
-        ∷ counted16 (bl1 (k .c) (x .c)) ∷ counted16 (bl1 (k .d) (x .d)) ∷ [] ⌝ }
+pub fn bl1_x4(k: [[u8; 16]; 4], x: [[u8; 16]; 4]) -> [CoreOutput16; 4]
+    ensures { λ o. ⌜ o ≡ lanes (λ j. counted16 (bl1 (lane k j) (lane x j))) ⌝ }
 {
-    let a = k.a;
-    let b = k.b;
-    let c = k.c;
-    let d = k.d;
-    let ka = schedule(a);
-    let kb = schedule(b);
-    let kc = schedule(c);
-    let kd = schedule(d);
+    let ka = schedule(k[0]);
+    let kb = schedule(k[1]);
+    let kc = schedule(k[2]);
+    let kd = schedule(k[3]);
     bl1_with_x4(&ka, &kb, &kc, &kd, x)
 }
 
-fn rights(y: Strings16) -> [[u8; 8]; 4]
-    ensures { λ r. ⌜ r ≡ lanes (λ j. part 8 8 (byLane (y .a) (y .b) (y .c) (y .d) j)) ⌝ }
+fn bl2_left_input_x4(y: [[u8; 16]; 4], r: [[u8; 8]; 4]) -> [[u8; 8]; 4]
+    ensures { λ w. ⌜ w ≡ lanes (λ j. part 0 7 (lane y j) ++ ((lane y j ! 7 ⊕ lane r j ! 7) ∷ [])) ⌝ }
 {
-    let ya = y.a;
-    let yb = y.b;
-    let yc = y.c;
-    let yd = y.d;
-    [right(ya), right(yb), right(yc), right(yd)]
-}
-
-fn mends(y: Strings16, r: [[u8; 8]; 4]) -> [[u8; 8]; 4]
-    ensures { λ w. ⌜ w ≡ lanes (λ j. part 0 7 (byLane (y .a) (y .b) (y .c) (y .d) j) ++ (((byLane (y .a) (y .b) (y .c) (y .d) j) ! 7 ⊕ lane r j ! 7) ∷ [])) ⌝ }
-{
-    let ya = y.a;
-    let yb = y.b;
-    let yc = y.c;
-    let yd = y.d;
+    let ya = y[0];
+    let yb = y[1];
+    let yc = y[2];
+    let yd = y[3];
     let ra = r[0];
     let rb = r[1];
     let rc = r[2];
@@ -133,26 +112,14 @@ fn mends(y: Strings16, r: [[u8; 8]; 4]) -> [[u8; 8]; 4]
     ]
 }
 
-fn joins7(l: [[u8; 8]; 4], r: [[u8; 8]; 4], y: Strings16) -> [CoreOutput15; 4]
-    ensures { λ o. ⌜ o ≡ lanes (λ j. counted15 (part 0 8 (lane l j) ++ xors 7 (lane r j) (part 0 7 (byLane (y .a) (y .b) (y .c) (y .d) j)))) ⌝ }
+fn bl2_output_x4(l: [[u8; 8]; 4], r: [[u8; 8]; 4], y: [[u8; 16]; 4]) -> [CoreOutput15; 4]
+    ensures { λ o. ⌜ o ≡ lanes (λ j. counted15 (part 0 8 (lane l j) ++ xors 7 (lane r j) (part 0 7 (lane y j)))) ⌝ }
 {
-    let la = l[0];
-    let lb = l[1];
-    let lc = l[2];
-    let ld = l[3];
-    let ra = r[0];
-    let rb = r[1];
-    let rc = r[2];
-    let rd = r[3];
-    let ya = y.a;
-    let yb = y.b;
-    let yc = y.c;
-    let yd = y.d;
     [
-        bl2_output(la, ra, ya),
-        bl2_output(lb, rb, yb),
-        bl2_output(lc, rc, yc),
-        bl2_output(ld, rd, yd),
+        bl2_output(l[0], r[0], y[0]),
+        bl2_output(l[1], r[1], y[1]),
+        bl2_output(l[2], r[2], y[2]),
+        bl2_output(l[3], r[3], y[3]),
     ]
 }
 
@@ -161,27 +128,22 @@ fn bl2_with_x4(
     kb: &[u8; 192],
     kc: &[u8; 192],
     kd: &[u8; 192],
-    y: Strings16,
+    y: [[u8; 16]; 4],
 ) -> [CoreOutput15; 4]
-    ensures { λ o. ⌜ o ≡ counted15 (bl2With (now (ka .entry)) (y .a)) ∷ counted15 (bl2With (now (kb .entry)) (y .b))
-        ∷ counted15 (bl2With (now (kc .entry)) (y .c)) ∷ counted15 (bl2With (now (kd .entry)) (y .d)) ∷ [] ⌝ }
+    ensures { λ o. ⌜ o ≡ lanes (λ j. counted15 (bl2With
+        (byLane (now (ka .entry)) (now (kb .entry)) (now (kc .entry)) (now (kd .entry)) j) (lane y j))) ⌝ }
 {
-    let r = decrypt_with_x4(ka, kb, kc, kd, rights(y));
-    let l = decrypt_with_x4(ka, kb, kc, kd, mends(y, r));
-    joins7(l, r, y)
+    let r = decrypt_with_x4(ka, kb, kc, kd, right_x4(y));
+    let l = decrypt_with_x4(ka, kb, kc, kd, bl2_left_input_x4(y, r));
+    bl2_output_x4(l, r, y)
 }
 
-pub fn bl2_x4(k: Strings16, y: Strings16) -> [CoreOutput15; 4]
-    ensures { λ o. ⌜ o ≡ counted15 (bl2 (k .a) (y .a)) ∷ counted15 (bl2 (k .b) (y .b))
-        ∷ counted15 (bl2 (k .c) (y .c)) ∷ counted15 (bl2 (k .d) (y .d)) ∷ [] ⌝ }
+pub fn bl2_x4(k: [[u8; 16]; 4], y: [[u8; 16]; 4]) -> [CoreOutput15; 4]
+    ensures { λ o. ⌜ o ≡ lanes (λ j. counted15 (bl2 (lane k j) (lane y j))) ⌝ }
 {
-    let a = k.a;
-    let b = k.b;
-    let c = k.c;
-    let d = k.d;
-    let ka = schedule(a);
-    let kb = schedule(b);
-    let kc = schedule(c);
-    let kd = schedule(d);
+    let ka = schedule(k[0]);
+    let kb = schedule(k[1]);
+    let kc = schedule(k[2]);
+    let kd = schedule(k[3]);
     bl2_with_x4(&ka, &kb, &kc, &kd, y)
 }

@@ -3,7 +3,6 @@ use cores::CoreOutput15;
 use cores::CoreOutput16;
 use cores::bl1;
 use cores::bl2;
-use cores_x4::Strings16;
 use cores_x4::bl1_x4;
 use cores_x4::bl2_x4;
 ghost use mathlib.Core.Path.{_≡_};
@@ -96,8 +95,8 @@ pub fn open_core(c: CoreInput) -> CoreOutput15
     bl2(key, input)
 }
 
-fn keys(c: [CoreInput; 4]) -> Strings16
-    ensures { λ k. ⌜ k ≡ record { a = inputLane c 0 .key; b = inputLane c 1 .key; c = inputLane c 2 .key; d = inputLane c 3 .key } ⌝ }
+fn keys(c: [CoreInput; 4]) -> [[u8; 16]; 4]
+    ensures { λ k. ⌜ k ≡ lanes (λ j. inputLane c j .key) ⌝ }
 {
     let c0 = c[0];
     let c1 = c[1];
@@ -107,11 +106,11 @@ fn keys(c: [CoreInput; 4]) -> Strings16
     let b = c1.key;
     let c = c2.key;
     let d = c3.key;
-    Strings16 { a, b, c, d }
+    [a, b, c, d]
 }
 
-fn inputs(c: [CoreInput; 4]) -> Strings16
-    ensures { λ x. ⌜ x ≡ record { a = inputLane c 0 .input; b = inputLane c 1 .input; c = inputLane c 2 .input; d = inputLane c 3 .input } ⌝ }
+fn inputs(c: [CoreInput; 4]) -> [[u8; 16]; 4]
+    ensures { λ x. ⌜ x ≡ lanes (λ j. inputLane c j .input) ⌝ }
 {
     let c0 = c[0];
     let c1 = c[1];
@@ -121,7 +120,7 @@ fn inputs(c: [CoreInput; 4]) -> Strings16
     let b = c1.input;
     let c = c2.input;
     let d = c3.input;
-    Strings16 { a, b, c, d }
+    [a, b, c, d]
 }
 
 fn without8_x4(o: [CoreOutput16; 4]) -> [CoreOutput15; 4]

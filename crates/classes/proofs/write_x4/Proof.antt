@@ -6,8 +6,7 @@ returns : tie.Need-returns
 unfolding recordWith
 returns c =
     let cores = c .before .before .before .before in
-    let y = cores .before .inputs-at .ensures in
-    rw (c .before .before .write-at-x4 .ensures, cores .bl1-with-x4 .ensures, y .0, y .1, y .2, y .3)
+    rw (c .before .before .write-at-x4 .ensures, cores .bl1-with-x4 .ensures, cores .before .inputs-at .ensures)
 
 pub write-x4-spec : {M : Type 1} → Rattle.classes.proofs.write_x4.Statement.statement M
 write-x4-spec =
