@@ -21,7 +21,7 @@ ghost use Rattle.cores_x4.specs.Lanes.{lane15};
 ghost use Rattle.lists.specs.Walks.{after, replaceAt, replaceX4};
 ghost use Rattle.standard.specs.Lists.{recordAt};
 ghost use Rattle.standard.specs.Runs.{textRuns};
-ghost use Rattle.hurdle.specs.Lanes.{lanes};
+ghost use Rattle.hurdle.specs.Lanes.{lanes, eachLane};
 ghost use Rattle.texts.specs.OpenedTexts.{inputLane};
 ghost use Rattle.books.specs.BothDirections.{sizeOf, outputSizeOf, inputOf, inputAt, coreOf, madeOf, convertOf, convertAt};
 
@@ -141,7 +141,7 @@ fn core_x4(direction: Direction, c: [CoreInput; 4]) -> [CoreOutput15; 4]
 
 // The cipher runs of four cores.
 fn runs_of(o: [CoreOutput15; 4]) -> usize
-    requires { ⌜ (lane15 o 0 .runs ≤ textRuns) × (lane15 o 1 .runs ≤ textRuns) × (lane15 o 2 .runs ≤ textRuns) × (lane15 o 3 .runs ≤ textRuns) ⌝ }
+    requires { ⌜ eachLane (λ j. lane15 o j .runs ≤ textRuns) ⌝ }
     ensures { λ r. ⌜ r ≡ lane15 o 0 .runs + lane15 o 1 .runs + lane15 o 2 .runs + lane15 o 3 .runs ⌝ }
 {
     o[0].runs + o[1].runs + o[2].runs + o[3].runs
