@@ -8,7 +8,7 @@ ghost use Rattle.standard.specs.Bytes.{_!_, table};
 ghost use Rattle.standard.specs.Hurdle.{schedule as scheduleOf};
 
 // The key and the key again, so that a rotated key is a part of it.
-fn doubled(key: [u8; 16]) -> [u8; 32]
+pub fn doubled(key: [u8; 16]) -> [u8; 32]
     ensures { λ r. ⌜ r ≡ table 32 (λ i. key ! (i % 16)) ⌝ }
 {
     let mut out = [0u8; 32];

@@ -12,6 +12,7 @@ use crate::tables::entry;
 use arrays::array8;
 use arrays::array16;
 use arrays::have_lengths;
+pub use key_schedule::doubled;
 pub use round::Halves;
 pub use round::joined;
 pub use round::round_under;

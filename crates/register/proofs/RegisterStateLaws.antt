@@ -1,11 +1,12 @@
 -- The loops of the code turn the register and the halves as the definitions do.
 -- Assumes nothing.
-use Rattle.standard.proofs.Prelude.{_≡_, sym, ap, ap₂, _∙_, List, _++_, ℕ, _+_, _-_, _%_, _≤_, _<_, mod-eq-of-lt, add-one, length}
+use Rattle.standard.proofs.Prelude.{_≡_, sym, ap, ap₂, _∙_, List, _++_, ℕ, suc, _+_, _-_, _%_, _≤_, _<_, mod-eq-of-lt, add-one, arith, length}
 use Rattle.hurdle.proofs.RoundLaws.{round-word}
 use Rattle.hurdle.specs.RoundSteps.{bytes4, halfBytes, roundOver, spreads, twice, HalvesOf}
 use Rattle.hurdle.specs.declared.round.Halves.{Halves as Words}
 use Rattle.standard.proofs.RegisterLaws.{a-most, same-cipher}
-use Rattle.standard.specs.Bytes.{_!_, part, xors}
+use Rattle.standard.proofs.BytesLaws.{table-at}
+use Rattle.standard.specs.Bytes.{_!_, table, part, xors}
 use Rattle.standard.specs.Hurdle.{Halves, D, a, rotl, next, encrypt, decrypt}
 use Rattle.standard.specs.Register.{step, stepBack, turned, State, roundUnder, onward, backward, encryptRegister, decryptRegister}
 use Rattle.register.specs.RegisterStates.{stateOf}
@@ -21,23 +22,36 @@ under q h o e = ap halfBytes e ∙ round-word (part 4 12 q) h
 pub rotation-most : (rots : List ℕ) (i : ℕ) → rots ≡ a → i < 16 → rots ! i ≤ 16
 rotation-most rots i t h = rw t (a-most i h)
 
--- one turn of encryption, and one of decryption
-module _ (rots : List ℕ) (i : ℕ) (s : State) (q : List ℕ) (h : Words) (q₁ : List ℕ) (h₁ : Words) (t : rots ≡ a) where
-  pub onward-more : stateOf q h ≡ onward i s → h₁ ≡ roundOver twice spreads (part 4 12 q) h → q₁ ≡ next (rots ! i) q → stateOf q₁ h₁ ≡ onward (i + 1) s
-  unfolding onward
-  onward-more e r p =
-      ap₂ state (p ∙ ap (λ (b : List ℕ). next (b ! i) q) t) (under q h h₁ r)
-      ∙ ap (λ (u : State). state (step i (u .register)) (roundUnder (u .register) (u .halves))) e
-      ∙ ap (λ (n : ℕ). onward n s) (sym (add-one i))
+-- a byte of the register twice over
+pub twice-byte : (q xs : List ℕ) (i n : ℕ) → xs ≡ table 32 (λ j. q ! (j % 16)) → i + n < 32 → xs ! (i + n) ≡ q ! ((i + n) % 16)
+twice-byte q xs i n e h = ap (λ (l : List ℕ). l ! (i + n)) e ∙ table-at 32 (λ j. q ! (j % 16)) (i + n) h
 
-  pub backward-more : stateOf q h ≡ backward i s → q₁ ≡ rotl (16 - rots ! (15 - i)) (xors 16 q D) → h₁ ≡ roundOver twice spreads (part 4 12 q₁) h
-      → stateOf q₁ h₁ ≡ backward (i + 1) s
-  unfolding backward
-  backward-more e p r =
-      let back : q₁ ≡ stepBack (15 - i) q = p ∙ ap (λ (b : List ℕ). rotl (16 - b ! (15 - i)) (xors 16 q D)) t in
-      ap₂ state back (under q₁ h h₁ r ∙ ap (λ (x : List ℕ). roundUnder x (halfBytes h)) back)
-      ∙ ap (λ (u : State). state (stepBack (15 - i) (u .register)) (roundUnder (stepBack (15 - i) (u .register)) (u .halves))) e
-      ∙ ap (λ (n : ℕ). backward n s) (sym (add-one i))
+-- one turn of encryption
+pub onward-more : (rots : List ℕ) (i : ℕ) (s : State) (q : List ℕ) (h : Words) (q₁ : List ℕ) (h₁ : Words) → rots ≡ a → stateOf q h ≡ onward i s
+    → h₁ ≡ roundOver twice spreads (part 4 12 q) h → q₁ ≡ next (rots ! i) q → stateOf q₁ h₁ ≡ onward (i + 1) s
+unfolding onward
+onward-more rots i s q h q₁ h₁ t e r p =
+    ap₂ state (p ∙ ap (λ (b : List ℕ). next (b ! i) q) t) (under q h h₁ r)
+    ∙ ap (λ (u : State). state (step i (u .register)) (roundUnder (u .register) (u .halves))) e
+    ∙ ap (λ (n : ℕ). onward n s) (sym (add-one i))
+
+-- decryption before turn i: the halves so far, and the register a step ahead
+abbrev pub Ahead : State → ℕ → List ℕ → Words → Type 0
+Ahead s i q h = (q ≡ stepBack ((31 - i) % 16) (backward i s .register)) × (halfBytes h ≡ backward i s .halves)
+
+-- one turn of it
+pub backward-more : (rots : List ℕ) (i : ℕ) (s : State) (q : List ℕ) (h : Words) (q₁ : List ℕ) (h₁ : Words) → rots ≡ a → i < 16 → Ahead s i q h
+    → q₁ ≡ rotl (16 - rots ! ((30 - i) % 16)) (xors 16 q D) → h₁ ≡ roundOver twice spreads (part 4 12 q) h → Ahead s (i + 1) q₁ h₁
+unfolding backward
+backward-more rots i s q h q₁ h₁ t l e p r =
+    let more : backward (i + 1) s ≡ backward (suc i) s = ap (λ (n : ℕ). backward n s) (add-one i) in
+    let here : (31 - i) % 16 ≡ 15 - i = omega arith in
+    let ahead : (30 - i) % 16 ≡ (31 - (i + 1)) % 16 = ap (λ (n : ℕ). n % 16) (omega arith) in
+    let reached : q ≡ stepBack (15 - i) (backward i s .register) = e .0 ∙ ap (λ (n : ℕ). stepBack n (backward i s .register)) here in (
+      p ∙ ap₂ (λ (b x : List ℕ). rotl (16 - b ! ((30 - i) % 16)) (xors 16 x D)) t (reached ∙ sym (ap (λ (u : State). u .register) more))
+          ∙ ap (λ (n : ℕ). stepBack n (backward (i + 1) s .register)) ahead,
+      under q h h₁ r ∙ ap₂ roundUnder reached (e .1) ∙ sym (ap (λ (u : State). u .halves) more),
+    )
 
 -- one step of the register, of the first sixteen
 pub turned-more : (rots : List ℕ) (i : ℕ) (key q q₁ : List ℕ) → rots ≡ a → i < 16 → q ≡ turned key i → q₁ ≡ next (rots ! i) q → q₁ ≡ turned key (i + 1)

@@ -9,6 +9,7 @@ use hurdle::D;
 use hurdle::Halves;
 use hurdle::S_TWICE;
 use hurdle::SPREAD;
+use hurdle::doubled;
 use hurdle::joined;
 use hurdle::round_under;
 use hurdle::split;
@@ -23,14 +24,15 @@ ghost use Rattle.standard.specs.Hurdle.{D as dOf, rotl, next, encryptCall, decr
 ghost use Rattle.standard.specs.Register.{turned as turnedOf, onward as onwardOf, backward as backwardOf, registerCall};
 ghost use Rattle.register.specs.RegisterStates.{stateOf, crypt as cryptOf, cryptCall};
 
-// Rotated left by n bytes.
+// Rotated left by n bytes: sixteen bytes of the register twice over, from byte n on.
 fn rotated(q: &[u8; 16], n: usize) -> [u8; 16]
     requires { ⌜ n ≤ 16 ⌝ }
     ensures { λ r. ⌜ r ≡ rotl n (now (q .entry)) ⌝ }
 {
+    let twice = doubled(*q);
     let mut out = [0u8; 16];
     for i in 0..16 {
-        out[i] = q[(i + n) % 16];
+        out[i] = twice[i + n];
     }
     out
 }
@@ -51,7 +53,8 @@ fn step_back(q: &[u8; 16], n: usize) -> [u8; 16]
     rotated(&xor16(*q, D), 16 - n)
 }
 
-// Sixteen rounds of encryption: each a round, and then the step.
+// Sixteen rounds of encryption: each a round, and then the step. The code makes the step before the round, so that it need not wait for the
+// end of the round's chain of lookups.
 fn onward(key: [u8; 16], block: Halves) -> Halves
     ensures { λ o. ⌜ halfBytes o ≡ onwardOf 16 (stateOf key block) .halves ⌝ }
 {
@@ -61,24 +64,26 @@ fn onward(key: [u8; 16], block: Halves) -> Halves
     let mut q = key;
     let mut h = block;
     for i in 0..16 {
+        let stepped = step(&q, a[i]);
         h = round_under(&s, &w, h, &q);
-        q = step(&q, a[i]);
+        q = stepped;
     }
     h
 }
 
-// Sixteen rounds of decryption: each the step back, and then a round.
+// Sixteen rounds of decryption: each the step back, and then a round. The code is a step ahead here too; the last one is for no round.
 fn backward(key: [u8; 16], block: Halves) -> Halves
     ensures { λ o. ⌜ halfBytes o ≡ backwardOf 16 (stateOf key block) .halves ⌝ }
 {
     let s = S_TWICE;
     let w = SPREAD;
     let a = A;
-    let mut q = key;
+    let mut q = step_back(&key, a[15]);
     let mut h = block;
     for i in 0..16 {
-        q = step_back(&q, a[15 - i]);
+        let stepped = step_back(&q, a[(30 - i) % 16]);
         h = round_under(&s, &w, h, &q);
+        q = stepped;
     }
     h
 }

@@ -19,18 +19,18 @@ loop-holds c = (zero-le, refl, refl)
 
 step-requires : tie.Need-step-requires Inv-loop μ-loop
 step-requires c κs =
-    let at = c .before .before .before .before .before .before .loop in
+    let at = c .before .before .loop in
     rotation-most _ (at .i) (at .inv .1) (omega arith)
 
 loop-again : tie.Need-loop-again Inv-loop μ-loop
 unfolding S twice spreads bit
 loop-again c =
-    let rounded = c .before .before in
-    let at = rounded .before .before .before .before .before .loop in (
+    let stepped = c .before .before .before .before in
+    let at = stepped .before .before .before .loop in (
       omega arith,
       at .inv .1,
-      onward-more _ (at .i) _ (at .q) (at .h) (c .step .result) (rounded .round-under .result) (at .inv .1) (at .inv .2)
-          (rounded .round-under .ensures) (c .step .ensures),
+      onward-more _ (at .i) _ (at .q) (at .h) (stepped .step .result) (c .round-under .result) (at .inv .1) (at .inv .2)
+          (c .round-under .ensures) (stepped .step .ensures),
     )
 
 returns : tie.Need-returns Inv-loop μ-loop
@@ -41,5 +41,5 @@ returns c =
 pub onward-spec : {M : Type 1} → Rattle.register.proofs.onward.Statement.statement M
 onward-spec =
     tie.close
-    (tie.spec Inv-loop μ-loop loop-holds (λ c κs. search needs) (λ c. omega arith) (λ c. omega arith) step-requires (λ c. omega arith)
+    (tie.spec Inv-loop μ-loop loop-holds (λ c. omega arith) (λ c. omega arith) step-requires (λ c κs. search needs) (λ c. omega arith)
     (λ c. omega arith) loop-again returns)
