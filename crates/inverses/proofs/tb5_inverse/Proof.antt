@@ -27,8 +27,8 @@ module _ (c : tie.After-same) where
 
   compared : c .same .result ≡ same (tb5 ck (field 0 14 (xors 8 ck y)) (field 14 12 (xors 8 ck y)) (field 26 6 (xors 8 ck y))) y
   compared =
-      rw (c .before .before .before .tb5 .ensures, read .cell-at .ensures, read .before .unmixed .ensures, tb5-again ck (xors 8 ck y) (and-split _ _ lengths .0))
-      at (c .same .ensures)
+      let again = tb5-again ck (xors 8 ck y) (and-split _ _ lengths .0) in
+      rw (c .before .before .before .tb5 .ensures, read .cell-at .ensures, read .before .unmixed .ensures, again) at (c .same .ensures)
 
 returns-2 : tie.Need-returns-2
 unfolding tb5⁻¹Call
@@ -43,5 +43,6 @@ returns-3 c =
 pub tb5-inverse-spec : {M : Type 1} → Rattle.inverses.proofs.tb5_inverse.Statement.statement M
 tb5-inverse-spec =
     tie.close
-    (tie.spec (λ c κs. search needs) (λ c κs. search needs) returns (λ c κs. search needs) (λ c κs. search needs) (λ c. search needs) (λ c. search needs) (λ c. search needs)
-    (λ c κs. search needs) (λ c. search needs) (λ c κs. search needs) (λ c κs. search needs) returns-2 returns-3)
+    (tie.spec (λ c κs. search needs) (λ c κs. search needs) returns (λ c κs. search needs) (λ c κs. search needs) (λ c. search needs)
+    (λ c. search needs) (λ c. search needs) (λ c κs. search needs) (λ c. search needs) (λ c κs. search needs) (λ c κs. search needs) returns-2
+    returns-3)

@@ -27,8 +27,8 @@ module _ (c : tie.After-same) where
 
   compared : c .same .result ≡ same (tb6 ck (field 0 12 (xors 8 ck y)) (field 12 24 (xors 8 ck y))) y
   compared =
-      rw (c .before .before .before .tb6 .ensures, read .carrier-identity-at .ensures, read .before .unmixed .ensures, tb6-again ck (xors 8 ck y) (and-split _ _ lengths .0))
-      at (c .same .ensures)
+      let again = tb6-again ck (xors 8 ck y) (and-split _ _ lengths .0) in
+      rw (c .before .before .before .tb6 .ensures, read .carrier-identity-at .ensures, read .before .unmixed .ensures, again) at (c .same .ensures)
 
 returns-2 : tie.Need-returns-2
 unfolding tb6⁻¹Call
@@ -43,5 +43,5 @@ returns-3 c =
 pub tb6-inverse-spec : {M : Type 1} → Rattle.inverses.proofs.tb6_inverse.Statement.statement M
 tb6-inverse-spec =
     tie.close
-    (tie.spec (λ c κs. search needs) (λ c κs. search needs) returns (λ c κs. search needs) (λ c κs. search needs) (λ c. search needs) (λ c. search needs)
-    (λ c κs. search needs) (λ c. search needs) (λ c κs. search needs) (λ c κs. search needs) returns-2 returns-3)
+    (tie.spec (λ c κs. search needs) (λ c κs. search needs) returns (λ c κs. search needs) (λ c κs. search needs) (λ c. search needs)
+    (λ c. search needs) (λ c κs. search needs) (λ c. search needs) (λ c κs. search needs) (λ c κs. search needs) returns-2 returns-3)

@@ -11,7 +11,8 @@ returns c =
     let first = kind .before in
     let x = first .before .before .args in (
       ap (λ (i : CoreInput). i .key) made
-          ∙ key-taken (now (x .rec)) (kind .kind-of .ensures) (first .byte-at .ensures) (now (x .ring)) (key .before .version-of .ensures) (key .core-key .ensures),
+          ∙ key-taken (now (x .rec)) (kind .kind-of .ensures) (first .byte-at .ensures) (now (x .ring)) (key .before .version-of .ensures)
+          (key .core-key .ensures),
       ap (λ (i : CoreInput). i .input) made ∙ rw (c .before .part15 .ensures),
     )
 
