@@ -6,7 +6,7 @@ use Rattle.standard.proofs.Prelude.{take, drop, length-append, length-take, len
 use mathlib.Core.List.{append-assoc}
 use Rattle.standard.proofs.AnswerLaws.{first-fault, first-one}
 use Rattle.standard.proofs.BookLaws.{joined-length, joined-at}
-use Rattle.standard.proofs.BytesLaws.{part-lent, part-left}
+use Rattle.standard.proofs.BytesLaws.{lent-part, part-left}
 use Rattle.standard.specs.Lists.{recordAt, joined}
 use Rattle.lists.specs.Walks.{Clean, Stopped, replaceAt, after, replaceX4}
 
@@ -23,7 +23,7 @@ first-fit w i n most h room = omega (arith, room, mul-le-mul-left w h)
 
 -- the part that a turn lends, from w * i to w * i + w, is record i
 pub lent : (w i : ℕ) (xs : List ℕ) → w * i + w ≤ length xs → take (w * i + w - w * i) (drop (w * i) xs) ≡ recordAt w xs i
-lent w i xs h = ap (λ (k : ℕ). take k (drop (w * i) xs)) (add-sub-cancel-left (w * i) w) ∙ part-lent (w * i) w xs h
+lent w i xs h = lent-part (w * i) w xs h
 
 -- and has w bytes
 lent-length : (w i : ℕ) (xs : List ℕ) → w * i + w ≤ length xs → length (take (w * i + w - w * i) (drop (w * i) xs)) ≡ w
