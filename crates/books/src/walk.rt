@@ -24,7 +24,7 @@ pub struct Stop {
     pub runs: usize,
 }
 
-// A look at a record: its refusal, or 0, and the block cipher runs that the look took.
+// The inspection of a record: its refusal, or 0, and the block cipher runs that it took.
 fn inspect(direction: Direction, ring: &RingBytes, rec: &[u8]) -> Inspection
     ensures { λ l. ⌜ (l .refusal ≡ faultOf (now (ring .entry)) direction (now (rec .entry))) × (l .runs ≡ inspectionOf direction (now (rec .entry))) ⌝ }
 {

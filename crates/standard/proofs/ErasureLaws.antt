@@ -1,4 +1,4 @@
--- What a group with gaps can have been, for groups of any length whose ⊕ is 0; and tests that decide whether exactly one string has a
+-- What a group with erasures can have been, for groups of any length whose ⊕ is 0; and tests that decide whether exactly one string has a
 -- property.
 -- Assumes nothing.
 use Rattle.standard.proofs.Prelude.{_≡_, refl, sym, ap, ap₂, _∙_, subst, Bool, true, false, not, _&&_, _⊎_, inl, inr, List, [], _∷_, _++_, ℕ}
@@ -66,73 +66,73 @@ rest-byte end s h = h
 rest-byte (place true x b g) s h = rest-byte g (s ⊕ 0) (xor-byte s 0 h (omega arith))
 rest-byte (place false x b g) s h = rest-byte g (s ⊕ x) (xor-byte s x h b)
 
--- the ⊕ of the readable bytes, put into a gap, makes the ⊕ 0
+-- the ⊕ of the readable bytes, put in an erased place, makes the ⊕ 0
 rest-closes : (g : Group) (s : ℕ) → rest (s ⊕ rest s g) g ≡ 0
 rest-closes g s = rest-add g s (rest s g) ∙ xor-self (rest s g)
 
-zero-gap : (g : Group) (s : ℕ) → rest (s ⊕ 0) g ≡ rest s g
-zero-gap g s = ap (λ (n : ℕ). rest n g) (xor-zero-r s)
+rest-zero : (g : Group) (s : ℕ) → rest (s ⊕ 0) g ≡ rest s g
+rest-zero g s = ap (λ (n : ℕ). rest n g) (xor-zero-r s)
 
--- zeros in the gaps
+-- zeros in the erased places
 zeros-fit : (g : Group) (s : ℕ) → rest s g ≡ 0 → Fits g s (filled 0 g)
 zeros-fit end s e = e
 zeros-fit (place true x b g) s e = record { bound = omega arith; read = refl; more = zeros-fit g (s ⊕ 0) e }
 zeros-fit (place false x b g) s e = record { bound = b; read = refl; more = zeros-fit g (s ⊕ x) e }
 
--- no gap: the readable bytes alone, if their ⊕ is right
-no-gap : (g : Group) (v w : ℕ) → count g ≡ 0 → filled v g ≡ filled w g
-no-gap end v w e = refl
-no-gap (place true x b g) v w e = absurd (suc-ne-zero (count g) e)
-no-gap (place false x b g) v w e = ap (_∷_ x) (no-gap g v w e)
+-- no erasure: the readable bytes alone, if their ⊕ is right
+no-erasure : (g : Group) (v w : ℕ) → count g ≡ 0 → filled v g ≡ filled w g
+no-erasure end v w e = refl
+no-erasure (place true x b g) v w e = absurd (suc-ne-zero (count g) e)
+no-erasure (place false x b g) v w e = ap (_∷_ x) (no-erasure g v w e)
 
-no-gap-only : (g : Group) (s : ℕ) (ys : List ℕ) → count g ≡ 0 → Fits g s ys → (ys ≡ filled 0 g) × (rest s g ≡ 0)
-no-gap-only end s [] e f = (refl, f)
-no-gap-only end s (y ∷ ys) e f = absurd f
-no-gap-only (place u x b g) s [] e f = absurd f
-no-gap-only (place true x b g) s (y ∷ ys) e f = absurd (suc-ne-zero (count g) e)
-no-gap-only (place false x b g) s (y ∷ ys) e f =
-    let i = no-gap-only g (s ⊕ y) ys e (f .more) in
+no-erasure-only : (g : Group) (s : ℕ) (ys : List ℕ) → count g ≡ 0 → Fits g s ys → (ys ≡ filled 0 g) × (rest s g ≡ 0)
+no-erasure-only end s [] e f = (refl, f)
+no-erasure-only end s (y ∷ ys) e f = absurd f
+no-erasure-only (place u x b g) s [] e f = absurd f
+no-erasure-only (place true x b g) s (y ∷ ys) e f = absurd (suc-ne-zero (count g) e)
+no-erasure-only (place false x b g) s (y ∷ ys) e f =
+    let i = no-erasure-only g (s ⊕ y) ys e (f .more) in
     (ap₂ _∷_ (f .read) (i .0), ap (λ (n : ℕ). rest (s ⊕ n) g) (sym (f .read)) ∙ i .1)
 
--- one gap: the ⊕ of the readable bytes, and nothing else
-one-gap : (g : Group) (s : ℕ) → count g ≡ 1 → s < 256 → Fits g s (filled (rest s g) g)
-one-gap end s e h = absurd (suc-ne-zero 0 (sym e))
-one-gap (place true x b g) s e h =
+-- one erasure: the ⊕ of the readable bytes, and nothing else
+one-erasure : (g : Group) (s : ℕ) → count g ≡ 1 → s < 256 → Fits g s (filled (rest s g) g)
+one-erasure end s e h = absurd (suc-ne-zero 0 (sym e))
+one-erasure (place true x b g) s e h =
     let v : ℕ = rest (s ⊕ 0) g in
-    let z : rest (s ⊕ v) g ≡ 0 = ap (λ (n : ℕ). rest (s ⊕ n) g) (zero-gap g s) ∙ rest-closes g s in
+    let z : rest (s ⊕ v) g ≡ 0 = ap (λ (n : ℕ). rest (s ⊕ n) g) (rest-zero g s) ∙ rest-closes g s in
     record {
       bound = rest-byte g (s ⊕ 0) (xor-byte s 0 h (omega arith));
       read = refl;
-      more = subst (Fits g (s ⊕ v)) (no-gap g 0 v (suc-inj e)) (zeros-fit g (s ⊕ v) z);
+      more = subst (Fits g (s ⊕ v)) (no-erasure g 0 v (suc-inj e)) (zeros-fit g (s ⊕ v) z);
     }
-one-gap (place false x b g) s e h = record { bound = b; read = refl; more = one-gap g (s ⊕ x) e (xor-byte s x h b) }
+one-erasure (place false x b g) s e h = record { bound = b; read = refl; more = one-erasure g (s ⊕ x) e (xor-byte s x h b) }
 
-one-gap-only : (g : Group) (s : ℕ) (ys : List ℕ) → count g ≡ 1 → Fits g s ys → ys ≡ filled (rest s g) g
-one-gap-only end s ys e f = absurd (suc-ne-zero 0 (sym e))
-one-gap-only (place u x b g) s [] e f = absurd f
-one-gap-only (place true x b g) s (y ∷ ys) e f =
-    let i = no-gap-only g (s ⊕ y) ys (suc-inj e) (f .more) in
+one-erasure-only : (g : Group) (s : ℕ) (ys : List ℕ) → count g ≡ 1 → Fits g s ys → ys ≡ filled (rest s g) g
+one-erasure-only end s ys e f = absurd (suc-ne-zero 0 (sym e))
+one-erasure-only (place u x b g) s [] e f = absurd f
+one-erasure-only (place true x b g) s (y ∷ ys) e f =
+    let i = no-erasure-only g (s ⊕ y) ys (suc-inj e) (f .more) in
     let z : rest s g ⊕ y ≡ 0 = sym (rest-add g s y) ∙ i .1 in
     let q : rest s g ≡ y = sym (xor-cancel-r (rest s g) y) ∙ ap (λ (n : ℕ). n ⊕ y) z in
-    ap₂ _∷_ (sym q ∙ sym (zero-gap g s)) (i .0 ∙ no-gap g 0 (rest (s ⊕ 0) g) (suc-inj e))
-one-gap-only (place false x b g) s (y ∷ ys) e f =
-    ap₂ _∷_ (f .read) (one-gap-only g (s ⊕ y) ys e (f .more) ∙ ap (λ (n : ℕ). filled (rest (s ⊕ n) g) g) (f .read))
+    ap₂ _∷_ (sym q ∙ sym (rest-zero g s)) (i .0 ∙ no-erasure g 0 (rest (s ⊕ 0) g) (suc-inj e))
+one-erasure-only (place false x b g) s (y ∷ ys) e f =
+    ap₂ _∷_ (f .read) (one-erasure-only g (s ⊕ y) ys e (f .more) ∙ ap (λ (n : ℕ). filled (rest (s ⊕ n) g) g) (f .read))
 
--- a gap or more: something fits
-some-gap : (g : Group) (s : ℕ) → 0 < count g → s < 256 → (ys : List ℕ) × Fits g s ys
-some-gap end s k h = absurd (omega arith)
-some-gap (place true x b g) s k h =
+-- an erasure or more: something fits
+some-erasure : (g : Group) (s : ℕ) → 0 < count g → s < 256 → (ys : List ℕ) × Fits g s ys
+some-erasure end s k h = absurd (omega arith)
+some-erasure (place true x b g) s k h =
     (rest s g ∷ filled 0 g, record { bound = rest-byte g s h; read = refl; more = zeros-fit g (s ⊕ rest s g) (rest-closes g s) })
-some-gap (place false x b g) s k h =
-    let i = some-gap g (s ⊕ x) k (xor-byte s x h b) in
+some-erasure (place false x b g) s k h =
+    let i = some-erasure g (s ⊕ x) k (xor-byte s x h b) in
     (x ∷ i .0, record { bound = b; read = refl; more = i .1 })
 
--- two gaps or more: the first of them may be 0 or 1
+-- two erasures or more: the first of them may be 0 or 1
 two-erasures : (g : Group) (s : ℕ) → 1 < count g → s < 256 → Several (Fits g s)
 two-erasures end s k h = absurd (omega arith)
 two-erasures (place true x b g) s k h =
-    let i = some-gap g (s ⊕ 0) (omega arith) (xor-byte s 0 h (omega arith)) in
-    let j = some-gap g (s ⊕ 1) (omega arith) (xor-byte s 1 h (omega arith)) in
+    let i = some-erasure g (s ⊕ 0) (omega arith) (xor-byte s 0 h (omega arith)) in
+    let j = some-erasure g (s ⊕ 1) (omega arith) (xor-byte s 1 h (omega arith)) in
     record {
       one = 0 ∷ i .0;
       other = 1 ∷ j .0;
@@ -169,21 +169,21 @@ group-decided g = go (leb (count g) 1) refl (eqb (count g) 0) refl (eqb (rest 0 
     go true ea true eb true ec =
         let none : count g ≡ 0 = eqb-true _ 0 eb in
         record {
-          has = subst (Fits g 0) (no-gap g 0 (rest 0 g) none) (zeros-fit g 0 (eqb-true _ 0 ec));
-          only = λ z f. no-gap-only g 0 z none f .0 ∙ no-gap g 0 (rest 0 g) none;
+          has = subst (Fits g 0) (no-erasure g 0 (rest 0 g) none) (zeros-fit g 0 (eqb-true _ 0 ec));
+          only = λ z f. no-erasure-only g 0 z none f .0 ∙ no-erasure g 0 (rest 0 g) none;
         }
-    go true ea true eb false ec = inl (λ z f. eqb-false _ 0 ec (no-gap-only g 0 z (eqb-true _ 0 eb) f .1))
+    go true ea true eb false ec = inl (λ z f. eqb-false _ 0 ec (no-erasure-only g 0 z (eqb-true _ 0 eb) f .1))
     go true ea false eb c ec =
         let one : count g ≡ 1 = one-of (count g) (leb-true _ 1 ea) (eqb-false _ 0 eb) in
-        record { has = one-gap g 0 one (omega arith); only = λ z f. one-gap-only g 0 z one f }
+        record { has = one-erasure g 0 one (omega arith); only = λ z f. one-erasure-only g 0 z one f }
     go false ea b eb c ec = inr (two-erasures g 0 (leb-false _ 1 ea) (omega arith))
 
--- where something fits a group without gaps, the ⊕ is right
+-- where something fits a group without erasures, the ⊕ is right
 pub fits-right : (g : Group) (ys : List ℕ) → Fits g 0 ys → not (eqb (count g) 0) || eqb (rest 0 g) 0 ≡ true
 fits-right g ys f = go (eqb (count g) 0) refl
   where
     go : (b : Bool) → eqb (count g) 0 ≡ b → not b || eqb (rest 0 g) 0 ≡ true
-    go true e = eq-eqb (rest 0 g) 0 (no-gap-only g 0 ys (eqb-true (count g) 0 e) f .1)
+    go true e = eq-eqb (rest 0 g) 0 (no-erasure-only g 0 ys (eqb-true (count g) 0 e) f .1)
     go false e = refl
 
 -- the strings in two parts

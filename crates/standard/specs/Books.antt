@@ -111,12 +111,13 @@ counted a runs = (record { refusal = a .0 .refusal; index = a .0 .index; written
 
 -- the lengths in the order 11, 1, 2, 12, and then the records; every record is converted
 unfoldable pub bookCall : Conversion → List ℕ → List ℕ → List ℕ → CountedAnswer × List ℕ
-bookCall C r xs out =
-    let n = length xs / C .size in
-    let head = first ((hasLength ringSize r, wrongLength) ∷ listTests (C .size) (C .outputSize) (length xs) (length out)) in
-    let fault : ℕ → ℕ = λ i. C .fault (recordAt (C .size) xs i) in
-    let inspection : ℕ → ℕ = λ i. C .inspection (recordAt (C .size) xs i) in
-    counted (written (answer head n fault (C .outputSize * n)) (each n (C .size) (C .convert) xs) out) (callRuns head n fault inspection)
+bookCall conversion r xs out =
+    let n = length xs / conversion .size in
+    let head = first ((hasLength ringSize r, wrongLength) ∷ listTests (conversion .size) (conversion .outputSize) (length xs) (length out)) in
+    let fault : ℕ → ℕ = λ i. conversion .fault (recordAt (conversion .size) xs i) in
+    let inspection : ℕ → ℕ = λ i. conversion .inspection (recordAt (conversion .size) xs i) in
+    counted (written (answer head n fault (conversion .outputSize * n)) (each n (conversion .size) (conversion .convert) xs) out)
+    (callRuns head n fault inspection)
 
 -- ---- the calls
 

@@ -36,7 +36,7 @@ keyLength p = choose (eqb (operation p) 0) (p ! 5) (derivedLength (operation p))
 
 -- ---- the refusal of a record
 
--- a given key: both parents zero, a length of 10 or 16, and zero bytes after it
+-- a given key: both parents zero, a length of 10 or 16, and zero bytes after the key
 abbrev pub givenFilled : List ℕ → Bool
 givenFilled p = same (part 1 4 p) (zeros 4) && (eqb (p ! 5) 16 || (eqb (p ! 5) 10 && same (part 16 6 p) (zeros 6)))
 

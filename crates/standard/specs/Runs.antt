@@ -13,7 +13,8 @@ textRuns = 2
 abbrev pub identityRuns : ℕ
 identityRuns = 1
 
--- The first pass, which looks for a fault: record n is looked at if none of those before it has one. An inspection of record i takes `inspection i`.
+-- The first pass, which inspects the records up to the first fault: record n is inspected if none of those before it has one, and that
+-- takes `inspection n`.
 abbrev pub firstPass : ℕ → (fault inspection : ℕ → ℕ) → ℕ
 firstPass zero fault inspection = 0
 firstPass (suc n) fault inspection = firstPass n fault inspection + choose (eqb (firstFault n fault) n) (inspection n) 0
