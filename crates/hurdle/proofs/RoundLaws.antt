@@ -1,14 +1,14 @@
 -- The steps of the code add up to f, to the rounds and to the block.
 -- Assumes nothing.
 use Rattle.standard.proofs.Prelude.{_≡_, refl, sym, ap, ap₂, _∙_, Bool, List, [], _∷_, _++_, ℕ, zero, suc, _+_, _*_, _/_, _%_, _^_, _<_, mod-eq-of-lt}
-use Rattle.standard.proofs.Prelude.{subst, add-one, arith, eqb, eqb-true, xor-zero-r}
+use Rattle.standard.proofs.Prelude.{subst, add-one, div-one, arith, eqb, eqb-true, xor-zero-r}
 use Rattle.standard.proofs.BytesLaws.{every-at}
 use Rattle.standard.proofs.HurdleLaws.{permuted}
 use mathlib.Core.List.{map}
 use lib.Bits.{bitXor, xor-shr, xor-mod}
 use lib.ListN.{getD}
 use Rattle.hurdle.specs.declared.round.Halves.{Halves as Words}
-use Rattle.standard.specs.Bytes.{_!_, byte, bit, _⊕_, _⊞_, table, xors}
+use Rattle.standard.specs.Bytes.{_!_, byte, bit, _⊕_, _⊞_, table, xors, bytesOf}
 use Rattle.standard.specs.Hurdle.{S, E, T, ofBits, Y, f, Halves, round, rounds, crypt, roundKey}
 use Rattle.hurdle.specs.RoundSteps.{bytes4, halfBytes, linked, linksOver, lastOver, nibblesOver, fOver, spreadOf, spreads, twice}
 use Rattle.hurdle.specs.RoundSteps.{exchangedBy, roundOver, roundsOver, HalvesOf, place}
@@ -37,8 +37,12 @@ bits-lt : (t : ℕ → ℕ) (n : ℕ) → bits t n < 256
 bits-lt t n =
     omega (arith, bit-lt n (t 0), bit-lt n (t 1), bit-lt n (t 2), bit-lt n (t 3), bit-lt n (t 4), bit-lt n (t 5), bit-lt n (t 6), bit-lt n (t 7))
 
+-- the bytes of a word
+pub word-bytes : (w : ℕ) → bytesOf 4 w ≡ bytes4 w
+word-bytes w = rw (div-one w)
+
 -- four bytes in a word, and out again
-pub bytes4-of : (a b c d : ℕ) → a < 256 → b < 256 → c < 256 → d < 256 → bytes4 (a + 256 * b + 65536 * c + 16777216 * d) ≡ d ∷ c ∷ b ∷ a ∷ []
+bytes4-of : (a b c d : ℕ) → a < 256 → b < 256 → c < 256 → d < 256 → bytes4 (a + 256 * b + 65536 * c + 16777216 * d) ≡ d ∷ c ∷ b ∷ a ∷ []
 bytes4-of a b c d ha hb hc hd =
     let w = a + 256 * b + 65536 * c + 16777216 * d in
     let e3 : w / 2 ^ 24 % 256 ≡ d = omega arith in

@@ -3,7 +3,8 @@ use crate::tables::S_TWICE;
 use crate::tables::SPREAD;
 use crate::tables::chained;
 use crate::tables::spread;
-ghost use mathlib.Core.List.{[], _∷_, _++_};
+use arrays::word;
+ghost use mathlib.Core.List.{_++_};
 ghost use mathlib.Core.Path.{_≡_};
 ghost use Prim.Native.Nat.{_+_, _<_, _≤_};
 ghost use lib.ListN.{length};
@@ -137,13 +138,6 @@ pub(crate) fn place(back: bool, i: usize) -> usize
     ensures { λ r. ⌜ (r ≡ placeOf back i) × (r < 16) ⌝ }
 {
     if back { 15 - i } else { i }
-}
-
-// The word of four bytes, the leftmost first.
-fn word(a: u8, b: u8, c: u8, d: u8) -> u32
-    ensures { λ r. ⌜ bytes4 r ≡ a ∷ b ∷ c ∷ d ∷ [] ⌝ }
-{
-    a as u32 * 16777216 + b as u32 * 65536 + c as u32 * 256 + d as u32
 }
 
 pub fn split(block: [u8; 8]) -> Halves
