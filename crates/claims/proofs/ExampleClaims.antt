@@ -2,21 +2,29 @@
 -- Assumes nothing.
 use Rattle.standard.proofs.Prelude.{_≡_, refl, ap, _∙_, List, [], _∷_, _++_, ℕ, length, eq-eqb}
 use Rattle.standard.specs.Bytes.{bit, part}
-use Rattle.standard.specs.Cores.{bl2}
 use Rattle.standard.specs.Expansions.{grouped, x16Groups}
-use Rattle.standard.specs.Hurdle.{S, T, f, round, rounds, crypt, D, a, Q, laid, decrypt}
-use Rattle.standard.specs.Seals.{form81, failed, number2, key16, opened, unseal, fails, ta82Call}
+use Rattle.standard.specs.Hurdle.{S, D, a, Q, laid, schedule}
+use Rattle.standard.specs.Seals.{form81, failed, number2, key16, with8, opened, unseal, fails, ta82Call}
 use Rattle.standard.specs.declared.Version.{Version}
 use Rattle.claims.specs.Entries.{upward, version7}
 use Rattle.claims.specs.FalseClaims.{version5075, text, otherO, text′, ofSecond, TwoRings, TwoVersions, OneBit}
+use Rattle.claims.proofs.ComputedCipher.{bl2Chained, bl2-chained, roundsChained, chain}
 use Rattle.claims.proofs.TermLaws.{pair}
 
+-- what BL2 takes a text to
+abbrev openedText : List ℕ → List ℕ → List ℕ
+openedText k t = bl2Chained (schedule k) (with8 t)
+
+opened-text : (k t : List ℕ) → opened k t ≡ openedText k t
+unfolding opened
+opened-text k t = bl2-chained k (with8 t)
+
 -- what TA82 answers to a text that BL2 takes to u
-answered : (t s : List ℕ) (v : Version) (u : List ℕ) → length t ≡ 15 → length s ≡ 16 → opened (key16 s (pair v)) t ≡ u
+answered : (t s : List ℕ) (v : Version) (u : List ℕ) → length t ≡ 15 → length s ≡ 16 → openedText (key16 s (pair v)) t ≡ u
     → ta82Call t s v
     ≡ record { refusal = 0; key = part 0 10 (form81 .shrink u); number = number2 (form81 .shrink u); «failed_checks» = failed form81 u }
 unfolding ta82Call unseal fails
-answered t s v u ht hs e = rw (eq-eqb _ _ ht, eq-eqb _ _ hs, e)
+answered t s v u ht hs e = rw (eq-eqb _ _ ht, eq-eqb _ _ hs, opened-text (key16 s (pair v)) t, e)
 
 -- the expansion of twelve bytes
 abbrev spread : List ℕ → List ℕ
@@ -41,15 +49,15 @@ abbrev body₆ : List ℕ
 body₆ = 0x00 ∷ 0x00 ∷ 0x11 ∷ 0xe2 ∷ 0x05 ∷ 0x06 ∷ 0x07 ∷ 0x08 ∷ 0x09 ∷ 0x0a ∷ 0x12 ∷ 0x34 ∷ []
 
 record Computed : Type 0 where
-  ring₁ : opened (key16 (upward 0 16) (pair version7)) text ≡ spread body₁
-  ring₂ : opened (key16 otherO (pair version7)) text ≡ spread body₂
-  version₁ : opened (key16 (upward 0 16) (pair version7)) text′ ≡ spread body₃
-  version₂ : opened (key16 (upward 0 16) (pair version5075)) text′ ≡ spread body₄
-  bit₁ : opened (key16 (upward 0 16) (pair version7)) (ofSecond 0b10) ≡ spread body₅
-  bit₂ : opened (key16 (upward 0 16) (pair version7)) (ofSecond 0b00) ≡ spread body₆
+  ring₁ : openedText (key16 (upward 0 16) (pair version7)) text ≡ spread body₁
+  ring₂ : openedText (key16 otherO (pair version7)) text ≡ spread body₂
+  version₁ : openedText (key16 (upward 0 16) (pair version7)) text′ ≡ spread body₃
+  version₂ : openedText (key16 (upward 0 16) (pair version5075)) text′ ≡ spread body₄
+  bit₁ : openedText (key16 (upward 0 16) (pair version7)) (ofSecond 0b10) ≡ spread body₅
+  bit₂ : openedText (key16 (upward 0 16) (pair version7)) (ofSecond 0b00) ≡ spread body₆
 
 computed : Computed
-unfolding opened key16 bl2 decrypt crypt rounds round f T S bit laid Q D a
+unfolding key16 bl2Chained roundsChained chain S bit laid Q D a
 computed = record { ring₁ = refl; ring₂ = refl; version₁ = refl; version₂ = refl; bit₁ = refl; bit₂ = refl }
 
 pub two-rings : TwoRings

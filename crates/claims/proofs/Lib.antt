@@ -13,6 +13,8 @@ pub mod KindClaims
 pub mod KeyClaims
 pub mod RingClaims
 pub mod IdentityClaims
+pub mod ComputedCipher
 pub mod ExampleClaims
+pub mod RingExample
 pub mod RecipeLaws
 pub mod VariantClaims

@@ -3,10 +3,10 @@
 use Rattle.standard.proofs.Prelude.{_≡_, refl, sym, ap, _∙_, List, [], _∷_, _++_, ℕ, suc, _<_, arith, length, eq-eqb}
 use lib.Count.{ones, onesIn}
 use Rattle.standard.specs.Bytes.{_!_, bit, zeros, Bytes}
-use Rattle.standard.specs.Cores.{bl1, bl1With, bl2}
+use Rattle.standard.specs.Cores.{bl1}
 use Rattle.standard.specs.Derivation.{core, chosen, split, ring, ta12Call, ta41Call}
 use Rattle.standard.specs.Expansions.{xorOf, exp1Groups, exp2}
-use Rattle.standard.specs.Hurdle.{S, T, f, round, rounds, crypt, D, a, Q, laid, encrypt, decrypt}
+use Rattle.standard.specs.Hurdle.{S, D, a, Q, laid, schedule}
 use Rattle.standard.specs.Seals.{key16, ta82Call}
 use Rattle.standard.specs.declared.Bytes15.{Bytes15}
 use Rattle.standard.specs.declared.Bytes16.{Bytes16}
@@ -18,9 +18,10 @@ use Rattle.standard.proofs.ExpansionLaws.{bytes-grouped}
 use Rattle.standard.proofs.XorLaws.{xor-byte}
 use Rattle.claims.specs.Entries.{upward, version7}
 use Rattle.claims.specs.FalseClaims.{text}
-use Rattle.claims.specs.Variants.{openedAtEnd, ta82AtEnd, sealedText, reversed, exp2ByXor, ta41ByXor, ringWith}
+use Rattle.claims.specs.Variants.{withZeroAtEnd, openedAtEnd, ta82AtEnd, sealedText, reversed, exp2ByXor, ta41ByXor, ringWith}
 use Rattle.claims.specs.Variants.{ZeroAtEnd, ChallengeReversed, LastByteXored, StillHolds}
 use Rattle.claims.proofs.BlockLaws.{bl1-back, bl1-inverse}
+use Rattle.claims.proofs.ComputedCipher.{bl1Chained, bl1-chained, bl2Chained, bl2-chained, roundsChained, chain}
 use Rattle.claims.proofs.ExampleClaims.{two-rings}
 use Rattle.claims.proofs.RecipeLaws.{reversed-bytes, ring-bytes}
 use Rattle.claims.proofs.TermLaws.{literal-bytes, pair}
@@ -35,10 +36,16 @@ sealed-text =
     let s = ta82-seals (upward 0 16) version7 refl text (literal-bytes text refl) (ap (λ (x : UnsealedNumbered). x .«failed_checks») o) in
     ap (λ (x : Bytes15). x .bytes) (rw o at s)
 
-opened-at-end : openedAtEnd (key16 (upward 0 16) (pair version7)) text
-    ≡ 0x78 ∷ 0x78 ∷ 0xe6 ∷ 0x31 ∷ 0xcf ∷ 0x1b ∷ 0x44 ∷ 0x5f ∷ 0x7c ∷ 0x28 ∷ 0x5a ∷ 0xad ∷ 0xd7 ∷ 0xab ∷ 0x72 ∷ []
-unfolding openedAtEnd key16 bl2 decrypt crypt rounds round f T S bit laid Q D a
-opened-at-end = refl
+abbrev wrongOutput : List ℕ
+wrongOutput = 0x78 ∷ 0x78 ∷ 0xe6 ∷ 0x31 ∷ 0xcf ∷ 0x1b ∷ 0x44 ∷ 0x5f ∷ 0x7c ∷ 0x28 ∷ 0x5a ∷ 0xad ∷ 0xd7 ∷ 0xab ∷ 0x72 ∷ []
+
+opened-wrongly : bl2Chained (schedule (key16 (upward 0 16) (pair version7))) (withZeroAtEnd text) ≡ wrongOutput
+unfolding key16 bl2Chained roundsChained chain S bit laid Q D a
+opened-wrongly = refl
+
+opened-at-end : openedAtEnd (key16 (upward 0 16) (pair version7)) text ≡ wrongOutput
+unfolding openedAtEnd
+opened-at-end = bl2-chained (key16 (upward 0 16) (pair version7)) (withZeroAtEnd text) ∙ opened-wrongly
 
 pub zero-at-end : ZeroAtEnd
 unfolding ta82AtEnd
@@ -55,8 +62,11 @@ output = 0x5e ∷ 0x4c ∷ 0x3e ∷ 0x42 ∷ 0x46 ∷ 0xfc ∷ 0x16 ∷ 0xfd ∷
 abbrev outputReversed : List ℕ
 outputReversed = 0xe6 ∷ 0xf4 ∷ 0x19 ∷ 0x5c ∷ 0x04 ∷ 0x27 ∷ 0x25 ∷ 0xfe ∷ 0xd7 ∷ 0x12 ∷ 0x60 ∷ 0x17 ∷ 0xf6 ∷ 0xc8 ∷ 0xb0 ∷ 0x0e ∷ []
 
-outputs : (core (upward 0 16) (upward 1 10) ≡ output) × (core (upward 0 16) (reversed (upward 1 10)) ≡ outputReversed)
-unfolding exp2 bl1 bl1With encrypt crypt rounds round f T S bit laid Q D a
+abbrev coreChained : List ℕ → List ℕ
+coreChained c = bl1Chained (schedule (upward 0 16)) (exp2 c)
+
+outputs : (coreChained (upward 1 10) ≡ output) × (coreChained (reversed (upward 1 10)) ≡ outputReversed)
+unfolding exp2 bl1Chained roundsChained chain S bit laid Q D a
 outputs = (refl, refl)
 
 -- split by the masks 000f and 3ff0
@@ -67,8 +77,8 @@ split-alike c o h e = rw (eq-eqb _ _ h, e)
 pub challenge-reversed : ChallengeReversed
 unfolding chosen bit
 challenge-reversed = record {
-  right = split-alike (upward 1 10) output refl (outputs .0);
-  wrong = split-alike (reversed (upward 1 10)) outputReversed refl (outputs .1);
+  right = split-alike (upward 1 10) output refl (bl1-chained (upward 0 16) (exp2 (upward 1 10)) ∙ outputs .0);
+  wrong = split-alike (reversed (upward 1 10)) outputReversed refl (bl1-chained (upward 0 16) (exp2 (reversed (upward 1 10))) ∙ outputs .1);
 }
 
 -- ---- EXP2's last byte as a ⊕

@@ -22,7 +22,6 @@ pub mod AnswerLaws
 pub mod RunLaws
 pub mod Demand3Laws
 pub mod ShuffleLaws
-pub mod RingExample
 pub mod ListingLaws
 pub mod FactLaws
 pub mod LineageLaws
