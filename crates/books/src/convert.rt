@@ -118,7 +118,7 @@ pub(crate) fn convert_one(
 }
 
 // What the cores of records i to i + 3 take.
-fn core_inputs_at(direction: Direction, ring: &RingBytes, book: &[u8], i: usize) -> [CoreInput; 4]
+fn core_input_at_x4(direction: Direction, ring: &RingBytes, book: &[u8], i: usize) -> [CoreInput; 4]
     requires { ⌜ sizeOf direction * (i + 4) ≤ length (now book) ⌝ }
     ensures { λ c. ⌜ c ≡ lanes (λ j. inputAt (now (ring .entry)) direction (now (book .entry)) (after i j)) ⌝ }
 {
@@ -140,7 +140,7 @@ fn core_x4(direction: Direction, c: [CoreInput; 4]) -> [CoreOutput15; 4]
 }
 
 // The cipher runs of four cores.
-fn runs_of(o: [CoreOutput15; 4]) -> usize
+fn runs_x4(o: [CoreOutput15; 4]) -> usize
     requires { ⌜ eachLane (λ j. lane15 o j .runs ≤ textRuns) ⌝ }
     ensures { λ r. ⌜ r ≡ lane15 o 0 .runs + lane15 o 1 .runs + lane15 o 2 .runs + lane15 o 3 .runs ⌝ }
 {
@@ -181,7 +181,7 @@ pub(crate) fn convert_x4(
         (now (out .entry)))
         × (r ≡ 4 * textRuns) ⌝ }
 {
-    let o = core_x4(direction, core_inputs_at(direction, ring, book, i));
+    let o = core_x4(direction, core_input_at_x4(direction, ring, book, i));
     write_at_x4(direction, identity_strings, book, i, o, out);
-    runs_of(o)
+    runs_x4(o)
 }

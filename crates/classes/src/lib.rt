@@ -68,7 +68,7 @@ fn write_one(
     write_at(o, response_mask, key_mask, i, out);
 }
 
-fn inputs_at(challenges: &[u8], i: usize) -> [[u8; 16]; 4]
+fn input_at_x4(challenges: &[u8], i: usize) -> [[u8; 16]; 4]
     requires { ⌜ challengeSize * (i + 4) ≤ length (now challenges) ⌝ }
     ensures { λ r. ⌜ r ≡ lanes (λ j. inputAt (now (challenges .entry)) (after i j)) ⌝ }
 {
@@ -105,7 +105,7 @@ fn write_x4(
         (λ j. recordWith (now (keys .entry)) «response_mask» «key_mask» (recordAt challengeSize (now (challenges .entry)) (after i j)))
         (now (out .entry)) ⌝ }
 {
-    let o = bl1_with_x4(keys, keys, keys, keys, inputs_at(challenges, i));
+    let o = bl1_with_x4(keys, keys, keys, keys, input_at_x4(challenges, i));
     write_at_x4(o, response_mask, key_mask, i, out);
 }
 

@@ -62,7 +62,7 @@ fn changed(a: [u8; 8], b: [u8; 8]) -> u32
 }
 
 // The flips of four bits, from bit i on.
-fn flips(block: [u8; 8], i: u32) -> [[u8; 8]; 4]
+fn flip_x4(block: [u8; 8], i: u32) -> [[u8; 8]; 4]
     requires { ⌜ i + 4 ≤ 64 ⌝ }
     ensures { λ x. ⌜ x ≡ lanes (λ j. flipped (after i j) block) ⌝ }
 {
@@ -75,7 +75,7 @@ fn flips(block: [u8; 8], i: u32) -> [[u8; 8]; 4]
 }
 
 // How many bits of each lane differ from those of the output.
-fn differences(output: [u8; 8], y: [[u8; 8]; 4]) -> [u32; 4]
+fn changed_x4(output: [u8; 8], y: [[u8; 8]; 4]) -> [u32; 4]
     ensures { λ r. ⌜ r ≡ lanes (λ j. bitsSet (xors 8 output (lane y j))) ⌝ }
     ensures { λ r. ⌜ eachLane (λ j. r ! j ≤ 64) ⌝ }
 {
@@ -88,15 +88,15 @@ fn differences(output: [u8; 8], y: [[u8; 8]; 4]) -> [u32; 4]
 }
 
 // The changes of four flips, from bit i on. `output` is the block's own.
-fn four_changes(keys: &[u8; 192], block: [u8; 8], output: [u8; 8], i: u32) -> [u32; 4]
+fn changes_x4(keys: &[u8; 192], block: [u8; 8], output: [u8; 8], i: u32) -> [u32; 4]
     requires { ⌜ output ≡ encryptWith (now keys) block ⌝ }
     requires { ⌜ i + 4 ≤ 64 ⌝ }
     ensures { λ r. ⌜ r ≡ lanes (λ j. changeWith (now (keys .entry)) block (after i j)) ⌝ }
     ensures { λ r. ⌜ eachLane (λ j. r ! j ≤ 64) ⌝ }
 {
-    differences(
+    changed_x4(
         output,
-        encrypt_with_x4(keys, keys, keys, keys, flips(block, i)),
+        encrypt_with_x4(keys, keys, keys, keys, flip_x4(block, i)),
     )
 }
 
@@ -152,7 +152,7 @@ fn count_flips(keys: &[u8; 192], block: [u8; 8], t: Figures) -> Figures
     let output = encrypt_with(keys, block);
     let mut figures = t;
     for q in 0..16 {
-        figures = counted_x4(figures, four_changes(keys, block, output, 4 * q));
+        figures = counted_x4(figures, changes_x4(keys, block, output, 4 * q));
     }
     figures
 }

@@ -20,7 +20,7 @@ ghost use Rattle.hurdle.specs.Lanes.{lanes, lane, byLane, eachLane};
 ghost use Rattle.hurdle.specs.RoundSteps.{bytes4, firstOver, secondOver, thirdOver, fOver, exchangedBy, roundsOver, place as placeOf, HalvesOf};
 ghost use Rattle.hurdle.specs.RoundSteps.{halvesAt, partAt};
 
-fn firsts(
+fn first_x4(
     s: &[u8; 512],
     h: [Halves; 4],
     ka: &[u8],
@@ -41,7 +41,7 @@ fn firsts(
     ]
 }
 
-fn seconds(
+fn second_x4(
     s: &[u8; 512],
     w: &[u32; 256],
     t: [u8; 4],
@@ -64,7 +64,7 @@ fn seconds(
     ]
 }
 
-fn thirds(
+fn third_x4(
     s: &[u8; 512],
     w: &[u32; 256],
     p: [Part; 4],
@@ -102,13 +102,13 @@ fn f_x4(
     ensures { λ r. ⌜ r ≡ lanes (λ j. fOver (now (s .entry)) (now (w .entry)) (bytes4 (halvesAt h j .r))
         (part at 12 (byLane (now (ka .entry)) (now (kb .entry)) (now (kc .entry)) (now (kd .entry)) j))) ⌝ }
 {
-    let t = firsts(s, h, ka, kb, kc, kd, at);
-    let p = seconds(s, w, t, h, ka, kb, kc, kd, at);
-    thirds(s, w, p, h, ka, kb, kc, kd, at)
+    let t = first_x4(s, h, ka, kb, kc, kd, at);
+    let p = second_x4(s, w, t, h, ka, kb, kc, kd, at);
+    third_x4(s, w, p, h, ka, kb, kc, kd, at)
 }
 
 // The end of a round in each lane, written out: calls would cost time here.
-fn exchanges(h: [Halves; 4], y: [u32; 4]) -> [Halves; 4]
+fn exchanged_x4(h: [Halves; 4], y: [u32; 4]) -> [Halves; 4]
     ensures { λ o. ⌜ o ≡ lanes (λ j. exchangedBy (halvesAt h j) (y ! j)) ⌝ }
 {
     [
@@ -132,7 +132,7 @@ fn exchanges(h: [Halves; 4], y: [u32; 4]) -> [Halves; 4]
 }
 
 // The sixteen rounds in each lane.
-fn rounds(
+fn rounds_x4(
     ka: &[u8; 192],
     kb: &[u8; 192],
     kc: &[u8; 192],
@@ -152,13 +152,13 @@ fn rounds(
     let mut state = h;
     for i in 0..16 {
         let y = f_x4(&s, &w, state, a, b, c, d, place(back, i) * 12);
-        let next = exchanges(state, y);
+        let next = exchanged_x4(state, y);
         state = next;
     }
     state
 }
 
-fn splits(x: [[u8; 8]; 4]) -> [Halves; 4]
+fn split_x4(x: [[u8; 8]; 4]) -> [Halves; 4]
     ensures { λ h. ⌜ eachLane (λ j. HalvesOf (lane x j) (halvesAt h j)) ⌝ }
 {
     let a = x[0];
@@ -168,7 +168,7 @@ fn splits(x: [[u8; 8]; 4]) -> [Halves; 4]
     [split(a), split(b), split(c), split(d)]
 }
 
-fn joins(h: [Halves; 4]) -> [[u8; 8]; 4]
+fn joined_x4(h: [Halves; 4]) -> [[u8; 8]; 4]
     ensures { λ x. ⌜ x ≡ lanes (λ j. bytes4 (halvesAt h j .r) ++ bytes4 (halvesAt h j .l)) ⌝ }
 {
     [joined(h[0]), joined(h[1]), joined(h[2]), joined(h[3])]
@@ -186,5 +186,5 @@ pub(crate) fn crypt_x4(
     ensures { λ y. ⌜ y ≡ lanes (λ j. cryptOf
         (λ i. roundKey (byLane (now (ka .entry)) (now (kb .entry)) (now (kc .entry)) (now (kd .entry)) j) (placeOf back i)) (lane x j)) ⌝ }
 {
-    joins(rounds(ka, kb, kc, kd, splits(x), back))
+    joined_x4(rounds_x4(ka, kb, kc, kd, split_x4(x), back))
 }

@@ -95,7 +95,7 @@ pub fn open_core(c: CoreInput) -> CoreOutput15
     bl2(key, input)
 }
 
-fn keys(c: [CoreInput; 4]) -> [[u8; 16]; 4]
+fn keys_x4(c: [CoreInput; 4]) -> [[u8; 16]; 4]
     ensures { λ k. ⌜ k ≡ lanes (λ j. inputLane c j .key) ⌝ }
 {
     let c0 = c[0];
@@ -109,7 +109,7 @@ fn keys(c: [CoreInput; 4]) -> [[u8; 16]; 4]
     [a, b, c, d]
 }
 
-fn inputs(c: [CoreInput; 4]) -> [[u8; 16]; 4]
+fn inputs_x4(c: [CoreInput; 4]) -> [[u8; 16]; 4]
     ensures { λ x. ⌜ x ≡ lanes (λ j. inputLane c j .input) ⌝ }
 {
     let c0 = c[0];
@@ -137,11 +137,11 @@ fn without8_x4(o: [CoreOutput16; 4]) -> [CoreOutput15; 4]
 pub fn seal_core_x4(c: [CoreInput; 4]) -> [CoreOutput15; 4]
     ensures { λ o. ⌜ o ≡ lanes (λ j. counted15 (sealCore (inputLane c j))) ⌝ }
 {
-    without8_x4(bl1_x4(keys(c), inputs(c)))
+    without8_x4(bl1_x4(keys_x4(c), inputs_x4(c)))
 }
 
 pub fn open_core_x4(c: [CoreInput; 4]) -> [CoreOutput15; 4]
     ensures { λ o. ⌜ o ≡ lanes (λ j. counted15 (openCore (inputLane c j))) ⌝ }
 {
-    bl2_x4(keys(c), inputs(c))
+    bl2_x4(keys_x4(c), inputs_x4(c))
 }

@@ -15,15 +15,15 @@ abbrev μ-loop : tie.MeasureT-loop
 loop-holds : tie.Need-loop-holds Inv-loop μ-loop
 loop-holds c = (zero-le, counted-none)
 
-four-changes-requires : tie.Need-four-changes-requires Inv-loop μ-loop
-four-changes-requires c κs = (c .before .before .encrypt-with .ensures, omega arith)
+changes-x4-requires : tie.Need-changes-x4-requires Inv-loop μ-loop
+changes-x4-requires c κs = (c .before .before .encrypt-with .ensures, omega arith)
 
 counted-x4-requires : tie.Need-counted-x4-requires Inv-loop μ-loop
 counted-x4-requires c κs =
     let head = c .before .before in
     let x = head .before .before .args in
     let at = head .loop in
-    (omega (arith, at .inv .1 .most, length-table (4 * at .q) (changeWith (now (x .keys)) (x .block))), c .four-changes .ensures .1)
+    (omega (arith, at .inv .1 .most, length-table (4 * at .q) (changeWith (now (x .keys)) (x .block))), c .changes-x4 .ensures .1)
 
 loop-again : tie.Need-loop-again Inv-loop μ-loop
 loop-again c =
@@ -31,7 +31,7 @@ loop-again c =
     let x = head .before .before .args in
     let at = head .loop in
     let f = changeWith (now (x .keys)) (x .block) in
-    (omega arith, counted-four f (at .q) (c .before .four-changes .ensures .0) (at .inv .1) (c .counted-x4 .ensures))
+    (omega arith, counted-four f (at .q) (c .before .changes-x4 .ensures .0) (at .inv .1) (c .counted-x4 .ensures))
 
 returns : tie.Need-returns Inv-loop μ-loop
 returns c =
@@ -41,5 +41,5 @@ returns c =
 pub count-flips-spec : {M : Type 1} → Rattle.diffusion.proofs.count_flips.Statement.statement M
 count-flips-spec =
     tie.close
-    (tie.spec Inv-loop μ-loop (λ c κs. tt) loop-holds (λ c. omega arith) four-changes-requires counted-x4-requires (λ c. omega arith) (λ c. omega arith)
+    (tie.spec Inv-loop μ-loop (λ c κs. tt) loop-holds (λ c. omega arith) changes-x4-requires counted-x4-requires (λ c. omega arith) (λ c. omega arith)
     loop-again returns)

@@ -12,8 +12,8 @@ returns c =
     let x = t .before .before .before .before .before .args in
     let K : ℕ → List ℕ = λ j. part (x .at) 12 (byLane (now (x .ka)) (now (x .kb)) (now (x .kc)) (now (x .kd)) j) in
     let X : ℕ → List ℕ = λ j. bytes4 (halvesAt (x .h) j .r) in
-    let f = f-lanes (now (x .s)) (now (x .w)) X K (t .firsts .result) (p .seconds .result) (c .thirds .result) in
-    f (t .firsts .ensures) (p .seconds .ensures) (c .thirds .ensures)
+    let f = f-lanes (now (x .s)) (now (x .w)) X K (t .first-x4 .result) (p .second-x4 .result) (c .third-x4 .result) in
+    f (t .first-x4 .ensures) (p .second-x4 .ensures) (c .third-x4 .ensures)
 
 pub f-x4-spec : {M : Type 1} → Rattle.hurdle.proofs.lanes.f_x4.Statement.statement M
 f-x4-spec =

@@ -2,7 +2,7 @@ use Rattle.standard.proofs.Prelude.{needs}
 use Rattle.texts.proofs.text_core.open_core_x4.Tie as tie
 
 returns : tie.Need-returns
-returns c = rw (c .bl2-x4 .ensures, c .before .inputs .ensures, c .before .before .keys .ensures)
+returns c = rw (c .bl2-x4 .ensures, c .before .inputs-x4 .ensures, c .before .before .keys-x4 .ensures)
 
 pub open-core-x4-spec : {M : Type 1} → Rattle.texts.proofs.text_core.open_core_x4.Statement.statement M
 open-core-x4-spec =

@@ -4,7 +4,7 @@ use Rattle.hurdle.specs.Lanes.{byLane}
 use Rattle.hurdle.specs.RoundSteps.{roundsOver, spreads, twice}
 use Rattle.standard.specs.Bytes.{bit}
 use Rattle.standard.specs.Hurdle.{S}
-use Rattle.hurdle.proofs.lanes.rounds.Tie as tie
+use Rattle.hurdle.proofs.lanes.rounds_x4.Tie as tie
 
 abbrev Inv-loop : tie.InvT-loop
 Inv-loop ka kb kc kd back s w a b c d state₀ i₀ state i = (i ≤ 16) × Turned back (byLane ka kb kc kd) state₀ i state
@@ -24,16 +24,16 @@ loop-again c =
     let head = placed .before .before .before .before in
     let x = head .before .before .before .before .before .args in
     let K = byLane (now (x .ka)) (now (x .kb)) (now (x .kc)) (now (x .kd)) in
-    let more = rounds-more-x4 (x .back) K (x .h) (head .loop .i) (placed .place .result) (head .loop .state) (c .exchanges .result) (made .f-x4 .result) in
-    (omega arith, more (placed .place .ensures .0) (head .loop .inv .1) (made .f-x4 .ensures) (c .exchanges .ensures))
+    let more = rounds-more-x4 (x .back) K (x .h) (head .loop .i) (placed .place .result) (head .loop .state) (c .exchanged-x4 .result) (made .f-x4 .result) in
+    (omega arith, more (placed .place .ensures .0) (head .loop .inv .1) (made .f-x4 .ensures) (c .exchanged-x4 .ensures))
 
 returns : tie.Need-returns Inv-loop μ-loop
 returns c =
     let e : c .before .loop .i ≡ 16 = omega arith in
     rw e at (c .before .loop .inv .1)
 
-pub rounds-spec : {M : Type 1} → Rattle.hurdle.proofs.lanes.rounds.Statement.statement M
-rounds-spec =
+pub rounds-x4-spec : {M : Type 1} → Rattle.hurdle.proofs.lanes.rounds_x4.Statement.statement M
+rounds-x4-spec =
     tie.close
     (tie.spec Inv-loop μ-loop loop-holds (λ c κs. omega arith) (λ c. omega arith) (λ c κs. omega arith) (λ c κs. tt) (λ c. omega arith)
     (λ c. omega arith) loop-again returns)

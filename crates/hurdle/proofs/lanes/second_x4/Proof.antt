@@ -1,14 +1,11 @@
 use Rattle.standard.proofs.Prelude.{needs}
-use Rattle.hurdle.proofs.lanes.thirds.Tie as tie
+use Rattle.hurdle.proofs.lanes.second_x4.Tie as tie
 
 returns : tie.Need-returns
-returns c =
-    let c3 = c .before .before in
-    let c2 = c3 .before .before in
-    rw (c .third4 .ensures, c3 .third3 .ensures, c2 .third2 .ensures, c2 .before .before .third .ensures)
+returns c = rw (c .second4 .ensures, c .before .second3 .ensures, c .before .before .second2 .ensures, c .before .before .before .second .ensures)
 
-pub thirds-spec : {M : Type 1} → Rattle.hurdle.proofs.lanes.thirds.Statement.statement M
-thirds-spec =
+pub second-x4-spec : {M : Type 1} → Rattle.hurdle.proofs.lanes.second_x4.Statement.statement M
+second-x4-spec =
     tie.close
     (tie.spec (λ c. search needs) (λ c. search needs) (λ c κs. search needs) (λ c. search needs) (λ c. search needs) (λ c κs. search needs)
     (λ c. search needs) (λ c. search needs) (λ c κs. search needs) (λ c. search needs) (λ c. search needs) (λ c κs. search needs) returns)

@@ -1,5 +1,5 @@
 use Rattle.standard.proofs.Prelude.{needs}
-use Rattle.diffusion.proofs.differences.Tie as tie
+use Rattle.diffusion.proofs.changed_x4.Tie as tie
 
 returns : tie.Need-returns
 returns c =
@@ -9,8 +9,8 @@ returns c =
     let first = c .before .before .before .before .before .before .changed .ensures in
     (rw (fourth .0, third .0, second .0, first .0), (first .1, second .1, third .1, fourth .1))
 
-pub differences-spec : {M : Type 1} → Rattle.diffusion.proofs.differences.Statement.statement M
-differences-spec =
+pub changed-x4-spec : {M : Type 1} → Rattle.diffusion.proofs.changed_x4.Statement.statement M
+changed-x4-spec =
     tie.close
     (tie.spec (λ c. search needs) (λ c κs. search needs) (λ c. search needs) (λ c κs. search needs) (λ c. search needs) (λ c κs. search needs)
     (λ c. search needs) (λ c κs. search needs) returns)
