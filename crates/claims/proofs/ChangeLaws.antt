@@ -41,11 +41,11 @@ xor-through d x from (suc n) xs =
     ap (λ (y : ℕ). xorOn y (suc from) n xs) e ∙ xor-through d (x ⊕ xs ! from) (suc from) n xs
 
 module _ (m i d : ℕ) (xs : List ℕ) where
-  xor-behind : (x from n : ℕ) → i < from → from + n ≤ m → xorOn x from n (changed m i d xs) ≡ xorOn x from n xs
-  xor-behind x from zero b h = refl
-  xor-behind x from (suc n) b h =
+  xor-after : (x from n : ℕ) → i < from → from + n ≤ m → xorOn x from n (changed m i d xs) ≡ xorOn x from n xs
+  xor-after x from zero b h = refl
+  xor-after x from (suc n) b h =
       ap (λ (y : ℕ). xorOn (x ⊕ y) (suc from) n (changed m i d xs)) (changed-elsewhere m i d xs from (omega arith) (λ e. omega (arith, e)))
-      ∙ xor-behind (x ⊕ xs ! from) (suc from) n (omega arith) (omega arith)
+      ∙ xor-after (x ⊕ xs ! from) (suc from) n (omega arith) (omega arith)
 
   xor-changed-on : (x from n : ℕ) → from ≤ i → i < from + n → from + n ≤ m → xorOn x from n (changed m i d xs) ≡ xorOn x from n xs ⊕ d
   xor-changed-on x from zero a b h = absurd (omega arith)
@@ -55,7 +55,7 @@ module _ (m i d : ℕ) (xs : List ℕ) where
           → xorOn (x ⊕ changed m i d xs ! from) (suc from) n (changed m i d xs) ≡ xorOn (x ⊕ xs ! from) (suc from) n xs ⊕ d
       go (inl e) ih =
           ap (λ (y : ℕ). xorOn (x ⊕ y) (suc from) n (changed m i d xs)) (changed-here m i d xs from (omega arith) e)
-          ∙ xor-behind (x ⊕ (xs ! from ⊕ d)) (suc from) n (omega arith) (omega arith)
+          ∙ xor-after (x ⊕ (xs ! from ⊕ d)) (suc from) n (omega arith) (omega arith)
           ∙ ap (λ (y : ℕ). xorOn y (suc from) n xs) (sym (xor-assoc x (xs ! from) d))
           ∙ xor-through d (x ⊕ xs ! from) (suc from) n xs
       go (inr l) ih =

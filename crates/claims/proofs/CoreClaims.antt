@@ -16,15 +16,15 @@ use Rattle.claims.proofs.OnlyLaws.{counted}
 ends-in-zero : (x : List ℕ) → Bytes 16 x → x ! 15 ≡ 0 → part 0 15 x ++ 0 ∷ [] ≡ x
 ends-in-zero x h z = cc (spell h, z)
 
-zero-behind : (u : List ℕ) → Bytes 15 u → part 0 15 u ++ 0 ∷ [] ≡ u ++ 0 ∷ []
-zero-behind u h = ap (λ (y : List ℕ). y ++ 0 ∷ []) (spell h)
+zero-after : (u : List ℕ) → Bytes 15 u → part 0 15 u ++ 0 ∷ [] ≡ u ++ 0 ∷ []
+zero-after u h = ap (λ (y : List ℕ). y ++ 0 ∷ []) (spell h)
 
 pub nothing-lost : NothingLost
 unfolding sealCore unsealCore opened
 nothing-lost k t h =
     let u = unsealCore k t in
     let ub = core k .from t h in
-    let z = zero-behind u ub in
+    let z = zero-after u ub in
     record {
       has = (bytes-append ub bytes-zero, ap (λ (y : List ℕ). y ! 15) (sym z), ap (λ (y : List ℕ). without8 (bl1 k y)) (sym z) ∙ core k .forth t h);
       only = λ x p.

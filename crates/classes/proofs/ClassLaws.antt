@@ -73,8 +73,8 @@ module _ (ks xs : List ℕ) (rm km : ℕ) (out : List ℕ) where
 
     module _ (z : refusal ≡ 0) where
       -- the masks go after the lengths
-      behind : first (lengthsTests ++ maskTests rm km) ≡ first (maskTests rm km)
-      behind = first-append lengthsTests (maskTests rm km) refl ∙ rw (← e, z)
+      masks-after-lengths : first (lengthsTests ++ maskTests rm km) ≡ first (maskTests rm km)
+      masks-after-lengths = first-append lengthsTests (maskTests rm km) refl ∙ rw (← e, z)
 
       pub room : bytes ≤ length out
       room = leb-true _ _ (all-pass lengthsTests refl (sym e ∙ z) 2)
@@ -82,9 +82,9 @@ module _ (ks xs : List ℕ) (rm km : ℕ) (out : List ℕ) where
       module _ (m : ℕ) (em : m ≡ first (maskTests rm km)) where
         pub masks-refused : (m ≡ 0 → ⊥) → (refused m 0, out) ≡ ta12ClassCall ks xs rm km out
         unfolding ta12ClassCall
-        masks-refused f = rw (eq-eqb _ _ h, behind, ← em) (call-refused m n (λ i. 0) bytes made out f)
+        masks-refused f = rw (eq-eqb _ _ h, masks-after-lengths, ← em) (call-refused m n (λ i. 0) bytes made out f)
 
         pub all-written : m ≡ 0 → (exit : List ℕ) → exit ≡ made ++ drop bytes out
             → (record { refusal = 0; index = n; written = bytes }, exit) ≡ ta12ClassCall ks xs rm km out
         unfolding ta12ClassCall
-        all-written k exit w = rw (eq-eqb _ _ h, behind, ← em) (call-done m n (λ i. 0) bytes made out k (λ j l. refl) exit w)
+        all-written k exit w = rw (eq-eqb _ _ h, masks-after-lengths, ← em) (call-done m n (λ i. 0) bytes made out k (λ j l. refl) exit w)

@@ -12,24 +12,24 @@ use Rattle.lines.specs.declared.Line.{Line}
 
 -- ---- one text after the other
 
-pub none : (l : Line) → l ≡ l ▸ []
+pub line-none : (l : Line) → l ≡ l ▸ []
 unfolding _▸_
-none l = refl
+line-none l = refl
 
-pub append : (l : Line) (v w : List ℕ) → l ▸ (v ++ w) ≡ l ▸ v ▸ w
+pub line-append : (l : Line) (v w : List ℕ) → l ▸ (v ++ w) ≡ l ▸ v ▸ w
 unfolding _▸_
-append l [] w = refl
-append l (b ∷ v) w = append (push l b) v w
+line-append l [] w = refl
+line-append l (b ∷ v) w = line-append (push l b) v w
 
 -- w after v, where v is there
-pub behind : (l : Line) (v w : List ℕ) {r t : Line} → r ≡ l ▸ v → t ≡ r ▸ w → t ≡ l ▸ (v ++ w)
-behind l v w e f = f ∙ ap (λ (k : Line). k ▸ w) e ∙ sym (append l v w)
+pub line-after : (l : Line) (v w : List ℕ) {r t : Line} → r ≡ l ▸ v → t ≡ r ▸ w → t ≡ l ▸ (v ++ w)
+line-after l v w e f = f ∙ ap (λ (k : Line). k ▸ w) e ∙ sym (line-append l v w)
 
 -- a turn of a loop over s that writes the text g of each byte, which makes the text f of s
-pub next : (f : List ℕ → List ℕ) (g : ℕ → List ℕ) → ((s : List ℕ) (b : ℕ) → f (s ++ (b ∷ [])) ≡ f s ++ g b)
+pub line-next : (f : List ℕ → List ℕ) (g : ℕ → List ℕ) → ((s : List ℕ) (b : ℕ) → f (s ++ (b ∷ [])) ≡ f s ++ g b)
     → (l : Line) (s : List ℕ) (i : ℕ) {r t : Line} → i < length s → r ≡ l ▸ f (take i s) → t ≡ r ▸ g (s ! i) → t ≡ l ▸ f (take (i + 1) s)
-next f g step l s i h p q =
-    behind l (f (take i s)) (g (s ! i)) p q
+line-next f g step l s i h p q =
+    line-after l (f (take i s)) (g (s ! i)) p q
     ∙ ap (λ (t : List ℕ). l ▸ t) (sym (step (take i s) (s ! i)) ∙ ap f (sym (take-suc s i 0 h) ∙ ap (λ (k : ℕ). take k s) (sym (add-one i))))
 
 -- ---- what a line shows
@@ -46,8 +46,8 @@ fits (b ∷ w) l n h =
     ∙ fits w (record { bytes = set (l .bytes) (l .len) b; len = l .len + 1 }) (length-set (l .bytes) (l .len) b ∙ n) (omega arith)
     ∙ rw (add-one, take-suc-set (l .bytes) (l .len) b (omega arith), append-snoc)
 
-pub uncut : (w : List ℕ) {l : Line} → l ≡ emptyLine ▸ w → length w ≤ room → shown l ≡ w
-uncut w e h = ap shown e ∙ fits w emptyLine refl (omega arith)
+pub line-whole : (w : List ℕ) {l : Line} → l ≡ emptyLine ▸ w → length w ≤ room → shown l ≡ w
+line-whole w e h = ap shown e ∙ fits w emptyLine refl (omega arith)
 
 pub size-room : (bytes : List ℕ) (n : ℕ) → length bytes ≡ room → n < room → n ≡ length (take n bytes)
 size-room bytes n l h = simp length-take (omega arith)

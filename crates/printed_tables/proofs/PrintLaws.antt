@@ -6,7 +6,7 @@ use Rattle.standard.specs.Bytes.{_!_, part}
 use Rattle.standard.specs.Hurdle.{S, S⁻¹}
 use Rattle.standard.specs.Tables.{inverse, rotations, spaced, tableLine, tableLines, tablesText, tablesCall}
 use Rattle.standard.specs.Text.{ascii, hexByte, textCall}
-use Rattle.lines.proofs.LineLaws.{append, put-over, put-next, uncut, write-short, write-whole}
+use Rattle.lines.proofs.LineLaws.{line-append, put-over, put-next, line-whole, write-short, write-whole}
 use Rattle.lines.specs.Lines.{room, shown, emptyLine, _▸_, putCall}
 use Rattle.lines.specs.declared.Line.{Line}
 
@@ -20,8 +20,8 @@ spaced-step (y ∷ t) x = ap (λ (w : List ℕ). (hexByte y ++ ascii " ") ++ w) 
 pub line-shown : (t s : List ℕ) {l : Line} → s ≡ part 0 15 t → l ≡ emptyLine ▸ spaced s ▸ hexByte (t ! 15) ▸ ascii "\n" → shown l ≡ tableLine t
 unfolding tableLine
 line-shown t s {l} e f =
-    uncut (tableLine t) {l = l}
-    (f ∙ ap (λ (w : List ℕ). emptyLine ▸ spaced w ▸ hexByte (t ! 15) ▸ ascii "\n") e ∙ simp append refl)
+    line-whole (tableLine t) {l = l}
+    (f ∙ ap (λ (w : List ℕ). emptyLine ▸ spaced w ▸ hexByte (t ! 15) ▸ ascii "\n") e ∙ simp line-append refl)
     (omega (arith, line-length t))
 
 -- ---- the call

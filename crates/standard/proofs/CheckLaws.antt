@@ -81,9 +81,9 @@ bit-first : (b n : ℕ) → b < 2 → bit 0 (b + 2 * n) ≡ b
 unfolding bit
 bit-first b n h = omega arith
 
-bit-behind : (b n i : ℕ) → b < 2 → bit (suc i) (b + 2 * n) ≡ bit i n
+bit-suc : (b n i : ℕ) → b < 2 → bit (suc i) (b + 2 * n) ≡ bit i n
 unfolding bit
-bit-behind b n i h =
+bit-suc b n i h =
     let half : (b + 2 * n) / 2 ≡ n = omega arith in
     ap (λ (x : ℕ). x % 2) (ap (λ (x : ℕ). (b + 2 * n) / x) (pow-succ' 2 i) ∙ sym (div-div-eq-div-mul (b + 2 * n) 2 (2 ^ i)) ∙ ap (λ (x : ℕ). x / 2 ^ i) half)
 
@@ -98,7 +98,7 @@ fails-bit d = go (eqb d 0)
 pub failed-bit : (ds : List ℕ) (i : ℕ) → i < length ds → bit i (failedOf ds) ≡ choose (eqb (ds ! i) 0) 0 1
 failed-bit [] i h = omega arith
 failed-bit (d ∷ ds) zero h = bit-first _ (failedOf ds) (fails-bit d)
-failed-bit (d ∷ ds) (suc i) h = bit-behind _ (failedOf ds) i (fails-bit d) ∙ failed-bit ds i (omega (arith, h))
+failed-bit (d ∷ ds) (suc i) h = bit-suc _ (failedOf ds) i (fails-bit d) ∙ failed-bit ds i (omega (arith, h))
 
 pub failed-below : (ds : List ℕ) → failedOf ds < 2 ^ length ds
 failed-below [] = omega arith

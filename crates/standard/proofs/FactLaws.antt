@@ -69,8 +69,8 @@ module _ (root rs rso rand1 rand2 c gk : List ℕ) (sides rm km : ℕ) (z : firs
   side2 = ta12-passes (ta21 root rs) rand2 rm km (core-length root _) (lengths-split root rs rso rand1 rand2 c gk (passed 0) .4) masks
 
   -- the other keys after D
-  behind : (d : List ℕ) → d ++ part 0 16 (ta41 root rso) ++ part 0 10 c ++ tb7 gk ≡ d ++ ta41 root rso ++ c ++ tb7 gk
-  behind d =
+  keys-after-D : (d : List ℕ) → d ++ part 0 16 (ta41 root rso) ++ part 0 10 c ++ tb7 gk ≡ d ++ ta41 root rso ++ c ++ tb7 gk
+  keys-after-D d =
       ap₂ (λ (o k : List ℕ). d ++ o ++ k ++ tb7 gk) (core-spelled root rso)
       (length-spelled 10 c (lengths-split root rs rso rand1 rand2 c gk (passed 0) .5))
 
@@ -81,7 +81,7 @@ both-sides root rs rso rand1 rand2 c gk rm km =
     (λ z.
     let d = tb4 (chosen km (core (ta11 root rs) rand1)) (chosen km (core (ta21 root rs) rand2)) in
     rw (side1 root rs rso rand1 rand2 c gk 3 rm km z, side2 root rs rso rand1 rand2 c gk 3 rm km z)
-    (behind root rs rso rand1 rand2 c gk 3 rm km z d, refl, refl))
+    (keys-after-D root rs rso rand1 rand2 c gk 3 rm km z d, refl, refl))
 
 pub one-side : OneSide
 unfolding ringCall ring
@@ -90,12 +90,12 @@ one-side = record {
       ring-same (first ((haveLengths root rs rso rand1 rand2 c gk, wrongLength) ∷ maskTests rm km)) _ _ _ _ _ _
       (λ z.
       let d = tb4 (chosen km (core (ta11 root rs) rand1)) (zeros 10) in
-      rw (side1 root rs rso rand1 rand2 c gk 1 rm km z) (behind root rs rso rand1 rand2 c gk 1 rm km z d, refl, refl));
+      rw (side1 root rs rso rand1 rand2 c gk 1 rm km z) (keys-after-D root rs rso rand1 rand2 c gk 1 rm km z d, refl, refl));
   ta22-alone = λ root rs rso rand1 rand2 c gk rm km.
       ring-same (first ((haveLengths root rs rso rand1 rand2 c gk, wrongLength) ∷ maskTests rm km)) _ _ _ _ _ _
       (λ z.
       let d = tb4 (zeros 10) (chosen km (core (ta21 root rs) rand2)) in
-      rw (side2 root rs rso rand1 rand2 c gk 2 rm km z) (behind root rs rso rand1 rand2 c gk 2 rm km z d, refl, refl));
+      rw (side2 root rs rso rand1 rand2 c gk 2 rm km z) (keys-after-D root rs rso rand1 rand2 c gk 2 rm km z d, refl, refl));
 }
 
 pub idle-challenge : IdleChallenge

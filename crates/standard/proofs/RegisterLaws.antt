@@ -96,14 +96,14 @@ Q-undone : (key : List ℕ) (i : ℕ) → length key ≡ 16 → i < 16 → stepB
 unfolding Q
 Q-undone key i l h = undone i (Q key i) h (Q-length key i l)
 
-pub returns : Returns
-returns key h = turned-Q key 16 (omega arith) ∙ Q-back key h
+pub key-returns : Returns
+key-returns key h = turned-Q key 16 (omega arith) ∙ Q-back key h
 
 -- ---- any number of steps
 
 pub turn-more : (key : List ℕ) (n : ℕ) → length key ≡ 16 → turned key (16 + n) ≡ turned key n
 unfolding turned
-turn-more key zero h = returns key h
+turn-more key zero h = key-returns key h
 turn-more key (suc n) h =
     let e : (16 + n) % 16 ≡ n % 16 = omega arith in
     ap (turned key) (add-suc 16 n) ∙ ap₂ step e (turn-more key n h)

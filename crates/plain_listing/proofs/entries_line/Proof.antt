@@ -1,15 +1,15 @@
 use Rattle.standard.proofs.Prelude.{needs}
 use Rattle.plain_listing.proofs.ListLaws.{entries-short}
 use Rattle.standard.specs.Listing.{entriesLine}
-use Rattle.lines.proofs.LineLaws.{append, uncut}
+use Rattle.lines.proofs.LineLaws.{line-append, line-whole}
 use Rattle.plain_listing.proofs.entries_line.Tie as tie
 
 returns : tie.Need-returns
 unfolding entriesLine
 returns c =
     let number = c .before .before in
-    uncut (entriesLine _) {l = c .word2 .result}
-    (simp append (rw (c .word2 .ensures, number .decimal .ensures, number .before .word .ensures, number .before .before .before .empty .ensures)))
+    line-whole (entriesLine _) {l = c .word2 .result}
+    (simp line-append (rw (c .word2 .ensures, number .decimal .ensures, number .before .word .ensures, number .before .before .before .empty .ensures)))
     (entries-short _)
 
 pub entries-line-spec : {M : Type 1} → Rattle.plain_listing.proofs.entries_line.Statement.statement M

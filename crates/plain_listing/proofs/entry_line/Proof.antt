@@ -4,7 +4,7 @@ use Rattle.standard.proofs.BytesLaws.{part-lent}
 use Rattle.standard.specs.Books.{recordKind}
 use Rattle.standard.specs.Listing.{entryLine}
 use Rattle.standard.specs.Seals.{keyLength}
-use Rattle.lines.proofs.LineLaws.{append, uncut}
+use Rattle.lines.proofs.LineLaws.{line-append, line-whole}
 use Rattle.plain_listing.proofs.entry_line.Tie as tie
 
 returns : tie.Need-returns
@@ -16,8 +16,8 @@ returns c =
     let e = c .before .kind-of .ensures in
     let identity = part-lent 1 3 p (omega (arith, x .pre)) in
     let key = part-lent 6 k p (omega (arith, x .pre, key-short (recordKind p .algorithm))) in
-    uncut (entryLine (x .args .index) p) {l = c .back .result}
-    (simp append (rw (← identity, ← key, ← add-sub-cancel-left 6 k, ← e, c .back .ensures, c .before .before .before .front .ensures)))
+    line-whole (entryLine (x .args .index) p) {l = c .back .result}
+    (simp line-append (rw (← identity, ← key, ← add-sub-cancel-left 6 k, ← e, c .back .ensures, c .before .before .before .front .ensures)))
     (entry-short (x .args .index) p)
 
 pub entry-line-spec : {M : Type 1} → Rattle.plain_listing.proofs.entry_line.Statement.statement M

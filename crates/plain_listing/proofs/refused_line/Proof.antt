@@ -2,15 +2,15 @@ use Rattle.standard.proofs.Prelude.{refl, needs}
 use Rattle.plain_listing.proofs.ListLaws.{refused-short}
 use Rattle.standard.specs.Listing.{refusedAt, refusedLine}
 use Rattle.standard.specs.Text.{ascii}
-use Rattle.lines.proofs.LineLaws.{behind, uncut}
+use Rattle.lines.proofs.LineLaws.{line-after, line-whole}
 use Rattle.lines.specs.Lines.{emptyLine}
 use Rattle.plain_listing.proofs.refused_line.Tie as tie
 
 returns : tie.Need-returns
 unfolding refusedLine
 returns c =
-    uncut (refusedLine _ _) {l = c .word .result}
-    (behind emptyLine (refusedAt _ _) (ascii "\n") (c .before .before .refused-at .ensures) (c .word .ensures))
+    line-whole (refusedLine _ _) {l = c .word .result}
+    (line-after emptyLine (refusedAt _ _) (ascii "\n") (c .before .before .refused-at .ensures) (c .word .ensures))
     (refused-short _ _)
 
 pub refused-line-spec : {M : Type 1} → Rattle.plain_listing.proofs.refused_line.Statement.statement M

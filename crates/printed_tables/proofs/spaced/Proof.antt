@@ -3,7 +3,7 @@ use Rattle.standard.specs.Bytes.{_!_}
 use Rattle.standard.specs.Tables.{spaced}
 use Rattle.standard.specs.Text.{ascii, hexByte}
 use Rattle.printed_tables.proofs.PrintLaws.{spaced-step}
-use Rattle.lines.proofs.LineLaws.{none, behind, next}
+use Rattle.lines.proofs.LineLaws.{line-none, line-after, line-next}
 use Rattle.lines.specs.Lines.{emptyLine, _▸_}
 use Rattle.printed_tables.proofs.spaced.Tie as tie
 
@@ -15,15 +15,15 @@ abbrev μ-loop : tie.MeasureT-loop
 
 loop-holds : tie.Need-loop-holds Inv-loop μ-loop
 unfolding spaced
-loop-holds c = (zero-le, c .empty .ensures ∙ none emptyLine)
+loop-holds c = (zero-le, c .empty .ensures ∙ line-none emptyLine)
 
 loop-again : tie.Need-loop-again Inv-loop μ-loop
 loop-again c =
     let digits = c .before .before in
     let at = digits .before .before .before .loop in
     let t = now (digits .before .before .before .before .before .before .args .t) in
-    let entry = behind (at .l) (hexByte (t ! at .i)) (ascii " ") (digits .hex-byte .ensures) (c .word .ensures) in
-    (omega arith, next spaced (λ x. hexByte x ++ ascii " ") spaced-step emptyLine t (at .i) (omega arith) (at .inv .1) entry)
+    let entry = line-after (at .l) (hexByte (t ! at .i)) (ascii " ") (digits .hex-byte .ensures) (c .word .ensures) in
+    (omega arith, line-next spaced (λ x. hexByte x ++ ascii " ") spaced-step emptyLine t (at .i) (omega arith) (at .inv .1) entry)
 
 returns : tie.Need-returns Inv-loop μ-loop
 returns c =

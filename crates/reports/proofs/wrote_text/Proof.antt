@@ -1,13 +1,13 @@
 use Rattle.standard.proofs.Prelude.{needs}
 use Rattle.standard.specs.Programs.{wroteText}
-use Rattle.lines.proofs.LineLaws.{append}
+use Rattle.lines.proofs.LineLaws.{line-append}
 use Rattle.reports.proofs.wrote_text.Tie as tie
 
 returns : tie.Need-returns
 unfolding wroteText
 returns c =
     let number = c .before .before in
-    simp append (rw (c .word2 .ensures, number .decimal .ensures, number .before .word .ensures, number .before .before .before .empty .ensures))
+    simp line-append (rw (c .word2 .ensures, number .decimal .ensures, number .before .word .ensures, number .before .before .before .empty .ensures))
 
 pub wrote-text-spec : {M : Type 1} → Rattle.reports.proofs.wrote_text.Statement.statement M
 wrote-text-spec =

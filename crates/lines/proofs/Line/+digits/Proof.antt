@@ -4,7 +4,7 @@ use Rattle.standard.proofs.Prelude.{[], _∷_, ℕ, _+_, _-_, _/_, _%_, _<_, ar
 use borrow.Fn.Kinds.{In}
 use borrow.Fn.PlainCycle.{Measures, is, falls, and}
 use Rattle.standard.specs.Text.{digits as digitsOf}
-use Rattle.lines.proofs.LineLaws.{none, behind}
+use Rattle.lines.proofs.LineLaws.{line-none, line-after}
 use Rattle.lines.proofs.TextLaws.{digits-none, digits-last, digits-more}
 use Rattle.lines.proofs.Line.digits.Reads as digits
 use Rattle.lines.proofs.Line.digits.Kinds as digits-kinds
@@ -34,7 +34,7 @@ pub +digits-spec : {M : Type 1} → statement M
     digits.Post
     (λ c.
     let x = c .before .args in
-    rw (digits-none (x .places) (x .x) (c .if1 .taken)) (none (x .self)))
+    rw (digits-none (x .places) (x .x) (c .if1 .taken)) (line-none (x .self)))
     (λ c. search needs)
     (λ c. search needs)
     (λ c κs. search needs)
@@ -47,4 +47,4 @@ pub +digits-spec : {M : Type 1} → statement M
     (λ c.
     let x = c .before .before .before .before .args in
     rw (digits-more (x .places) (x .x) (c .before .before .before .if1 .left) (c .before .before .if2 .left))
-    (behind (x .self) (digitsOf (x .places - 1) (x .x / 10)) ((48 + x .x % 10) ∷ []) (c .before .digits .ensures) (c .byte2 .ensures)))
+    (line-after (x .self) (digitsOf (x .places - 1) (x .x / 10)) ((48 + x .x % 10) ∷ []) (c .before .digits .ensures) (c .byte2 .ensures)))

@@ -1,7 +1,7 @@
 -- `lines::Line::hex` meets its contract: after i turns the first i bytes are there.
 -- Assumes nothing.
 use Rattle.standard.proofs.Prelude.{_≡_, ap, _∙_, List, ℕ, _-_, _≤_, zero-le, arith, length, take, take-all, now, needs}
-use Rattle.lines.proofs.LineLaws.{none, next}
+use Rattle.lines.proofs.LineLaws.{line-none, line-next}
 use Rattle.lines.proofs.TextLaws.{hex-step}
 use Rattle.standard.specs.Text.{hexByte, hex}
 use Rattle.lines.specs.Lines.{_▸_}
@@ -15,13 +15,13 @@ abbrev μ-loop : tie.MeasureT-loop
 
 loop-holds : tie.Need-loop-holds Inv-loop μ-loop
 unfolding hex
-loop-holds c = (zero-le, none (c .before .args .self))
+loop-holds c = (zero-le, line-none (c .before .args .self))
 
 loop-again : tie.Need-loop-again Inv-loop μ-loop
 loop-again c =
     let at = c .before .before .before .loop in
     let x = c .before .before .before .before .before .args in
-    (omega arith, next hex hexByte hex-step (x .self) (now (x .s)) (at .i) (omega arith) (at .inv .1) (c .hex-byte .ensures))
+    (omega arith, line-next hex hexByte hex-step (x .self) (now (x .s)) (at .i) (omega arith) (at .inv .1) (c .hex-byte .ensures))
 
 returns : tie.Need-returns Inv-loop μ-loop
 returns c =

@@ -1,6 +1,6 @@
 use Rattle.standard.proofs.Prelude.{[], _∷_, _/_, _%_, needs}
 use Rattle.standard.specs.Text.{hexDigit}
-use Rattle.lines.proofs.LineLaws.{behind}
+use Rattle.lines.proofs.LineLaws.{line-after}
 use Rattle.lines.proofs.Line.hex_byte.Tie as tie
 
 returns : tie.Need-returns
@@ -8,7 +8,7 @@ returns c =
     let x = c .before .before .before .before .args in
     let low = rw (c .before .hex-digit2 .ensures) at (c .byte2 .ensures) in
     let high = rw (c .before .before .before .hex-digit .ensures) at (c .before .before .byte .ensures) in
-    behind (x .self) (hexDigit (x .b / 16) ∷ []) (hexDigit (x .b % 16) ∷ []) high low
+    line-after (x .self) (hexDigit (x .b / 16) ∷ []) (hexDigit (x .b % 16) ∷ []) high low
 
 pub hex-byte-spec : {M : Type 1} → Rattle.lines.proofs.Line.hex_byte.Statement.statement M
 hex-byte-spec =

@@ -1,7 +1,7 @@
 -- `lines::Line::word` meets its contract: after i turns the first i bytes of the word are there.
 -- Assumes nothing.
 use Rattle.standard.proofs.Prelude.{_≡_, refl, ap, _∙_, List, [], _∷_, ℕ, _-_, _≤_, zero-le, arith, length, take, take-all, now, needs}
-use Rattle.lines.proofs.LineLaws.{none, next}
+use Rattle.lines.proofs.LineLaws.{line-none, line-next}
 use Rattle.lines.specs.Lines.{_▸_}
 use Rattle.lines.proofs.Line.word.Tie as tie
 
@@ -12,13 +12,13 @@ abbrev μ-loop : tie.MeasureT-loop
 μ-loop w r₀ i₀ r i = length w - i
 
 loop-holds : tie.Need-loop-holds Inv-loop μ-loop
-loop-holds c = (zero-le, none (c .before .args .self))
+loop-holds c = (zero-le, line-none (c .before .args .self))
 
 loop-again : tie.Need-loop-again Inv-loop μ-loop
 loop-again c =
     let at = c .before .before .before .loop in
     let x = c .before .before .before .before .before .args in
-    (omega arith, next (λ s. s) (λ b. b ∷ []) (λ s b. refl) (x .self) (now (x .w)) (at .i) (omega arith) (at .inv .1) (c .byte .ensures))
+    (omega arith, line-next (λ s. s) (λ b. b ∷ []) (λ s b. refl) (x .self) (now (x .w)) (at .i) (omega arith) (at .inv .1) (c .byte .ensures))
 
 returns : tie.Need-returns Inv-loop μ-loop
 returns c =
