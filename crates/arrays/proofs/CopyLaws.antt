@@ -3,7 +3,7 @@
 use Rattle.standard.proofs.Prelude.{_≡_, refl, sym, ap, ap₂, _∙_, _⊎_, inl, inr, List, [], _∷_, _++_, append-nil, ℕ, zero, suc, _+_, _-_, _≤_, _<_}
 use Rattle.standard.proofs.Prelude.{zero-add, add-one, arith, length, take, drop, set, length-append, length-drop, drop-of-length-le, take-all}
 use Rattle.standard.proofs.Prelude.{take-at, drop-at}
-use lib.ListN.{getD, List·getD-eq-default}
+use lib.ListN.{List·getD-eq-default}
 use lib.Seq.{getD-drop, paste-suc}
 use borrow.Rule.Slice.PartMut.{midOf, putMid}
 use Rattle.standard.proofs.BytesLaws.{table-same, spelled}

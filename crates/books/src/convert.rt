@@ -23,7 +23,7 @@ ghost use Rattle.standard.specs.Lists.{recordAt};
 ghost use Rattle.standard.specs.Runs.{textRuns};
 ghost use Rattle.hurdle.specs.Lanes.{lanes, eachLane};
 ghost use Rattle.texts.specs.OpenedTexts.{inputLane};
-ghost use Rattle.books.specs.BothDirections.{sizeOf, outputSizeOf, inputOf, inputAt, coreOf, madeOf, convertOf, convertAt};
+ghost use Rattle.books.specs.BothDirections.{sizeOf, outputSizeOf, inputOf, inputAt, coreOf, madeOf, convertAt};
 
 // What the core takes of a record.
 fn core_input(direction: Direction, ring: &RingBytes, rec: &[u8]) -> CoreInput

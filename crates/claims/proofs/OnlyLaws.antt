@@ -2,7 +2,7 @@
 -- Assumes nothing.
 use Rattle.standard.proofs.Prelude.{_≡_, sym, ap, _∙_, subst, _↔_, List, ℕ, _<_}
 use Rattle.standard.proofs.InverseLaws.{Inverse, is-image, of-one}
-use Rattle.claims.specs.Entries.{Only, OfOne, Count}
+use Rattle.claims.specs.Entries.{OfOne, Count}
 
 -- what has Q is the image of something that has P, and of one such thing alone: of its own inverse image
 pub of-image : {A B : Type 0} {P : A → Type 0} {Q : B → Type 0} {f : A → B} {g : B → A} (m : Inverse P Q f g) (y : B)

@@ -1,15 +1,14 @@
 -- The steps of the code add up to f, to the rounds and to the block.
 -- Assumes nothing.
-use Rattle.standard.proofs.Prelude.{_≡_, refl, sym, ap, ap₂, _∙_, Bool, List, [], _∷_, _++_, ℕ, zero, suc, _+_, _*_, _/_, _%_, _^_, _<_, mod-eq-of-lt}
-use Rattle.standard.proofs.Prelude.{subst, add-one, div-one, arith, eqb, eqb-true, xor-zero-r}
+use Rattle.standard.proofs.Prelude.{_≡_, refl, sym, ap, ap₂, _∙_, subst, Bool, List, [], _∷_, _++_, ℕ, zero, suc, _+_, _*_, _/_, _%_, _^_, _<_}
+use Rattle.standard.proofs.Prelude.{div-one, mod-eq-of-lt, add-one, arith, xor-zero-r, eqb, eqb-true}
 use Rattle.standard.proofs.BytesLaws.{every-at}
 use Rattle.standard.proofs.HurdleLaws.{permuted}
 use mathlib.Core.List.{map}
 use lib.Bits.{bitXor, xor-shr, xor-mod}
-use lib.ListN.{getD}
 use Rattle.hurdle.specs.declared.round.Halves.{Halves as Words}
 use Rattle.standard.specs.Bytes.{_!_, byte, bit, _⊕_, _⊞_, table, xors, bytesOf}
-use Rattle.standard.specs.Hurdle.{S, E, T, ofBits, Y, f, Halves, round, rounds, crypt, roundKey}
+use Rattle.standard.specs.Hurdle.{S, E, T, ofBits, f, Halves, round, rounds, crypt, roundKey}
 use Rattle.hurdle.specs.RoundSteps.{bytes4, halfBytes, linked, linksOver, lastOver, nibblesOver, fOver, spreadOf, spreads, twice}
 use Rattle.hurdle.specs.RoundSteps.{exchangedBy, roundOver, roundsOver, HalvesOf, place}
 

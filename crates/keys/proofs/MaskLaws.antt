@@ -1,7 +1,7 @@
 -- The bytes that a mask chooses: the loop that gathers them, and how many they are.
 -- Assumes nothing.
-use Rattle.standard.proofs.Prelude.{_≡_, refl, sym, ap, ap₂, _∙_, subst, List, [], _∷_, _++_, ℕ, suc, _+_, _-_, _^_, _≤_, _<_, add-zero, zero-add}
-use Rattle.standard.proofs.Prelude.{arith, length, take, drop, set, take-all, drop-drop, eq-eqb, ne-eqb}
+use Rattle.standard.proofs.Prelude.{_≡_, refl, sym, ap, ap₂, _∙_, subst, List, _∷_, _++_, ℕ, suc, _+_, _-_, _^_, _≤_, _<_, add-zero, zero-add, arith}
+use Rattle.standard.proofs.Prelude.{length, take, drop, set, take-all, drop-drop, eq-eqb, ne-eqb}
 use lib.Count.{ones}
 use lib.Seq.{getD-drop}
 use Rattle.arrays.proofs.CopyLaws.{copy-next, over-zeros}

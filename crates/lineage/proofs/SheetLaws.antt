@@ -1,7 +1,7 @@
 -- A sheet's records and values as code comes to them, and the ways in which the call returns.
 -- Assumes nothing.
-use Rattle.standard.proofs.Prelude.{_≡_, refl, sym, ap, ap₂, _∙_, Bool, true, false, _&&_, List, _++_, ℕ, _-_, _*_, _/_, _≤_, _<_, eqb, ltb, length, drop}
-use Rattle.standard.proofs.Prelude.{eq-eqb, ne-eqb, leb-true, ltb-true}
+use Rattle.standard.proofs.Prelude.{_≡_, refl, sym, ap, ap₂, _∙_, Bool, true, false, _&&_, List, _++_, ℕ, _-_, _*_, _/_, _≤_, _<_, eqb, ltb, length}
+use Rattle.standard.proofs.Prelude.{drop, eq-eqb, ne-eqb, leb-true, ltb-true}
 use Rattle.lists.proofs.ListReturnLaws.{call-refused, call-stopped, call-done}
 use Rattle.lists.proofs.WalkLaws.{PrefixWritten, prefix-at}
 use Rattle.lists.specs.Walks.{Clean, Stopped}

@@ -1,8 +1,8 @@
 -- The cases of a call on a list, as its code comes to them: `head` is the refusal by its tests, g the fault of each of n records.
 -- Assumes nothing.
-use Rattle.standard.proofs.Prelude.{_≡_, refl, sym, ap, _∙_, true, List, _++_, ℕ, _<_, arith, eqb, drop, ne-eqb}
+use Rattle.standard.proofs.Prelude.{_≡_, sym, List, _++_, ℕ, _<_, arith, drop, ne-eqb}
 use Rattle.standard.proofs.AnswerLaws.{accepted}
-use Rattle.standard.specs.Lists.{firstFault, refused, answer, written}
+use Rattle.standard.specs.Lists.{refused, answer, written}
 use Rattle.lists.specs.Walks.{Clean, Stopped}
 
 module _ (head n : ℕ) (g : ℕ → ℕ) (bytes : ℕ) where

@@ -1,6 +1,6 @@
 -- What the steps on one record add up to.
 -- Assumes nothing.
-use Rattle.standard.proofs.Prelude.{_≡_, refl, sym, ap, _∙_, Bool, true, false, not, List, [], _∷_, _++_, ℕ, length, take, drop}
+use Rattle.standard.proofs.Prelude.{_≡_, sym, ap, _∙_, Bool, true, false, not, List, [], _∷_, _++_, ℕ, length, take, drop}
 use Rattle.standard.specs.Books.{sealingKey, named, plainFault, openFault, inspectionRuns}
 use Rattle.standard.specs.Bytes.{_!_, part, choose}
 use Rattle.standard.specs.Identity.{encryptIdentity, decryptIdentity}

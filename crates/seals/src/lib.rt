@@ -22,7 +22,7 @@ use texts::open_text;
 use texts::seal_body;
 ghost use mathlib.Core.List.{[], _∷_, _++_};
 ghost use mathlib.Core.Path.{_≡_};
-ghost use Prim.Native.Nat.{_+_, _*_};
+ghost use Prim.Native.Nat.{_+_};
 ghost use Rattle.standard.specs.Bytes.{_!_, part};
 ghost use Rattle.seals.specs.UnsealedBodies.{unsealedBody, opened16};
 ghost use Rattle.standard.specs.Refusals.{wrongLength, first, answer15};

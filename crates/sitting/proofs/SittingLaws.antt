@@ -1,6 +1,6 @@
 -- The recipe's inputs, read off a sitting of the right length.
 -- Assumes nothing.
-use Rattle.standard.proofs.Prelude.{_≡_, refl, sym, _∙_, List, ℕ, _+_, _*_, length, eq-eqb}
+use Rattle.standard.proofs.Prelude.{_≡_, refl, _∙_, List, ℕ, _+_, _*_, length, eq-eqb}
 use Rattle.standard.proofs.DerivationLaws.{ring-long}
 use Rattle.standard.specs.Bytes.{_!_, part}
 use Rattle.standard.specs.Derivation.{ringOf, ringCall}

@@ -1,12 +1,12 @@
 -- The answers of the book calls: when they are 0, and what they are then.
 -- Assumes nothing.
-use Rattle.standard.proofs.Prelude.{_≡_, refl, sym, ap, ap₂, _∙_, subst, Bool, true, false, _⊎_, inl, inr, List, [], _∷_, _++_, ℕ, zero, suc}
-use Rattle.standard.proofs.Prelude.{_+_, _*_, _/_, _%_, _≤_, _<_, add-zero, add-mul, mul-zero, mul-suc, mul-le-mul-left, le-of-suc-le-suc}
-use Rattle.standard.proofs.Prelude.{eq-or-lt-of-le, add-one, arith, eqb, leb, ltb, length, drop, eqb-true, eqb-false, eq-eqb, ne-eqb, leb-true}
-use Rattle.standard.proofs.Prelude.{le-leb, ltb-true, ltb-false}
+use Rattle.standard.proofs.Prelude.{_≡_, refl, sym, ap, ap₂, _∙_, subst, Bool, true, false, _⊎_, inl, inr, List, _∷_, _++_, ℕ, zero, suc, _+_}
+use Rattle.standard.proofs.Prelude.{_*_, _/_, _%_, _≤_, _<_, add-zero, add-mul, mul-zero, mul-suc, mul-le-mul-left, le-of-suc-le-suc}
+use Rattle.standard.proofs.Prelude.{eq-or-lt-of-le, arith, eqb, ltb, length, drop, eqb-true, eqb-false, eq-eqb, ne-eqb, leb-true, le-leb}
+use Rattle.standard.proofs.Prelude.{ltb-true, ltb-false}
 use native.Mathlib.Nat.{div-add-mod, mul-mod-right, div-le-of-le-mul}
 use Rattle.standard.specs.Books.{Conversion, bookCall}
-use Rattle.standard.specs.Bytes.{_!_, choose, Bytes}
+use Rattle.standard.specs.Bytes.{_!_, choose}
 use Rattle.standard.specs.Lists.{recordAt, each, firstFault, refused, answer, lengthTests, listTests, written}
 use Rattle.standard.specs.Refusals.{wrongLength, hasLength, first}
 use Rattle.standard.specs.Runs.{firstPass, secondPass, acceptedRuns}

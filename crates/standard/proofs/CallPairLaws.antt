@@ -1,11 +1,9 @@
 -- Sealing and unsealing in the terms of the single calls: what a sealing call answers for legal input, the unsealing call takes back
 -- with no check failed; and a text of which no check fails is what the sealing call answers for that key and number. TA61 likewise.
 -- Assumes nothing.
-use Rattle.standard.proofs.Prelude.{_≡_, refl, sym, ap, ap₂, _∙_, Bool, true, List, [], _∷_, _++_, ℕ, _+_, _*_, _/_, _%_, _^_, _≤_, _<_, arith}
-use Rattle.standard.proofs.Prelude.{eqb, leb, length, eqb-true, eq-eqb, le-leb, lt-ltb}
-use Rattle.standard.specs.Bytes.{_!_, part, table, zeros, bytesOf, number3, choose, Bytes}
+use Rattle.standard.proofs.Prelude.{_≡_, refl, List, ℕ, _+_, _*_, _/_, _%_, _^_, _≤_, _<_, arith, length, eqb-true, eq-eqb, le-leb, lt-ltb}
+use Rattle.standard.specs.Bytes.{_!_, bytesOf, number3, Bytes}
 use Rattle.standard.specs.Identity.{ta61, ta61⁻¹, ta61Call, ta61⁻¹Call}
-use Rattle.standard.specs.Refusals.{hasLength, unsealed}
 use Rattle.standard.specs.Seals.{form31, form51, form81, formOf, seal, unseal, fails, body31, body51, body81, body91, number2}
 use Rattle.standard.specs.Seals.{ta31Call, ta32Call, ta51Call, ta52Call, ta81Call, ta82Call, ta91Call, ta92Call}
 use Rattle.standard.specs.declared.KeyNumber.{KeyNumber}

@@ -3,7 +3,7 @@
 use Rattle.standard.proofs.Prelude.{_≡_, refl, sym, ap, ap₂, _∙_, subst, Bool, true, false, _&&_, List, [], _∷_, ℕ, zero, suc, _+_, _*_, _/_}
 use Rattle.standard.proofs.Prelude.{_%_, _^_, _<_, suc-inj, suc-ne-zero, arith, xor-self, eqb, length, eqb-true, eqb-false, eq-eqb, ne-eqb}
 use native.Mathlib.Nat.{pow-succ', div-div-eq-div-mul}
-use lib.Bits.{bitAnd, or-add-and, and-le-l, and-le-r}
+use lib.Bits.{or-add-and, and-le-l, and-le-r}
 use Rattle.standard.specs.Bytes.{_!_, bit, _⊕_, _∣_, sameOn, same, choose}
 use Rattle.standard.specs.Seals.{differences, failedOf, clear, orOn, orOf, formOf}
 use Rattle.standard.specs.declared.Algorithm.{Algorithm}

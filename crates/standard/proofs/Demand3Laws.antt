@@ -3,7 +3,7 @@
 use Rattle.standard.proofs.Prelude.{_≡_, refl, sym, ap, _∙_, _↔_, List, _++_, ℕ, _*_, _/_, _≤_, _<_, arith, eqb, length, take, drop, take-at}
 use Rattle.standard.proofs.Prelude.{eq-eqb, le-leb}
 use Rattle.standard.specs.Books.{plainFault, sealRecord, openFault, openRecord, WellFormed, sealedForm}
-use Rattle.standard.specs.Books.{sealing, opening, bookCall, sealBook, openBook, checkPlain}
+use Rattle.standard.specs.Books.{sealing, opening, sealBook, openBook, checkPlain}
 use Rattle.standard.specs.Bytes.{_!_, Bytes}
 use Rattle.standard.specs.Demand3.{IsSealedForm, Demand3, Demand3Holds}
 use Rattle.standard.specs.Lists.{each, lengthTests}

@@ -1,7 +1,7 @@
 -- Masks: what their tests tell, and how many bytes they choose. The ring recipe on strings of the right lengths.
 -- Assumes nothing.
-use Rattle.standard.proofs.Prelude.{_≡_, refl, sym, ap, _∙_, Bool, true, false, _&&_, List, [], _∷_, ℕ, zero, suc, _+_, _/_, _%_, _^_, _<_}
-use Rattle.standard.proofs.Prelude.{zero-add, mod-lt, mod-eq-of-lt, zero-lt-suc, arith, eqb, length, pow-pos, eqb-true}
+use Rattle.standard.proofs.Prelude.{_≡_, refl, sym, ap, _∙_, true, List, _∷_, ℕ, zero, suc, _+_, _/_, _%_, _^_, _<_, zero-add, mod-lt}
+use Rattle.standard.proofs.Prelude.{mod-eq-of-lt, zero-lt-suc, arith, eqb, length, pow-pos, eqb-true}
 use native.Mathlib.Nat.{mod-one}
 use native.Mathlib.Numerals.{one-add}
 use lib.Count.{ones, onesIn, ones-cat}

@@ -1,7 +1,7 @@
 -- What goes through the expansions stays a string of bytes, for any groups.
 -- Assumes nothing.
-use Rattle.standard.proofs.Prelude.{List, [], _∷_, _++_, ℕ, zero, suc, _+_, _<_, arith}
-use Rattle.standard.specs.Bytes.{_!_, _⊕_, part, Bytes}
+use Rattle.standard.proofs.Prelude.{List, [], _∷_, ℕ, zero, suc, _+_, _<_, arith}
+use Rattle.standard.specs.Bytes.{_!_, _⊕_, Bytes}
 use Rattle.standard.specs.Expansions.{xorOn, grouped, ungrouped}
 use Rattle.standard.proofs.XorLaws.{xor-byte}
 use Rattle.standard.proofs.BytesLaws.{bytes-append, bytes-cons, bytes-nil, bytes-part}

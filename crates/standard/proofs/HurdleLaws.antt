@@ -1,11 +1,11 @@
 -- HURDLE-II: S and its inverse undo each other; decryption undoes encryption, and encryption decryption.
 -- Assumes nothing.
-use Rattle.standard.proofs.Prelude.{_≡_, refl, sym, ap, ap₂, _∙_, Bool, true, _&&_, List, [], _∷_, _++_, ℕ, zero, suc, _+_, _-_, _*_, _<_}
-use Rattle.standard.proofs.Prelude.{arith, eqb, ltb, length, length-append, eqb-true, ltb-true}
-use Rattle.standard.specs.Bytes.{_!_, bit, table, part, xors, Bytes}
-use Rattle.standard.specs.Hurdle.{S, S⁻¹, T, ofBits, Y, f, Halves, round, rounds, crypt, roundKey, schedule, encryptWith, decryptWith, encrypt, decrypt}
+use Rattle.standard.proofs.Prelude.{_≡_, refl, ap, _∙_, Bool, true, _&&_, List, _++_, ℕ, zero, suc, _-_, _<_, arith, eqb, ltb, length}
+use Rattle.standard.proofs.Prelude.{length-append, eqb-true, ltb-true}
+use Rattle.standard.specs.Bytes.{_!_, bit, table, part, Bytes}
+use Rattle.standard.specs.Hurdle.{S, S⁻¹, T, Y, f, Halves, round, rounds, crypt, roundKey, schedule, encrypt, decrypt}
 use Rattle.standard.proofs.XorLaws.{xor-cancel-r}
-use Rattle.standard.proofs.BytesLaws.{spell, spelled, bytes-nil, bytes-cons, bytes-append, bytes-part, bytes-xors, and-split, every, every-at}
+use Rattle.standard.proofs.BytesLaws.{spelled, bytes-nil, bytes-cons, bytes-append, bytes-part, bytes-xors, and-split, every, every-at}
 
 -- ---- S: one computed test over the two tables, and what it gives at each entry
 

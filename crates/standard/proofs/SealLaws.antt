@@ -1,16 +1,16 @@
 -- Sealing, over the form of an algorithm. For every sealing key and version, a text's flag is clear exactly if the text is the sealed form of
 -- a legal body (`is-image` of `sealing`), of that one alone, which is the one unsealed (`of-one`), and sealing it gives the text again.
 -- Assumes nothing.
-use Rattle.standard.proofs.Prelude.{_≡_, refl, sym, ap, _∙_, Bool, true, false, _&&_, List, [], _∷_, _++_, ℕ, _/_, _%_, _≤_, _<_, mod-eq-of-lt}
-use Rattle.standard.proofs.Prelude.{arith, eqb, leb, eqb-true, eq-eqb, leb-true, le-leb}
-use Rattle.standard.specs.Bytes.{_!_, part, same, choose, Bytes, Passed}
+use Rattle.standard.proofs.Prelude.{_≡_, refl, sym, ap, _∙_, Bool, _&&_, List, [], _∷_, _++_, ℕ, _/_, _%_, _≤_, _<_, mod-eq-of-lt, arith, eqb}
+use Rattle.standard.proofs.Prelude.{leb, eqb-true, leb-true, le-leb}
+use Rattle.standard.specs.Bytes.{_!_, part, same, choose, Passed}
 use Rattle.standard.specs.Cores.{bl1}
-use Rattle.standard.specs.Expansions.{grouped, ungrouped, inserted, expected, exp1Groups, exp3Groups, x16Groups}
+use Rattle.standard.specs.Expansions.{grouped, inserted, expected, exp1Groups, exp3Groups, x16Groups}
 use Rattle.standard.specs.Seals.{Form, clear, form31, form51, form81, formOf, without8, sealed, opened, seal, unseal, fails, clears}
 use Rattle.standard.specs.Refusals.{wrongNumber, notZero}
 use Rattle.standard.specs.declared.Algorithm.{Algorithm}
 use Rattle.standard.specs.declared.Algorithm.the-variants.{Ta31, Ta51, Ta81, Ta91}
-use Rattle.standard.proofs.BytesLaws.{spell, bytes-cons, bytes-one, bytes-zero, bytes-append, bytes-part, and-split, and-join, same-eq, same-refl}
+use Rattle.standard.proofs.BytesLaws.{spell, bytes-cons, bytes-one, bytes-zero, bytes-append, bytes-part, and-split, same-eq, same-refl}
 use Rattle.standard.proofs.CheckLaws.{clear-same}
 use Rattle.standard.proofs.CoreLaws.{sealCore, unsealCore, core}
 use Rattle.standard.proofs.ExpansionLaws.{bytes-grouped, bytes-ungrouped}

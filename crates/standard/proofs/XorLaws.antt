@@ -3,7 +3,7 @@
 use Rattle.standard.proofs.Prelude.{_≡_, refl, sym, ap, ap₂, _∙_, ℕ, zero, suc, _+_, _*_, _/_, _%_, _<_, mod-lt, zero-lt-suc, arith, xor-comm}
 use Rattle.standard.proofs.Prelude.{xor-self, xor-zero-r}
 use lib.Arith.{bin-ind, digits-mod}
-use lib.Bits.{bitXor, differ, xor-step, xor-shr, xor-lt}
+use lib.Bits.{differ, xor-step, xor-shr, xor-lt}
 use Rattle.standard.specs.Bytes.{_⊕_}
 
 differ-assoc : (x y z : ℕ) → x < 2 → y < 2 → z < 2 → differ (differ x y) z ≡ differ x (differ y z)

@@ -8,7 +8,7 @@ use cores_x4::bl2_x4;
 ghost use mathlib.Core.Path.{_≡_};
 ghost use Rattle.cores.specs.CoreOutputs.{counted15};
 ghost use Rattle.cores_x4.specs.Lanes.{lane16};
-ghost use Rattle.standard.specs.Seals.{without8 as without8Of, with8 as with8Of};
+ghost use Rattle.standard.specs.Seals.{with8 as with8Of};
 ghost use Rattle.hurdle.specs.Lanes.{lanes};
 ghost use Rattle.texts.specs.OpenedTexts.{inputLane, shortened, sealCore, openCore};
 

@@ -1,4 +1,4 @@
-use Rattle.standard.proofs.Prelude.{now, needs}
+use Rattle.standard.proofs.Prelude.{needs}
 use Rattle.lists.proofs.ListReturnLaws.{answer-refused, answer-stopped, answer-done}
 use Rattle.standard.specs.Books.{checkPlain}
 use Rattle.books.proofs.check_plain.Tie as tie

@@ -1,4 +1,4 @@
-use Rattle.standard.proofs.Prelude.{_≡_, refl, _∙_, ℕ, _-_, _*_, _/_, _≤_, zero-le, arith, length, take, length-set, needs}
+use Rattle.standard.proofs.Prelude.{_≡_, refl, _∙_, ℕ, _-_, _≤_, zero-le, arith, length, take, length-set, needs}
 use Rattle.standard.proofs.FillLaws.{fill-next, filled}
 use Rattle.standard.specs.Bytes.{_!_, table, choose}
 use Rattle.standard.specs.Cards.{unreadable as unreadableOf, readable as readableOf}

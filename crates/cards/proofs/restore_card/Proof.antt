@@ -1,6 +1,6 @@
-use Rattle.standard.proofs.Prelude.{_≡_, _∙_, length, now, needs, eq-eqb, ne-eqb}
+use Rattle.standard.proofs.Prelude.{_≡_, length, now, needs, eq-eqb, ne-eqb}
 use Rattle.standard.proofs.BytesLaws.{failed, passed, spelled}
-use Rattle.standard.specs.Cards.{readable as readableOf, restoreCall}
+use Rattle.standard.specs.Cards.{restoreCall}
 use Rattle.cards.proofs.restore_card.Tie as tie
 
 returns : tie.Need-returns

@@ -1,4 +1,4 @@
-use Rattle.standard.proofs.Prelude.{_*_, _/_, arith, length, now, needs}
+use Rattle.standard.proofs.Prelude.{arith, length, now, needs}
 use Rattle.lists.proofs.LengthLaws.{records-within}
 use Rattle.standard.specs.Bytes.{choose}
 use Rattle.standard.specs.Columns.{toColumns, fromColumns}

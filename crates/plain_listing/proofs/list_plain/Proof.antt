@@ -1,4 +1,4 @@
-use Rattle.standard.proofs.Prelude.{_≡_, sym, ap, _∙_, List, ℕ, _≤_, arith, length, now, needs}
+use Rattle.standard.proofs.Prelude.{sym, ap, _∙_, List, ℕ, _≤_, arith, length, now, needs}
 use Rattle.plain_listing.proofs.ListLaws.{accepted-few, listed, listing-refused, listing-entries}
 use Rattle.standard.specs.Listing.{listingRoom}
 use Rattle.standard.specs.declared.BookAnswer.{BookAnswer}

@@ -1,4 +1,4 @@
-use Rattle.standard.proofs.Prelude.{refl, needs}
+use Rattle.standard.proofs.Prelude.{needs}
 use Rattle.plain_listing.proofs.ListLaws.{refused-short}
 use Rattle.standard.specs.Listing.{refusedAt, refusedLine}
 use Rattle.standard.specs.Text.{ascii}

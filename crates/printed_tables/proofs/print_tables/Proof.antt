@@ -1,4 +1,4 @@
-use Rattle.standard.proofs.Prelude.{_≡_, ap, _∙_, now, needs}
+use Rattle.standard.proofs.Prelude.{ap, _∙_, now, needs}
 use Rattle.standard.specs.Tables.{tableLine}
 use Rattle.printed_tables.proofs.PrintLaws.{short, whole}
 use Rattle.printed_tables.proofs.print_tables.Tie as tie

@@ -1,5 +1,4 @@
-use Rattle.standard.proofs.Prelude.{_≡_, refl, sym, ap, _∙_, List, ℕ, suc, _+_, _-_, _%_, _≤_, _<_, zero-le, add-one, arith, length, take, length-set}
-use Rattle.standard.proofs.Prelude.{needs}
+use Rattle.standard.proofs.Prelude.{_≡_, refl, sym, ap, _∙_, List, ℕ, suc, _+_, _-_, _%_, _≤_, zero-le, add-one, arith, length, take, length-set}
 use Rattle.standard.proofs.FillLaws.{fill-next, filled}
 use Rattle.register.proofs.RegisterStateLaws.{rotation-most}
 use Rattle.standard.proofs.ScheduleLaws.{turn-next}

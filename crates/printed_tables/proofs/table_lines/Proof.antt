@@ -1,4 +1,4 @@
-use Rattle.standard.proofs.Prelude.{_≡_, ap, _∙_, List, ℕ, _+_, _-_, _*_, _≤_, zero-le, arith, length, length-take, length-drop, now, needs}
+use Rattle.standard.proofs.Prelude.{_≡_, ap, _∙_, List, ℕ, _-_, _*_, _≤_, zero-le, arith, length, length-take, length-drop, now, needs}
 use Rattle.standard.proofs.BytesLaws.{lent-part}
 use Rattle.standard.proofs.TableLaws.{line-length}
 use Rattle.standard.specs.Lists.{recordAt}

@@ -1,4 +1,4 @@
-use Rattle.standard.proofs.Prelude.{_≡_, refl, zero-le, needs}
+use Rattle.standard.proofs.Prelude.{refl, zero-le, needs}
 use Rattle.programs.proofs.read_ring.Tie as tie
 
 returns : tie.Need-returns

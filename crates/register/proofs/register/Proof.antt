@@ -1,4 +1,4 @@
-use Rattle.standard.proofs.Prelude.{_%_, arith, now, needs, eq-eqb, ne-eqb}
+use Rattle.standard.proofs.Prelude.{arith, now, needs, eq-eqb, ne-eqb}
 use Rattle.standard.proofs.BytesLaws.{spelled}
 use Rattle.standard.proofs.RegisterLaws.{begins-anew}
 use Rattle.standard.specs.Register.{registerCall}

@@ -1,4 +1,4 @@
-use Rattle.standard.proofs.Prelude.{_≡_, refl, _∙_, _+_, _-_, _%_, _≤_, zero-le, arith, now, needs, length, take, length-set}
+use Rattle.standard.proofs.Prelude.{_≡_, refl, _∙_, _+_, _-_, _%_, _≤_, zero-le, arith, length, take, length-set, now, needs}
 use Rattle.standard.proofs.FillLaws.{fill-next, filled}
 use Rattle.standard.specs.Bytes.{_!_, table}
 use Rattle.register.proofs.RegisterStateLaws.{twice-byte}

@@ -1,4 +1,4 @@
-use Rattle.standard.proofs.Prelude.{_≡_, refl, sym, ap, _∙_, List, _++_, ℕ, _-_, _≤_, zero-le, arith, length, take, drop, set, length-set, now}
+use Rattle.standard.proofs.Prelude.{_≡_, refl, ap, _∙_, List, _++_, ℕ, _-_, _≤_, zero-le, arith, length, take, drop, set, length-set, now}
 use Rattle.arrays.proofs.CopyLaws.{copy-next, copied}
 use Rattle.arrays.specs.Least.{Least}
 use Rattle.standard.specs.Bytes.{_!_}

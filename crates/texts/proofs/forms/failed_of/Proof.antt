@@ -1,4 +1,4 @@
-use Rattle.standard.proofs.Prelude.{_∙_, needs}
+use Rattle.standard.proofs.Prelude.{needs}
 use Rattle.texts.proofs.PadLaws.{failed-padded}
 use Rattle.texts.proofs.forms.failed_of.Tie as tie
 

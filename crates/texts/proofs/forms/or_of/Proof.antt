@@ -1,4 +1,4 @@
-use Rattle.standard.proofs.Prelude.{_∙_, needs}
+use Rattle.standard.proofs.Prelude.{needs}
 use Rattle.texts.proofs.PadLaws.{or-padded}
 use Rattle.texts.proofs.forms.or_of.Tie as tie
 
