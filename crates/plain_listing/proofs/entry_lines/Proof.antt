@@ -1,4 +1,4 @@
--- `plain_listing::entry_lines` meets its contract: after i turns the lines of the first i records are over the front of the output.
+-- After i turns the lines of the first i records are over the front of the output.
 -- Assumes nothing.
 use Rattle.standard.proofs.Prelude.{_≡_, ap, _∙_, List, ℕ, _-_, _*_, _≤_, zero-le, arith, length-take, length-drop, now, needs}
 use Rattle.plain_listing.proofs.ListLaws.{entry-short}

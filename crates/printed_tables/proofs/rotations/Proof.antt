@@ -1,3 +1,5 @@
+-- The first i sums are written, and the sum so far is the last of them.
+-- Assumes nothing.
 use Rattle.standard.proofs.Prelude.{_≡_, refl, sym, ap, _∙_, List, ℕ, suc, _+_, _-_, _%_, _≤_, zero-le, add-one, arith, length, take, length-set}
 use Rattle.standard.proofs.FillLaws.{fill-next, filled}
 use Rattle.register.proofs.RegisterStateLaws.{rotation-most}

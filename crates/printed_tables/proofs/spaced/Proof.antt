@@ -1,3 +1,5 @@
+-- The first i bytes are in the line.
+-- Assumes nothing.
 use Rattle.standard.proofs.Prelude.{_≡_, ap, _∙_, List, _++_, ℕ, _-_, _≤_, zero-le, arith, length, take, take-all, now, needs}
 use Rattle.standard.specs.Bytes.{_!_}
 use Rattle.standard.specs.Tables.{spaced}

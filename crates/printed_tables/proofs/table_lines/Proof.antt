@@ -1,3 +1,5 @@
+-- The lines of the first i rows are over the front of the output.
+-- Assumes nothing.
 use Rattle.standard.proofs.Prelude.{_≡_, ap, _∙_, List, ℕ, _-_, _*_, _≤_, zero-le, arith, length, length-take, length-drop, now, needs}
 use Rattle.standard.proofs.BytesLaws.{lent-part}
 use Rattle.standard.proofs.TableLaws.{line-length}

@@ -1,4 +1,4 @@
--- `programs::read_all` meets its contract: each turn reads one byte at least.
+-- Each turn reads one byte at least.
 -- Assumes nothing.
 use Rattle.standard.proofs.Prelude.{_≡_, refl, _-_, _≤_, zero-le, add-zero, arith, length, drop, needs}
 use Rattle.programs.proofs.ReadLaws.{failed, whole, further}

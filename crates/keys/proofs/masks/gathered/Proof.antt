@@ -1,3 +1,5 @@
+-- What bits 15 to i of the mask choose stands at the front, k bytes.
+-- Assumes nothing.
 use Rattle.standard.proofs.Prelude.{_≡_, refl, _∙_, arith, length, length-set}
 use Rattle.keys.proofs.MaskLaws.{Gathered, gather-none, gather-more, gather-past, gather-all}
 use Rattle.standard.specs.Bytes.{bit}

@@ -1,4 +1,4 @@
--- `lineage::walk::scan` meets its contract: the records passed have no fault.
+-- The records passed have no fault.
 -- Assumes nothing.
 use Rattle.standard.proofs.Prelude.{sym, _∙_, _-_, _≤_, zero-le, arith, needs}
 use Rattle.lists.proofs.WalkLaws.{clean-none, clean-more, stopped-at, stopped-not}

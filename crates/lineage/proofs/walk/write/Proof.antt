@@ -1,4 +1,4 @@
--- `lineage::walk::write` meets its contract: the first i parts of the output are the values of the first i records.
+-- The first i parts of the output are the values of the first i records.
 -- Assumes nothing.
 use Rattle.standard.proofs.Prelude.{_≡_, _∙_, _-_, _≤_, zero-le, arith, length, now, needs}
 use Rattle.lineage.proofs.SheetLaws.{value-next}

@@ -1,4 +1,4 @@
--- `lines::Line::digits` meets its contract: each call of itself has one place less.
+-- Each call of itself has one place less.
 -- Assumes nothing.
 use Rattle.standard.proofs.Prelude.{[], _∷_, ℕ, _+_, _-_, _/_, _%_, _<_, arith, needs}
 use borrow.Fn.Kinds.{In}

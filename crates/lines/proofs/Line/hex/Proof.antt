@@ -1,4 +1,4 @@
--- `lines::Line::hex` meets its contract: after i turns the first i bytes are there.
+-- After i turns the first i bytes are there.
 -- Assumes nothing.
 use Rattle.standard.proofs.Prelude.{_≡_, ap, _∙_, List, ℕ, _-_, _≤_, zero-le, arith, length, take, take-all, now, needs}
 use Rattle.lines.proofs.LineLaws.{line-none, line-next}

@@ -1,4 +1,4 @@
--- `lines::Line::word` meets its contract: after i turns the first i bytes of the word are there.
+-- After i turns the first i bytes of the word are there.
 -- Assumes nothing.
 use Rattle.standard.proofs.Prelude.{_≡_, refl, ap, _∙_, List, [], _∷_, ℕ, _-_, _≤_, zero-le, arith, length, take, take-all, now, needs}
 use Rattle.lines.proofs.LineLaws.{line-none, line-next}
