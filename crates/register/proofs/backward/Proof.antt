@@ -1,4 +1,4 @@
--- i rounds are made, and the register has gone back as many steps.
+-- i rounds are made, and the register has gone back a step more than that.
 -- Assumes nothing.
 use Rattle.standard.proofs.Prelude.{_≡_, refl, List, ℕ, _-_, _%_, _≤_, zero-le, arith, needs}
 use Rattle.hurdle.specs.RoundSteps.{spreads, twice}

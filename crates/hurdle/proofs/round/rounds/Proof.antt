@@ -1,4 +1,4 @@
--- i rounds are made.
+-- 2 · i rounds are made.
 -- Assumes nothing.
 use Rattle.standard.proofs.Prelude.{_≡_, refl, ap, _∙_, ℕ, _+_, _-_, _*_, _≤_, zero-le, arith, now}
 use Rattle.hurdle.proofs.RoundLaws.{rounds-more}
