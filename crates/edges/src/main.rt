@@ -35,6 +35,14 @@ fn book(words: &[u8], a: CountedAnswer) {
     end();
 }
 
+fn seal(words: &[u8], plain: &[u8], out: &mut [u8]) {
+    book(words, seal_book(&KEYS, plain, out));
+}
+
+fn open(words: &[u8], sealed: &[u8], out: &mut [u8]) {
+    book(words, open_book(&KEYS, sealed, out));
+}
+
 // A single call's refusal.
 fn single(words: &[u8], refusal: u32) {
     name(words);
@@ -56,8 +64,8 @@ fn longest() {
     let mut sealed = [0u8; 21504];
     let mut again = [0u8; 18432];
     fill(&mut plain);
-    book(b"seal 1024 records", seal_book(&KEYS, &plain, &mut sealed));
-    book(b"open 1024 records", open_book(&KEYS, &sealed, &mut again));
+    seal(b"seal 1024 records", &plain, &mut sealed);
+    open(b"open 1024 records", &sealed, &mut again);
     if check::same(&plain, &again) {
         io::write_all(STDOUT_FILENO, b"the same book\n");
     }
@@ -67,15 +75,15 @@ fn too_long() {
     let mut plain = [0u8; 18450];
     let mut sealed = [0u8; 21525];
     fill(&mut plain);
-    book(b"seal 1025 records", seal_book(&KEYS, &plain, &mut sealed));
-    book(b"open 1025 records", open_book(&KEYS, &sealed, &mut plain));
+    seal(b"seal 1025 records", &plain, &mut sealed);
+    open(b"open 1025 records", &sealed, &mut plain);
 }
 
 fn no_records() {
     let none = [0u8; 0];
     let mut out = [0u8; 1];
-    book(b"seal no records", seal_book(&KEYS, &none, &mut out));
-    book(b"open no records", open_book(&KEYS, &none, &mut out));
+    seal(b"seal no records", &none, &mut out);
+    open(b"open no records", &none, &mut out);
 }
 
 fn numbers() {
@@ -84,12 +92,12 @@ fn numbers() {
     let mut rec = [0u8; 18];
     rec[0] = 2;
     rec[17] = 31;
-    book(b"seal number 31", seal_book(&KEYS, &rec, &mut sealed));
-    book(b"open number 31", open_book(&KEYS, &sealed, &mut again));
+    seal(b"seal number 31", &rec, &mut sealed);
+    open(b"open number 31", &sealed, &mut again);
     sealed[20] = sealed[20] ^ 1;
-    book(b"open a flipped bit", open_book(&KEYS, &sealed, &mut again));
+    open(b"open a flipped bit", &sealed, &mut again);
     rec[17] = 32;
-    book(b"seal number 32", seal_book(&KEYS, &rec, &mut sealed));
+    seal(b"seal number 32", &rec, &mut sealed);
 }
 
 fn single_numbers() {
