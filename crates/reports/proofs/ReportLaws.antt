@@ -1,6 +1,6 @@
 -- The line about an answer: none is longer than a line may be; and the ways in which the line is made.
 -- Assumes nothing.
-use Rattle.standard.proofs.Prelude.{_≡_, refl, sym, ap, _∙_, Bool, true, false, _&&_, List, [], _∷_, ℕ, _≤_, arith, eqb, leb, length, length-append}
+use Rattle.standard.proofs.Prelude.{_≡_, refl, sym, ap, _∙_, Bool, true, false, _&&_, List, [], _∷_, _++_, ℕ, _≤_, arith, eqb, leb, length, length-append}
 use Rattle.standard.proofs.Prelude.{eq-eqb, ne-eqb, leb-true}
 use Rattle.standard.proofs.BytesLaws.{and-split}
 use Rattle.standard.specs.Bytes.{choose}
@@ -49,9 +49,8 @@ counted-line-short a = simp length-append (omega (arith, answer-short (a .refusa
 -- ---- the meaning
 
 -- the text beside a number that the code knows
-pub said : (l : Line) (n k : ℕ) {t : List ℕ} {r : Line} → n ≡ k → r ≡ l ▸ t → t ≡ beside k meanings → r ≡ l ▸ meaning n
-unfolding meaning
-said l n k e f g = f ∙ ap (λ (t : List ℕ). l ▸ t) (g ∙ ap (λ (j : ℕ). beside j meanings) (sym e))
+pub said : (ts : List (ℕ × List ℕ)) (l : Line) (n k : ℕ) {t : List ℕ} {r : Line} → n ≡ k → r ≡ l ▸ t → t ≡ beside k ts → r ≡ l ▸ beside n ts
+said ts l n k e f g = f ∙ ap (λ (t : List ℕ). l ▸ t) (g ∙ ap (λ (j : ℕ). beside j ts) (sym e))
 
 -- what a `match` over the list's numbers knows in its last arm: what was known before, and for each number that n is another
 abbrev pub Rest : Type 0 → ℕ → List (ℕ × List ℕ) → Type 0
@@ -62,16 +61,15 @@ before : (K : Type 0) (n : ℕ) (ts : List (ℕ × List ℕ)) → Rest K n ts �
 before K n [] r = r
 before K n (t ∷ ts) r = before (K × (n ≡ t .0 → ⊥)) n ts r .0
 
-beside-none : (K : Type 0) (n : ℕ) (ts : List (ℕ × List ℕ)) → Rest K n ts → beside n ts ≡ beside n []
-beside-none K n [] r = refl
-beside-none K n (t ∷ ts) r =
+beside-rest : (K : Type 0) (n : ℕ) (ts us : List (ℕ × List ℕ)) → Rest K n ts → beside n (ts ++ us) ≡ beside n us
+beside-rest K n [] us r = refl
+beside-rest K n (t ∷ ts) us r =
     let other = before (K × (n ≡ t .0 → ⊥)) n ts r .1 in
-    ap (λ (b : Bool). choose b (t .1) (beside n ts)) (ne-eqb n (t .0) other) ∙ beside-none (K × (n ≡ t .0 → ⊥)) n ts r
+    ap (λ (b : Bool). choose b (t .1) (beside n (ts ++ us))) (ne-eqb n (t .0) other) ∙ beside-rest (K × (n ≡ t .0 → ⊥)) n ts us r
 
--- the text beside a number that is not in the list
-pub unsaid : (K : Type 0) (l : Line) (n : ℕ) {r : Line} → Rest K n meanings → r ≡ l ▸ beside n [] → r ≡ l ▸ meaning n
-unfolding meaning
-unsaid K l n u f = f ∙ ap (λ (t : List ℕ). l ▸ t) (sym (beside-none K n meanings u))
+-- the text beside a number that is not in the list's front
+pub unsaid : (ts us : List (ℕ × List ℕ)) (K : Type 0) (l : Line) (n : ℕ) {r : Line} → Rest K n ts → r ≡ l ▸ beside n us → r ≡ l ▸ beside n (ts ++ us)
+unsaid ts us K l n u f = f ∙ ap (λ (t : List ℕ). l ▸ t) (sym (beside-rest K n ts us u))
 
 -- ---- refused or not
 

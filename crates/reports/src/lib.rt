@@ -4,8 +4,9 @@ use standard::BookAnswer;
 use standard::CountedAnswer;
 use standard::TextAnswer;
 ghost use mathlib.Core.Path.{_≡_};
+ghost use lib.ListN.{drop};
 ghost use Rattle.standard.specs.Listing.{refusedAt};
-ghost use Rattle.standard.specs.Programs.{meaning as meaningOf, meaningText, wroteText, answerText};
+ghost use Rattle.standard.specs.Programs.{beside, meanings, meaning as meaningOf, meaningText, wroteText, answerText};
 ghost use Rattle.standard.specs.Programs.{answerLine, countedLine, reportCall, countedReportCall};
 ghost use Rattle.lines.specs.Lines.{shown, emptyLine, _▸_};
 
@@ -20,7 +21,7 @@ pub fn refused_at(refusal: u32, index: usize) -> Line
         .decimal(index as u64)
 }
 
-// What a refusal's number means.
+// What a refusal's number means: those of 01, and those that the requests of 02 added.
 fn meaning(l: Line, refusal: u32) -> Line
     ensures { λ r. ⌜ r ≡ l ▸ meaningOf refusal ⌝ }
 {
@@ -37,6 +38,14 @@ fn meaning(l: Line, refusal: u32) -> Line
         10 => l.word(b"value too wide for its field"),
         11 => l.word(b"input of a wrong length"),
         12 => l.word(b"output shorter than the result"),
+        _ => requests_meaning(l, refusal),
+    }
+}
+
+fn requests_meaning(l: Line, refusal: u32) -> Line
+    ensures { λ r. ⌜ r ≡ l ▸ beside refusal (drop 12 meanings) ⌝ }
+{
+    match refusal {
         13 => l.word(b"number of sides not 1 to 3"),
         14 => l.word(b"operation above 5 or wrong filling"),
         15 => l.word(b"parent not before its record"),
