@@ -3,8 +3,8 @@
 use Rattle.standard.proofs.Prelude.{_≡_, refl, ap, ap₂, _∙_, Bool, true, false, List, ℕ, _+_, _-_, _*_, _≤_, _<_, arith, eqb, length, take, drop}
 use Rattle.cores.specs.CoreOutputs.{counted15}
 use Rattle.cores.specs.declared.CoreOutput15.{CoreOutput15}
-use Rattle.lists.proofs.WalkLaws.{end-fits, first-fit, lent, Wrote, wrote-none, wrote-one, wrote-x4}
-use Rattle.lists.specs.Walks.{after, replaceAt, replaceX4}
+use Rattle.lists.proofs.WalkLaws.{end-fits, first-fit, lent, Wrote, wrote-none, wrote-one, wrote-from}
+use Rattle.lists.specs.Walks.{after, replaceAt, replaceFrom}
 use Rattle.records.specs.RecordForms.{coreKey, plainInput, sealedWith, openedWith}
 use Rattle.standard.proofs.AnswerLaws.{pass-most}
 use Rattle.standard.proofs.RunLaws.{inspection-most}
@@ -109,6 +109,6 @@ module _ (r b : List ℕ) (d : Direction) (xs o : List ℕ) where
       wrote-one (sizeOf d) (outputSizeOf d) (convertOf r b d) (converted-length r b d) xs o i (end-fits (outputSizeOf d) i n _ h room) out k e
 
   pub converted-x4 : (i n : ℕ) → i + 4 ≤ n → outputSizeOf d * n ≤ length o → (out : List ℕ) → Converted i out
-      → {exit : List ℕ} → exit ≡ replaceX4 (outputSizeOf d) i (λ j. convertAt r b d xs (after i j)) out → Converted (i + 4) exit
+      → {exit : List ℕ} → exit ≡ replaceFrom (outputSizeOf d) i (λ j. convertAt r b d xs (i + j)) 4 out → Converted (i + 4) exit
   converted-x4 i n h room out k e =
-      wrote-x4 (sizeOf d) (outputSizeOf d) (convertOf r b d) (converted-length r b d) xs o i (first-fit (outputSizeOf d) (i + 4) n _ h room) out k e
+      wrote-from (sizeOf d) (outputSizeOf d) (convertOf r b d) (converted-length r b d) xs o i 4 (first-fit (outputSizeOf d) (i + 4) n _ h room) out k e

@@ -18,7 +18,7 @@ ghost use Prim.Native.Nat.{_+_, _*_, _≤_};
 ghost use lib.ListN.{length, take, drop};
 ghost use Rattle.cores.specs.CoreOutputs.{counted15};
 ghost use Rattle.cores_x4.specs.Lanes.{lane15};
-ghost use Rattle.lists.specs.Walks.{after, replaceAt, replaceX4};
+ghost use Rattle.lists.specs.Walks.{after, replaceAt, replaceFrom};
 ghost use Rattle.standard.specs.Lists.{recordAt};
 ghost use Rattle.standard.specs.Runs.{textRuns};
 ghost use Rattle.hurdle.specs.Lanes.{lanes, eachLane};
@@ -157,13 +157,12 @@ fn write_at_x4(
 )
     requires { ⌜ (sizeOf direction * (i + 4) ≤ length (now book)) × (outputSizeOf direction * (i + 4) ≤ length (now out)) ⌝ }
     ensures { λ _. ⌜ now (out .exit)
-        ≡ replaceX4 (outputSizeOf direction) i
-        (λ j. madeOf direction «identity_strings» (recordAt (sizeOf direction) (now (book .entry)) (after i j)) (lane15 o j .output)) (now (out .entry)) ⌝ }
+        ≡ replaceFrom (outputSizeOf direction) i
+        (λ j. madeOf direction «identity_strings» (recordAt (sizeOf direction) (now (book .entry)) (i + j)) (lane15 o j .output)) 4 (now (out .entry)) ⌝ }
 {
-    write_at(direction, identity_strings, book, i, o[0], out);
-    write_at(direction, identity_strings, book, i + 1, o[1], out);
-    write_at(direction, identity_strings, book, i + 2, o[2], out);
-    write_at(direction, identity_strings, book, i + 3, o[3], out);
+    for j in 0..4 {
+        write_at(direction, identity_strings, book, i + j, o[j], out);
+    }
 }
 
 // Records i to i + 3, converted; the block cipher runs that they took.
@@ -177,7 +176,7 @@ pub(crate) fn convert_x4(
 ) -> usize
     requires { ⌜ (sizeOf direction * (i + 4) ≤ length (now book)) × (outputSizeOf direction * (i + 4) ≤ length (now out)) ⌝ }
     ensures { λ r. ⌜ (now (out .exit)
-        ≡ replaceX4 (outputSizeOf direction) i (λ j. convertAt (now (ring .entry)) «identity_strings» direction (now (book .entry)) (after i j))
+        ≡ replaceFrom (outputSizeOf direction) i (λ j. convertAt (now (ring .entry)) «identity_strings» direction (now (book .entry)) (i + j)) 4
         (now (out .entry)))
         × (r ≡ 4 * textRuns) ⌝ }
 {

@@ -1,9 +1,9 @@
 // A whole class of challenges under one session key: for each the response and the key that TA12 answers. The masks are tested and the
 // round keys made once, and four challenges go side by side.
-use arrays::array10;
-use arrays::array16;
 use arrays::copy;
 use arrays::join_4_10;
+use arrays::part10;
+use arrays::part16;
 use cores::CoreOutput16;
 use cores::bl1_with;
 use cores::exp2;
@@ -22,7 +22,7 @@ ghost use Prim.Native.Nat.{_+_, _*_, _≤_};
 ghost use lib.ListN.{length, drop};
 ghost use Rattle.cores_x4.specs.Lanes.{lane16};
 ghost use Rattle.hurdle.specs.Lanes.{lanes};
-ghost use Rattle.lists.specs.Walks.{after, replaceAt, replaceX4};
+ghost use Rattle.lists.specs.Walks.{after, replaceAt, replaceFrom};
 ghost use Rattle.standard.specs.Classes.{ta12ClassCall};
 ghost use Rattle.standard.specs.Lists.{recordAt, each};
 ghost use Rattle.standard.specs.Sizes.{challengeSize, authenticationSize};
@@ -47,7 +47,7 @@ fn input_at(challenges: &[u8], i: usize) -> [u8; 16]
     ensures { λ r. ⌜ r ≡ inputAt (now (challenges .entry)) i ⌝ }
 {
     let a = CHALLENGE * i;
-    exp2(array10(&challenges[a..a + CHALLENGE]))
+    exp2(part10(&challenges[a..a + CHALLENGE], 0))
 }
 
 // The record of challenge i, under the session key's round keys.
@@ -82,12 +82,12 @@ fn input_at_x4(challenges: &[u8], i: usize) -> [[u8; 16]; 4]
 
 fn write_at_x4(o: [CoreOutput16; 4], response_mask: u16, key_mask: u16, i: usize, out: &mut [u8])
     requires { ⌜ authenticationSize * (i + 4) ≤ length (now out) ⌝ }
-    ensures { λ _. ⌜ now (out .exit) ≡ replaceX4 authenticationSize i (λ j. recordFrom «response_mask» «key_mask» (lane16 o j .output)) (now (out .entry)) ⌝ }
+    ensures { λ _. ⌜ now (out .exit)
+        ≡ replaceFrom authenticationSize i (λ j. recordFrom «response_mask» «key_mask» (lane16 o j .output)) 4 (now (out .entry)) ⌝ }
 {
-    write_at(o[0], response_mask, key_mask, i, out);
-    write_at(o[1], response_mask, key_mask, i + 1, out);
-    write_at(o[2], response_mask, key_mask, i + 2, out);
-    write_at(o[3], response_mask, key_mask, i + 3, out);
+    for j in 0..4 {
+        write_at(o[j], response_mask, key_mask, i + j, out);
+    }
 }
 
 // The records of challenges i to i + 3.
@@ -101,8 +101,8 @@ fn write_x4(
 )
     requires { ⌜ (challengeSize * (i + 4) ≤ length (now challenges)) × (authenticationSize * (i + 4) ≤ length (now out)) ⌝ }
     ensures { λ _. ⌜ now (out .exit)
-        ≡ replaceX4 authenticationSize i
-        (λ j. recordWith (now (keys .entry)) «response_mask» «key_mask» (recordAt challengeSize (now (challenges .entry)) (after i j)))
+        ≡ replaceFrom authenticationSize i
+        (λ j. recordWith (now (keys .entry)) «response_mask» «key_mask» (recordAt challengeSize (now (challenges .entry)) (i + j))) 4
         (now (out .entry)) ⌝ }
 {
     let o = bl1_with_x4(keys, keys, keys, keys, input_at_x4(challenges, i));
@@ -160,7 +160,7 @@ pub fn ta12_class(
     if masks != 0 {
         return BookAnswer::refused(masks, 0);
     }
-    let keys = schedule(array16(session_key));
+    let keys = schedule(part16(session_key, 0));
     let n = challenges.len() / CHALLENGE;
     write(&keys, challenges, response_mask, key_mask, n, out);
     BookAnswer {

@@ -1,14 +1,14 @@
 -- The steps of the two loops over a list, for records of any size: a scan that looks for a fault, and a pass that writes.
 -- Assumes nothing.
-use Rattle.standard.proofs.Prelude.{_≡_, refl, sym, ap, _∙_, subst, _⊎_, inl, inr, List, _++_, append-nil, ℕ, _+_, _-_, _*_, _≤_, _<_}
-use Rattle.standard.proofs.Prelude.{add-sub-cancel-left, mul-zero, mul-suc, mul-le-mul-left, le-of-suc-le-suc, eq-or-lt-of-le, add-one, arith, length}
+use Rattle.standard.proofs.Prelude.{_≡_, refl, sym, ap, _∙_, subst, _⊎_, inl, inr, List, _++_, append-nil, ℕ, zero, suc, _+_, _-_, _*_, _≤_, _<_}
+use Rattle.standard.proofs.Prelude.{add-sub-cancel-left, mul-zero, mul-suc, mul-le-mul-left, le-of-suc-le-suc, eq-or-lt-of-le, add-zero, add-one, arith, length}
 use Rattle.standard.proofs.Prelude.{take, drop, length-append, length-take, length-drop, drop-of-length-le, take-all, take-at, drop-at, drop-drop}
 use mathlib.Core.List.{append-assoc}
 use Rattle.standard.proofs.AnswerLaws.{first-fault, first-one}
 use Rattle.standard.proofs.BookLaws.{joined-length, joined-at}
 use Rattle.standard.proofs.BytesLaws.{lent-part, part-left}
 use Rattle.standard.specs.Lists.{recordAt, joined}
-use Rattle.lists.specs.Walks.{Clean, Stopped, replaceAt, after, replaceX4}
+use Rattle.lists.specs.Walks.{Clean, Stopped, replaceAt, replaceFrom}
 
 -- the end of record i of n
 pub ends : (w i n : ℕ) → i < n → w * i + w ≤ w * n
@@ -133,21 +133,34 @@ replaced-lent v i out y exit room l e =
     let whole : exit ≡ y = overwritten v (take (v * i + v - v * i) (drop (v * i) out)) y exit (lent-length v i out room) l e in
     rw (whole, add-sub-cancel-left (v * i) v, drop-drop v (v * i) out)
 
--- string i at its place; then the four from i on at theirs
+-- n strings from place i on stand in an output that was out₀
+pub record ReplacedFrom (v i : ℕ) (g : ℕ → List ℕ) (out₀ : List ℕ) (n : ℕ) (out : List ℕ) : Type 0 where
+  pub bytes : out ≡ replaceFrom v i g n out₀
+  pub kept : length out ≡ length out₀
+
+pub replaced-none : (v i : ℕ) (g : ℕ → List ℕ) (out₀ : List ℕ) → ReplacedFrom v i g out₀ 0 out₀
+replaced-none v i g out₀ = record { bytes = refl; kept = refl }
+
+pub replaced-more : (v i n : ℕ) (g : ℕ → List ℕ) (out₀ : List ℕ) {out next : List ℕ} → length (g n) ≡ v → v * (i + n) + v ≤ length out₀
+    → ReplacedFrom v i g out₀ n out → next ≡ replaceAt v (i + n) (g n) out → ReplacedFrom v i g out₀ (n + 1) next
+replaced-more v i n g out₀ {out} long room h e = record {
+  bytes = rw (add-one n, e, h .bytes);
+  kept = ap length e ∙ simp (length-append, length-take, length-drop) (omega (arith, long, room, h .kept));
+}
+
+-- string i at its place; then n strings from i on at theirs
 module _ (v : ℕ) (g : ℕ → List ℕ) (long : (i : ℕ) → length (g i) ≡ v) (out₀ : List ℕ) where
   prefix-replaced : (i j : ℕ) → j ≡ i + 1 → (out : List ℕ) → PrefixWritten v g out₀ i out → v * i + v ≤ length out₀
       → PrefixWritten v g out₀ j (replaceAt v i (g i) out)
   prefix-replaced i j e out h room =
       rw e (rw (add-sub-cancel-left (v * i) v, drop-drop v (v * i) out) at (prefix-next v g long out₀ i out h room (g i) refl))
 
-  prefix-x4 : (i : ℕ) → v * (i + 4) ≤ length out₀ → (out : List ℕ) → PrefixWritten v g out₀ i out
-      → PrefixWritten v g out₀ (i + 4) (replaceX4 v i (λ j. g (after i j)) out)
-  prefix-x4 i room out h =
-      let fits : (j : ℕ) → j < i + 4 → v * j + v ≤ length out₀ = λ j l. end-fits v j (i + 4) _ l room in
-      let one = prefix-replaced i (i + 1) refl out h (fits i (omega arith)) in
-      let two = prefix-replaced (i + 1) (i + 2) (omega arith) _ one (fits (i + 1) (omega arith)) in
-      let three = prefix-replaced (i + 2) (i + 3) (omega arith) _ two (fits (i + 2) (omega arith)) in
-      prefix-replaced (i + 3) (i + 4) (omega arith) _ three (fits (i + 3) (omega arith))
+  prefix-from : (i n : ℕ) → v * (i + n) ≤ length out₀ → (out : List ℕ) → PrefixWritten v g out₀ i out
+      → PrefixWritten v g out₀ (i + n) (replaceFrom v i (λ j. g (i + j)) n out)
+  prefix-from i zero room out h = rw add-zero h
+  prefix-from i (suc n) room out h =
+      let before = prefix-from i n (first-fit v (i + n) (i + suc n) _ (omega arith) room) out h in
+      prefix-replaced (i + n) (i + suc n) (omega arith) _ before (end-fits v (i + n) (i + suc n) _ (omega arith) room)
 
 -- ---- where f makes the records of v bytes from records of w
 
@@ -158,12 +171,12 @@ module _ (w v : ℕ) (f : List ℕ → List ℕ) (long : (x : List ℕ) → leng
   pub wrote-none : Wrote w v f xs out₀ 0 out₀
   wrote-none = prefix-none v (λ j. f (recordAt w xs j)) (λ j. long (recordAt w xs j)) out₀
 
-  -- record i at its place; then four of them
+  -- record i at its place; then n of them
   pub wrote-one : (i : ℕ) → v * i + v ≤ length out₀ → (out : List ℕ) → Wrote w v f xs out₀ i out
       → {exit : List ℕ} → exit ≡ replaceAt v i (f (recordAt w xs i)) out → Wrote w v f xs out₀ (i + 1) exit
   wrote-one i room out k e =
       rw e (prefix-replaced v (λ j. f (recordAt w xs j)) (λ j. long (recordAt w xs j)) out₀ i (i + 1) refl out k room)
 
-  pub wrote-x4 : (i : ℕ) → v * (i + 4) ≤ length out₀ → (out : List ℕ) → Wrote w v f xs out₀ i out
-      → {exit : List ℕ} → exit ≡ replaceX4 v i (λ j. f (recordAt w xs (after i j))) out → Wrote w v f xs out₀ (i + 4) exit
-  wrote-x4 i room out k e = rw e (prefix-x4 v (λ j. f (recordAt w xs j)) (λ j. long (recordAt w xs j)) out₀ i room out k)
+  pub wrote-from : (i n : ℕ) → v * (i + n) ≤ length out₀ → (out : List ℕ) → Wrote w v f xs out₀ i out
+      → {exit : List ℕ} → exit ≡ replaceFrom v i (λ j. f (recordAt w xs (i + j))) n out → Wrote w v f xs out₀ (i + n) exit
+  wrote-from i n room out k e = rw e (prefix-from v (λ j. f (recordAt w xs j)) (λ j. long (recordAt w xs j)) out₀ i n room out k)

@@ -26,6 +26,7 @@ abbrev pub after : ℕ → ℕ → ℕ
 after i zero = i
 after i (suc j) = i + suc j
 
--- four strings, from place i on
-abbrev pub replaceX4 : (v i : ℕ) → (ℕ → List ℕ) → List ℕ → List ℕ
-replaceX4 v i g out = replaceAt v (i + 3) (g 3) (replaceAt v (i + 2) (g 2) (replaceAt v (i + 1) (g 1) (replaceAt v i (g 0) out)))
+-- n strings, from place i on
+abbrev pub replaceFrom : (v i : ℕ) → (ℕ → List ℕ) → ℕ → List ℕ → List ℕ
+replaceFrom v i g zero out = out
+replaceFrom v i g (suc n) out = replaceAt v (i + n) (g n) (replaceFrom v i g n out)

@@ -9,7 +9,7 @@ returns : tie.Need-returns
 returns c =
     let x = c .before .before .before .before .args in
     c .exp2 .ensures
-    ∙ ap exp2 (c .before .array10 .ensures ∙ ap (λ (y : List ℕ). part 0 challengeSize y) (lent challengeSize (x .i) (now (x .challenges)) (search needs)))
+    ∙ ap exp2 (c .before .part10 .ensures ∙ ap (λ (y : List ℕ). part 0 challengeSize y) (lent challengeSize (x .i) (now (x .challenges)) (search needs)))
 
 pub input-at-spec : {M : Type 1} → Rattle.classes.proofs.input_at.Statement.statement M
 input-at-spec =

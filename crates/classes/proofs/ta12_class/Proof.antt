@@ -47,7 +47,7 @@ returns-4 c =
     let n = length (now (x .challenges)) / challengeSize in
     let none : masks .mask-refusal .result ≡ 0 = made .before .before .before .before .before .if3 .left in
     let keys = made .before .before .before .schedule .ensures
-    ∙ ap schedule (made .before .before .before .before .array16 .ensures ∙ spelled 16 (now (x .session-key)) h) in
+    ∙ ap schedule (made .before .before .before .before .part16 .ensures ∙ spelled 16 (now (x .session-key)) h) in
     let written = rw keys at (made .write .ensures) in
     all-written (now (x .session-key)) (now (x .challenges)) (x .response-mask) (x .key-mask) (now (x .out)) h _
     (lens .lengths-and-output .ensures) (masks .before .if2 .left) _ (masks .mask-refusal .ensures) none _

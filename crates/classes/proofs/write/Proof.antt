@@ -1,7 +1,7 @@
 -- The first i parts of the output are the records of the first i challenges.
 -- Assumes nothing.
 use Rattle.standard.proofs.Prelude.{_≡_, List, ℕ, _+_, _-_, _≤_, zero-le, arith, now}
-use Rattle.lists.proofs.WalkLaws.{Wrote, wrote-none, wrote-one, wrote-x4}
+use Rattle.lists.proofs.WalkLaws.{Wrote, wrote-none, wrote-one, wrote-from}
 use Rattle.standard.specs.Sizes.{challengeSize, authenticationSize}
 use Rattle.classes.proofs.ClassLaws.{record-length}
 use Rattle.classes.specs.ClassRecords.{recordWith}
@@ -53,9 +53,9 @@ loop-again c =
     let x = start .args in
     let few : at .i + 4 ≤ x .n = omega (arith, at .inv .0, c .before .before .before .before .loop-test .taken) in (
       few,
-      wrote-x4 challengeSize authenticationSize (recordWith (now (x .keys)) (x .response-mask) (x .key-mask))
+      wrote-from challengeSize authenticationSize (recordWith (now (x .keys)) (x .response-mask) (x .key-mask))
           (record-length (now (x .keys)) (x .response-mask) (x .key-mask))
-          (now (x .challenges)) (now (x .out)) (at .i) (omega (arith, few, start .pre .1)) (at .out) (at .inv .1) (c .before .before .write-x4 .ensures),
+          (now (x .challenges)) (now (x .out)) (at .i) 4 (omega (arith, few, start .pre .1)) (at .out) (at .inv .1) (c .before .before .write-x4 .ensures),
     )
 
 loop2-holds : tie.Need-loop2-holds Inv-loop μ-loop Inv-loop2 μ-loop2

@@ -1,4 +1,4 @@
-use Rattle.standard.proofs.Prelude.{arith, now, needs}
+use Rattle.standard.proofs.Prelude.{add-zero, arith, now, needs}
 use Rattle.books.proofs.DirectionLaws.{cores-by}
 use Rattle.books.proofs.convert.convert_x4.Tie as tie
 
@@ -10,7 +10,7 @@ returns c =
     let cores = c .before .before .before .before .before in
     let x = cores .before .before .before .before .args in
     let o = cores-by (x .direction) (now (x .ring)) (now (x .book)) (x .i) (cores .before .core-input-at-x4 .ensures) (cores .core-x4 .ensures) in
-    (rw (c .before .before .before .write-at-x4 .ensures, o), rw (c .runs-x4 .ensures, o))
+    (rw (c .before .before .before .write-at-x4 .ensures, o, add-zero), rw (c .runs-x4 .ensures, o))
 
 pub convert-x4-spec : {M : Type 1} → Rattle.books.proofs.convert.convert_x4.Statement.statement M
 convert-x4-spec =

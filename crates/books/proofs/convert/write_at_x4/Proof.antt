@@ -1,54 +1,64 @@
-use Rattle.standard.proofs.Prelude.{_+_, arith, needs}
-use Rattle.books.proofs.DirectionLaws.{both-ends, places-fit}
+-- The first j of the four records stand at their places.
+-- Assumes nothing.
+use Rattle.standard.proofs.Prelude.{_≡_, List, ℕ, _+_, _-_, _≤_, _<_, zero-le, arith, now}
+use Rattle.books.proofs.DirectionLaws.{both-ends, places-fit, made-length}
+use Rattle.books.specs.BothDirections.{sizeOf, outputSizeOf, madeOf}
+use Rattle.cores_x4.specs.Lanes.{lane15}
+use Rattle.lists.proofs.WalkLaws.{ReplacedFrom, replaced-none, replaced-more}
+use Rattle.standard.specs.Lists.{recordAt}
 use Rattle.books.proofs.convert.write_at_x4.Tie as tie
 
-add-write-at : tie.Need-add-write-at
+abbrev Inv-loop : tie.InvT-loop
+Inv-loop direction identity-strings book i out₀ o j₀ out j =
+    (j ≤ 4)
+    × ReplacedFrom (outputSizeOf direction) i
+    (λ k. madeOf direction identity-strings (recordAt (sizeOf direction) book (i + k)) (lane15 o k .output)) out₀ j out
+
+abbrev μ-loop : tie.MeasureT-loop
+μ-loop direction identity-strings book i out₀ o j₀ out j = 4 - j
+
+loop-holds : tie.Need-loop-holds Inv-loop μ-loop
+loop-holds c = let x = c .before .before .args in (zero-le, replaced-none (outputSizeOf (x .direction)) (x .i) _ (now (x .out)))
+
+add-write-at : tie.Need-add-write-at Inv-loop μ-loop
 add-write-at c =
-    let start = c .before .before .before .before .before .before .before in
-    omega (arith, places-fit (start .args .direction) (start .args .i) _ (start .pre .0))
+    let start = c .before .before .before .before in
+    omega (arith, places-fit (start .args .direction) (start .args .i) _ (start .pre .0), c .loop-test .taken)
 
-write-at-requires-2 : tie.Need-write-at-requires-2
-write-at-requires-2 c κs =
-    let start = c .before .before .before .before .before .before .before .before .before in
+write-at-requires : tie.Need-write-at-requires Inv-loop μ-loop
+write-at-requires c κs =
+    let turn = c .before .before in
+    let at = turn .before .loop in
+    let start = turn .before .before .before .before in
     let x = start .args in
-    let ends = both-ends (x .direction) (x .i + 1) (x .i + 4) _ _ (omega arith) (start .pre) in
-    search (needs, ends .0, ends .1)
+    let one : x .i + at .j < x .i + 4 = omega (arith, turn .loop-test .taken) in
+    let ends = both-ends (x .direction) (x .i + at .j) (x .i + 4) _ _ one (start .pre) in
+    (ends .0, omega (arith, ends .1, at .inv .1 .kept))
 
-add-write-at-2 : tie.Need-add-write-at-2
-add-write-at-2 c =
-    let start = c .before .before .before .before .before .before .before .before .before .before .before .before in
-    omega (arith, places-fit (start .args .direction) (start .args .i) _ (start .pre .0))
-
-write-at-requires-3 : tie.Need-write-at-requires-3
-write-at-requires-3 c κs =
-    let start = c .before .before .before .before .before .before .before .before .before .before .before .before .before .before in
+loop-again : tie.Need-loop-again Inv-loop μ-loop
+loop-again c =
+    let turn = c .before .before .before .before .before in
+    let at = turn .before .loop in
+    let start = turn .before .before .before .before in
     let x = start .args in
-    let ends = both-ends (x .direction) (x .i + 2) (x .i + 4) _ _ (omega arith) (start .pre) in
-    search (needs, ends .0, ends .1)
+    let made : ℕ → List ℕ = λ k.
+    madeOf (x .direction) (x .identity-strings) (recordAt (sizeOf (x .direction)) (now (x .book)) (x .i + k)) (lane15 (x .t5) k .output) in
+    let one : x .i + at .j < x .i + 4 = omega (arith, turn .loop-test .taken) in
+    let ends = both-ends (x .direction) (x .i + at .j) (x .i + 4) _ _ one (start .pre) in
+    let long = made-length (x .direction) (x .identity-strings) _ _ in
+    let more = replaced-more (outputSizeOf (x .direction)) (x .i) (at .j) made (now (x .out)) long (ends .1) in
+    (omega arith, more (at .inv .1) (c .before .before .write-at .ensures))
 
-add-write-at-3 : tie.Need-add-write-at-3
-add-write-at-3 c =
-    let start = c .before .before .before .before .before .before .before .before .before .before .before .before .before .before .before .before .before in
-    omega (arith, places-fit (start .args .direction) (start .args .i) _ (start .pre .0))
+same-length : tie.Need-same-length Inv-loop μ-loop
+same-length c = c .before .loop .inv .1 .kept
 
-write-at-requires-4 : tie.Need-write-at-requires-4
-write-at-requires-4 c κs =
-    let third = c .before .before .before .before .before .before .before .before .before in
-    let start = third .before .before .before .before .before .before .before .before .before .before in
-    let x = start .args in
-    let ends = both-ends (x .direction) (x .i + 3) (x .i + 4) _ _ (omega arith) (start .pre) in
-    search (needs, ends .0, ends .1)
-
-returns : tie.Need-returns
+returns : tie.Need-returns Inv-loop μ-loop
 returns c =
-    let fourth = c .before .before in
-    let third = fourth .before .before .before .before .before in
-    let second = third .before .before .before .before .before in
-    let first = second .before .before .before .before .before in
-    rw (fourth .write-at4 .ensures, third .write-at3 .ensures, second .write-at2 .ensures, first .write-at .ensures)
+    let e : c .before .loop .j ≡ 4 = omega (arith, c .before .loop .inv .0, c .loop-test .left) in
+    rw e at (c .before .loop .inv .1 .bytes)
 
 pub write-at-x4-spec : {M : Type 1} → Rattle.books.proofs.convert.write_at_x4.Statement.statement M
 write-at-x4-spec =
     tie.close
-    (tie.spec (λ c. search needs) (λ c κs. search needs) add-write-at (λ c. search needs) write-at-requires-2 add-write-at-2 (λ c. search needs)
-    write-at-requires-3 add-write-at-3 (λ c. search needs) write-at-requires-4 (λ c. search needs) returns)
+    (tie.spec Inv-loop μ-loop loop-holds add-write-at (λ c. omega arith) (λ c. omega arith) write-at-requires (λ c. omega arith) (λ c. omega arith)
+    loop-again same-length returns)
