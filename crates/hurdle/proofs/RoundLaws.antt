@@ -9,7 +9,7 @@ use lib.Bits.{bitXor, xor-shr, xor-mod}
 use Rattle.hurdle.specs.declared.round.Halves.{Halves as Words}
 use Rattle.standard.specs.Bytes.{_!_, byte, bit, _⊕_, _⊞_, table, xors, bytesOf}
 use Rattle.standard.specs.Hurdle.{S, E, T, ofBits, f, Halves, round, rounds, crypt, roundKey}
-use Rattle.hurdle.specs.RoundSteps.{bytes4, halfBytes, linked, linksOver, lastOver, nibblesOver, fOver, spreadOf, spreads, twice}
+use Rattle.hurdle.specs.RoundSteps.{bytes4, halfBytes, linked, linksOver, lastOver, nibblesOver, secondOver, thirdOver, fOver, spreadOf, spreads, twice}
 use Rattle.hurdle.specs.RoundSteps.{exchangedBy, roundOver, roundsOver, HalvesOf, place}
 
 -- ---- the bits
@@ -130,7 +130,7 @@ both-nibbles : (a b : ℕ) → (a % 4294967296 + 16 * (b % 4294967296)) % 429496
 both-nibbles a b = omega arith
 
 f-spread : (x k : List ℕ) → fOver twice spreads x k ≡ ofBits (λ m. spreadOf (T x k (m + 4))) % 4294967296
-unfolding fOver
+unfolding fOver secondOver thirdOver
 f-spread x k =
     rw (last (links-0 x k), last (links-4 x k), nibbles (links-4 x k), nibbles (links-8 x k))
     (both-nibbles _ _ ∙ ap (λ (n : ℕ). n % 4294967296) (omega arith))

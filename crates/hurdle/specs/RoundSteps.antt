@@ -45,11 +45,11 @@ abbrev pub firstOver : (s x k : List ℕ) → ℕ
 firstOver s x k = lastOver s (linksOver s 0 x k 0)
 
 -- T7 and the bits of T4 to T7, after t
-abbrev pub secondOver : (s w : List ℕ) (t : ℕ) (x k : List ℕ) → Part
+unfoldable pub secondOver : (s w : List ℕ) (t : ℕ) (x k : List ℕ) → Part
 secondOver s w t x k = record { t = lastOver s (linksOver s t x k 4); y = nibblesOver w (linksOver s t x k 4) }
 
 -- with the bits of T8 to T11
-abbrev pub thirdOver : (s w : List ℕ) → Part → (x k : List ℕ) → ℕ
+unfoldable pub thirdOver : (s w : List ℕ) → Part → (x k : List ℕ) → ℕ
 thirdOver s w p x k = (p .y + 16 * nibblesOver w (linksOver s (p .t) x k 8)) % 4294967296
 
 unfoldable pub fOver : (s w x k : List ℕ) → ℕ

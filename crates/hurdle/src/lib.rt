@@ -9,9 +9,9 @@ use crate::lanes::crypt_x4;
 use crate::round::crypt;
 use crate::tables::S_INVERSE;
 use crate::tables::entry;
-use arrays::array8;
-use arrays::array16;
 use arrays::have_lengths;
+use arrays::part8;
+use arrays::part16;
 pub use key_schedule::doubled;
 pub use round::Halves;
 pub use round::joined;
@@ -29,7 +29,7 @@ ghost use Rattle.standard.specs.Bytes.{_!_, table};
 ghost use Rattle.hurdle.specs.Lanes.{lanes, lane, byLane};
 ghost use Rattle.hurdle.specs.RoundSteps.{cryptCall};
 ghost use Rattle.standard.specs.Hurdle.{S as sOf, S⁻¹ as sInverseOf, schedule as scheduleOf, encryptWith, decryptWith};
-ghost use Rattle.standard.specs.Hurdle.{encrypt as encryptOf, decrypt as decryptOf, encryptCall, decryptCall};
+ghost use Rattle.standard.specs.Hurdle.{encrypt as encryptOf, encryptCall, decryptCall};
 
 // All sixteen round keys, the first one first.
 pub fn schedule(key: [u8; 16]) -> [u8; 192]
@@ -84,32 +84,23 @@ pub fn encrypt_block(key: [u8; 16], block: [u8; 8]) -> [u8; 8]
     crypt(&keys, block, false)
 }
 
-pub fn decrypt_block(key: [u8; 16], block: [u8; 8]) -> [u8; 8]
-    ensures { λ r. ⌜ r ≡ decryptOf key block ⌝ }
+fn entries(s: &[u8; 256], x: [u8; 3]) -> [u8; 3]
+    ensures { λ r. ⌜ r ≡ table 3 (λ i. now (s .entry) ! (x ! i)) ⌝ }
 {
-    let keys = lay_out_round_keys(key);
-    crypt(&keys, block, true)
+    [entry(s, x[0]), entry(s, x[1]), entry(s, x[2])]
 }
 
 // S at each of three bytes, as TA61's permutation takes it.
 pub fn substitute(x: [u8; 3]) -> [u8; 3]
     ensures { λ r. ⌜ r ≡ table 3 (λ i. sOf ! (x ! i)) ⌝ }
 {
-    let s = S;
-    let a = entry(&s, x[0]);
-    let b = entry(&s, x[1]);
-    let c = entry(&s, x[2]);
-    [a, b, c]
+    entries(&S, x)
 }
 
 pub fn substitute_back(x: [u8; 3]) -> [u8; 3]
     ensures { λ r. ⌜ r ≡ table 3 (λ i. sInverseOf ! (x ! i)) ⌝ }
 {
-    let s = S_INVERSE;
-    let a = entry(&s, x[0]);
-    let b = entry(&s, x[1]);
-    let c = entry(&s, x[2]);
-    [a, b, c]
+    entries(&S_INVERSE, x)
 }
 
 // A call in either direction, over strings of any length.
@@ -119,10 +110,10 @@ fn crypted(key: &[u8], block: &[u8], back: bool) -> Bytes8
     if !have_lengths(key, 16, block, 8) {
         return Bytes8::refused(WRONG_LENGTH);
     }
-    let keys = lay_out_round_keys(array16(key));
+    let keys = lay_out_round_keys(part16(key, 0));
     Bytes8 {
         refusal: 0,
-        bytes: crypt(&keys, array8(block), back),
+        bytes: crypt(&keys, part8(block, 0), back),
     }
 }
 

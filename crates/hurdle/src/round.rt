@@ -6,7 +6,7 @@ use crate::tables::spread;
 use arrays::word;
 ghost use mathlib.Core.List.{_++_};
 ghost use mathlib.Core.Path.{_≡_};
-ghost use Prim.Native.Nat.{_+_, _<_, _≤_};
+ghost use Prim.Native.Nat.{_+_, _-_, _<_, _≤_};
 ghost use lib.ListN.{length};
 ghost use Rattle.standard.specs.Bytes.{_!_, byte, _⊕_, table, part};
 ghost use Rattle.standard.specs.Hurdle.{crypt as cryptOf, roundKey};
@@ -54,13 +54,25 @@ fn nibbles(w: &[u32; 256], i: [usize; 4]) -> u32
     ((a + 2 * b + 4 * c + 8 * d) % 4294967296) as u32
 }
 
+// Of the round key from index `at` on, the four bytes at n to n + 3, the rightmost first.
+fn key_bytes(k: &[u8], at: usize, n: usize) -> [u8; 4]
+    requires { ⌜ (at + 12 ≤ length (now k)) × (n ≤ 8) ⌝ }
+    ensures { λ r. ⌜ r ≡ table 4 (λ j. now (k .entry) ! (at + (n + (3 - j)))) ⌝ }
+{
+    [
+        k[at + (n + 3)],
+        k[at + (n + 2)],
+        k[at + (n + 1)],
+        k[at + (n + 0)],
+    ]
+}
+
 // f's chain in three fours of links, under the round key of twelve bytes from index `at` on. The first ends with T3; T0 is a link after 0.
 pub(crate) fn first(s: &[u8; 512], x: u32, k: &[u8], at: usize) -> u8
     requires { ⌜ at + 12 ≤ length (now k) ⌝ }
     ensures { λ r. ⌜ r ≡ firstOver (now (s .entry)) (bytes4 x) (part at 12 (now (k .entry))) ⌝ }
 {
-    let e = half_bytes(x);
-    let i = links(s, 0, e, [k[at + 11], k[at + 10], k[at + 9], k[at + 8]]);
+    let i = links(s, 0, half_bytes(x), key_bytes(k, at, 8));
     chained(s, i[3])
 }
 
@@ -75,12 +87,7 @@ pub(crate) fn second(s: &[u8; 512], w: &[u32; 256], t: u8, x: u32, k: &[u8], at:
     ensures { λ r. ⌜ r ≡ secondOver (now (s .entry)) (now (w .entry)) t (bytes4 x) (part at 12 (now (k .entry))) ⌝ }
 {
     let e = half_bytes(x);
-    let i = links(
-        s,
-        t,
-        [e[0], e[2], e[1], e[3]],
-        [k[at + 7], k[at + 6], k[at + 5], k[at + 4]],
-    );
+    let i = links(s, t, [e[0], e[2], e[1], e[3]], key_bytes(k, at, 4));
     Part {
         t: chained(s, i[3]),
         y: nibbles(w, i),
@@ -93,12 +100,7 @@ pub(crate) fn third(s: &[u8; 512], w: &[u32; 256], p: Part, x: u32, k: &[u8], at
     ensures { λ r. ⌜ r ≡ thirdOver (now (s .entry)) (now (w .entry)) p (bytes4 x) (part at 12 (now (k .entry))) ⌝ }
 {
     let e = half_bytes(x);
-    let i = links(
-        s,
-        p.t,
-        [e[2], e[0], e[3], e[1]],
-        [k[at + 3], k[at + 2], k[at + 1], k[at]],
-    );
+    let i = links(s, p.t, [e[2], e[0], e[3], e[1]], key_bytes(k, at, 0));
     let high = nibbles(w, i) as u64;
     ((p.y as u64 + 16 * high) % 4294967296) as u32
 }

@@ -6,10 +6,10 @@ returns : tie.Need-returns
 unfolding linksOver
 returns c =
     let linked = c .before in
-    rw (c .chained .ensures, linked .links .ensures, linked .before .before .before .before .before .half-bytes .ensures)
+    rw (c .chained .ensures, linked .links .ensures, linked .before .key-bytes .ensures, linked .before .before .half-bytes .ensures)
 
 pub first-spec : {M : Type 1} → Rattle.hurdle.proofs.round.first.Statement.statement M
 first-spec =
     tie.close
-    (tie.spec (λ c κs. search needs) (λ c. search needs) (λ c. search needs) (λ c. search needs) (λ c. search needs) (λ c. search needs)
-    (λ c. search needs) (λ c. search needs) (λ c. search needs) (λ c κs. search needs) (λ c. search needs) (λ c κs. search needs) returns)
+    (tie.spec (λ c κs. search needs) (λ c κs. search needs) (λ c κs. search needs) (λ c. search needs) (λ c κs. search needs)
+    returns)

@@ -1,16 +1,16 @@
 use Rattle.standard.proofs.Prelude.{needs}
-use Rattle.hurdle.specs.RoundSteps.{linksOver}
+use Rattle.hurdle.specs.RoundSteps.{linksOver, secondOver}
 use Rattle.hurdle.proofs.round.second.Tie as tie
 
 returns : tie.Need-returns
-unfolding linksOver
+unfolding linksOver secondOver
 returns c =
     let linked = c .before .before in
-    rw (c .nibbles .ensures, c .before .chained .ensures, linked .links .ensures, linked .before .before .before .before .before .half-bytes .ensures)
+    rw (c .nibbles .ensures, c .before .chained .ensures, linked .links .ensures)
+    (rw (linked .before .key-bytes .ensures, linked .before .before .half-bytes .ensures))
 
 pub second-spec : {M : Type 1} → Rattle.hurdle.proofs.round.second.Statement.statement M
 second-spec =
     tie.close
-    (tie.spec (λ c κs. search needs) (λ c. search needs) (λ c. search needs) (λ c. search needs) (λ c. search needs) (λ c. search needs)
-    (λ c. search needs) (λ c. search needs) (λ c. search needs) (λ c. search needs) (λ c. search needs) (λ c. search needs) (λ c. search needs)
-    (λ c κs. search needs) (λ c. search needs) (λ c κs. search needs) (λ c κs. search needs) returns)
+    (tie.spec (λ c κs. search needs) (λ c. search needs) (λ c. search needs) (λ c. search needs) (λ c. search needs)
+    (λ c κs. search needs) (λ c κs. search needs) (λ c. search needs) (λ c κs. search needs) (λ c κs. search needs) returns)
