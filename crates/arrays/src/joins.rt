@@ -40,6 +40,14 @@ pub fn join_6_15(a: [u8; 6], b: [u8; 15]) -> [u8; 21]
     out
 }
 
+pub fn join_7_8(a: [u8; 7], b: [u8; 8]) -> [u8; 15]
+    ensures { λ r. ⌜ r ≡ part 0 7 a ++ part 0 8 b ⌝ }
+{
+    let mut out = [0u8; 15];
+    join(&a, 7, &b, &mut out);
+    out
+}
+
 pub fn join_8_8(a: [u8; 8], b: [u8; 8]) -> [u8; 16]
     ensures { λ r. ⌜ r ≡ part 0 8 a ++ part 0 8 b ⌝ }
 {

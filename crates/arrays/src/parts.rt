@@ -47,6 +47,14 @@ pub fn part3(s: &[u8], from: usize) -> [u8; 3]
     a
 }
 
+pub fn part7(s: &[u8], from: usize) -> [u8; 7]
+    ensures { λ r. ⌜ r ≡ part from 7 (now (s .entry)) ⌝ }
+{
+    let mut a = [0u8; 7];
+    read(s, from, &mut a);
+    a
+}
+
 pub fn part8(s: &[u8], from: usize) -> [u8; 8]
     ensures { λ r. ⌜ r ≡ part from 8 (now (s .entry)) ⌝ }
 {
@@ -85,35 +93,4 @@ pub fn part16(s: &[u8], from: usize) -> [u8; 16]
     let mut a = [0u8; 16];
     read(s, from, &mut a);
     a
-}
-
-// The first bytes.
-pub fn array8(s: &[u8]) -> [u8; 8]
-    ensures { λ r. ⌜ r ≡ part 0 8 (now (s .entry)) ⌝ }
-{
-    part8(s, 0)
-}
-
-pub fn array10(s: &[u8]) -> [u8; 10]
-    ensures { λ r. ⌜ r ≡ part 0 10 (now (s .entry)) ⌝ }
-{
-    part10(s, 0)
-}
-
-pub fn array12(s: &[u8]) -> [u8; 12]
-    ensures { λ r. ⌜ r ≡ part 0 12 (now (s .entry)) ⌝ }
-{
-    part12(s, 0)
-}
-
-pub fn array15(s: &[u8]) -> [u8; 15]
-    ensures { λ r. ⌜ r ≡ part 0 15 (now (s .entry)) ⌝ }
-{
-    part15(s, 0)
-}
-
-pub fn array16(s: &[u8]) -> [u8; 16]
-    ensures { λ r. ⌜ r ≡ part 0 16 (now (s .entry)) ⌝ }
-{
-    part16(s, 0)
 }

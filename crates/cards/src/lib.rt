@@ -1,5 +1,5 @@
 // Smudged key cards: a group key in its TB7 form, of which some bytes are unreadable, restored group by group.
-use arrays::array16;
+use arrays::part16;
 use standard::Card;
 use standard::GROUP_DISAGREES;
 use standard::GROUP_UNREADABLE;
@@ -127,7 +127,7 @@ pub fn restore_card(card: &[u8], unreadable: u16) -> Card
     if !at_most_one(unreadable) {
         return Card::refused(GROUP_UNREADABLE);
     }
-    let read = readable(array16(card), unreadable);
+    let read = readable(part16(card, 0), unreadable);
     if !agree(read, unreadable) {
         return Card::refused(GROUP_DISAGREES);
     }

@@ -1,8 +1,7 @@
 // The two-block cores BL1 and BL2, and the expansions EXP2 and EXP4, on typed arrays.
-use arrays::array8;
-use arrays::array15;
 use arrays::join_8_8;
 use arrays::part8;
+use arrays::part15;
 use arrays::xor8;
 use hurdle::decrypt_with;
 use hurdle::encrypt_with;
@@ -111,7 +110,7 @@ pub fn exp4(b: [u8; 10]) -> [u8; 16]
 pub fn left(x: [u8; 16]) -> [u8; 8]
     ensures { λ r. ⌜ r ≡ part 0 8 x ⌝ }
 {
-    array8(&x)
+    part8(&x, 0)
 }
 
 pub fn right(x: [u8; 16]) -> [u8; 8]
@@ -177,7 +176,7 @@ pub fn bl2_output(l: [u8; 8], r: [u8; 8], y: [u8; 16]) -> CoreOutput15
 {
     let whole = join_8_8(l, xor8(r, left(y)));
     CoreOutput15 {
-        output: array15(&whole),
+        output: part15(&whole, 0),
         runs: TEXT_RUNS,
     }
 }

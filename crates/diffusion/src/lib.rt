@@ -1,7 +1,7 @@
 // The diffusion tally: each bit of a record's block is flipped in turn, and the bits by which HURDLE-II's output changes are counted. The
 // round keys are made once for a record, and the cipher takes four flips side by side.
-use arrays::array8;
-use arrays::array16;
+use arrays::part8;
+use arrays::part16;
 use hurdle::encrypt_with;
 use hurdle::encrypt_with_x4;
 use hurdle::schedule;
@@ -163,8 +163,8 @@ fn count_record(rec: &[u8], t: Figures) -> Figures
     requires { ⌜ t .total ≤ 4096 * mostRecords ⌝ }
     ensures { λ r. ⌜ Counted (t .total) (t .least) (t .greatest) (recordChanges (now (rec .entry))) (r .total) (r .least) (r .greatest) ⌝ }
 {
-    let keys = schedule(array16(rec));
-    count_flips(&keys, array8(&rec[16..24]), t)
+    let keys = schedule(part16(rec, 0));
+    count_flips(&keys, part8(&rec[16..24], 0), t)
 }
 
 // The changes of n records. No change is above 64, so the least starts there.

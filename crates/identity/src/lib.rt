@@ -1,6 +1,6 @@
 // TA61 and its inverse: the K strings, the permutation P, and the calls.
-use arrays::array10;
 use arrays::bytes3;
+use arrays::part10;
 use arrays::word;
 use cores::exp4;
 use hurdle::encrypt_block;
@@ -159,7 +159,7 @@ pub fn ta61(common_key: &[u8], identity: u64) -> Identity
     if identity >= 16777216 {
         return Identity::refused(VALUE_WIDE);
     }
-    let identity_strings = bc(array10(common_key));
+    let identity_strings = bc(part10(common_key, 0));
     let b = identity_strings.bytes;
     Identity {
         refusal: 0,
@@ -176,7 +176,7 @@ pub fn ta61_inverse(common_key: &[u8], encrypted_identity: u64) -> Identity
     if encrypted_identity >= 16777216 {
         return Identity::refused(VALUE_WIDE);
     }
-    let identity_strings = bc(array10(common_key));
+    let identity_strings = bc(part10(common_key, 0));
     let b = identity_strings.bytes;
     Identity {
         refusal: 0,

@@ -1,5 +1,5 @@
 // Fields of eight bytes, and the test whether two strings are the same.
-use arrays::array8;
+use arrays::part8;
 use arrays::word;
 use arrays::xor8;
 ghost use mathlib.Core.Path.{_≡_};
@@ -28,7 +28,7 @@ pub(crate) fn field(b: [u8; 8], from: u64, width: u64) -> u32
 pub(crate) fn unmixed(key: &[u8], result: &[u8]) -> [u8; 8]
     ensures { λ r. ⌜ r ≡ xors 8 (now (key .entry)) (now (result .entry)) ⌝ }
 {
-    xor8(array8(key), array8(result))
+    xor8(part8(key, 0), part8(result, 0))
 }
 
 // Two strings are the same.

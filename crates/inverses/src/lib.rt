@@ -5,8 +5,8 @@ mod bits;
 use crate::bits::field;
 use crate::bits::same;
 use crate::bits::unmixed;
-use arrays::array8;
 use arrays::have_lengths;
+use arrays::part8;
 use mixing::tb1;
 use mixing::tb3;
 use mixing::tb5;
@@ -43,7 +43,7 @@ pub fn tb1_inverse(result: &[u8], width: u64) -> Value
     if !wide(width) {
         return Value::refused(WRONG_WIDTH);
     }
-    let value = field(array8(result), 0, width);
+    let value = field(part8(result, 0), 0, width);
     let made = tb1(value as u64, width);
     let bytes = made.bytes;
     confirmed(value, bytes, result)

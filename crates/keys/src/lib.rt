@@ -5,10 +5,10 @@ mod recipe;
 
 use crate::derivation::int;
 use crate::recipe::make;
-use arrays::array10;
-use arrays::array12;
-use arrays::array16;
 use arrays::have_lengths;
+use arrays::part10;
+use arrays::part12;
+use arrays::part16;
 pub use derivation::core;
 pub use derivation::reversed;
 pub use derivation::ta71_of;
@@ -38,7 +38,7 @@ fn under_root(root: &[u8], seed: [u8; 10], seed_has_length: bool) -> Bytes16
     }
     Bytes16 {
         refusal: 0,
-        bytes: core(array16(root), seed),
+        bytes: core(part16(root, 0), seed),
     }
 }
 
@@ -46,13 +46,13 @@ fn under_root(root: &[u8], seed: [u8; 10], seed_has_length: bool) -> Bytes16
 pub fn ta11(root: &[u8], seed: &[u8]) -> Bytes16
     ensures { λ r. ⌜ r ≡ ta11Call (now (root .entry)) (now (seed .entry)) ⌝ }
 {
-    under_root(root, array10(seed), seed.len() == 10)
+    under_root(root, part10(seed, 0), seed.len() == 10)
 }
 
 pub fn ta21(root: &[u8], seed: &[u8]) -> Bytes16
     ensures { λ r. ⌜ r ≡ ta21Call (now (root .entry)) (now (seed .entry)) ⌝ }
 {
-    under_root(root, reversed(array10(seed)), seed.len() == 10)
+    under_root(root, reversed(part10(seed, 0)), seed.len() == 10)
 }
 
 // TA41 does what TA11 does, with the seed RSO.
@@ -78,7 +78,7 @@ pub fn ta12(
         return Authentication::refused(refusal);
     }
     split(
-        core(array16(session_key), array10(challenge)),
+        core(part16(session_key, 0), part10(challenge, 0)),
         response_mask,
         key_mask,
     )
@@ -104,7 +104,7 @@ pub fn ta71(key1: &[u8], key2: &[u8]) -> Bytes10
     }
     Bytes10 {
         refusal: 0,
-        bytes: ta71_of(array10(key1), array10(key2)),
+        bytes: ta71_of(part10(key1, 0), part10(key2, 0)),
     }
 }
 
@@ -119,7 +119,7 @@ pub fn ta101(ks: &[u8], gck0: &[u8], mni: u64) -> Bytes16
     }
     Bytes16 {
         refusal: 0,
-        bytes: core(array16(ks), int(array10(gck0), mni)),
+        bytes: core(part16(ks, 0), int(part10(gck0, 0), mni)),
     }
 }
 
@@ -164,13 +164,13 @@ pub fn ring(
         return RingMade::refused(WRONG_LENGTH);
     }
     ring_of(RingInputs {
-        root: array16(root),
-        rs: array10(rs),
-        rso: array10(rso),
-        rand1: array10(rand1),
-        rand2: array10(rand2),
-        c: array10(c),
-        group_key: array12(group_key),
+        root: part16(root, 0),
+        rs: part10(rs, 0),
+        rso: part10(rso, 0),
+        rand1: part10(rand1, 0),
+        rand2: part10(rand2, 0),
+        c: part10(c, 0),
+        group_key: part12(group_key, 0),
         sides,
         response_mask,
         key_mask,

@@ -1,5 +1,5 @@
 // The two masks of TA12 and TA22: their tests, and the bytes that they choose.
-use arrays::array10;
+use arrays::part10;
 use standard::Authentication;
 use standard::SHARED_BIT;
 use standard::WRONG_MASK;
@@ -48,7 +48,7 @@ fn first4(x: [u8; 16]) -> [u8; 4]
 fn first10(x: [u8; 16]) -> [u8; 10]
     ensures { λ r. ⌜ r ≡ part 0 10 x ⌝ }
 {
-    array10(&x)
+    part10(&x, 0)
 }
 
 // The response and the key, each chosen by its mask. The masks are not tested: a caller does that once, for any number of outputs.

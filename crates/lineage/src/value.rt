@@ -5,8 +5,7 @@ use crate::sheet::first_parent;
 use crate::sheet::record_at;
 use crate::sheet::second_parent;
 use crate::sheet::value_at;
-use arrays::array10;
-use arrays::array16;
+use arrays::part10;
 use arrays::part16;
 use keys::core;
 use keys::reversed;
@@ -30,14 +29,14 @@ fn given(p: Record) -> Value
 fn derive(operation: u8, a: Value, b: Value) -> Value
     ensures { λ r. ⌜ r ≡ part 0 valueSize (derived operation a b) ⌝ }
 {
-    let first = array10(&a);
-    let second = array10(&b);
+    let first = part10(&a, 0);
+    let second = part10(&b, 0);
     match operation {
         1 => core(a, second),
         2 => core(a, reversed(second)),
         3 => core(a, second),
-        4 => array16(&tb4_of(first, second)),
-        _ => array16(&ta71_of(first, second)),
+        4 => part16(&tb4_of(first, second), 0),
+        _ => part16(&ta71_of(first, second), 0),
     }
 }
 

@@ -5,10 +5,10 @@ use crate::fields::fits_in;
 use crate::fields::tb1_of;
 use crate::fields::tb5_of;
 use crate::fields::tb6_of;
-use arrays::array10;
-use arrays::array12;
-use arrays::array16;
 use arrays::have_lengths;
+use arrays::part10;
+use arrays::part12;
+use arrays::part16;
 use arrays::xor10;
 use arrays::xor16;
 pub use fields::wide;
@@ -75,7 +75,7 @@ pub fn tb2(input: &[u8]) -> Bytes16
     }
     Bytes16 {
         refusal: 0,
-        bytes: array16(input),
+        bytes: part16(input, 0),
     }
 }
 
@@ -93,7 +93,7 @@ pub fn tb3(input: &[u8], value: u64, width: u64) -> Bytes16
     }
     Bytes16 {
         refusal: 0,
-        bytes: xor16(array16(input), tb1_of(value, width)),
+        bytes: xor16(part16(input, 0), tb1_of(value, width)),
     }
 }
 
@@ -105,7 +105,7 @@ pub fn tb4(input1: &[u8], input2: &[u8]) -> Bytes10
     }
     Bytes10 {
         refusal: 0,
-        bytes: tb4_of(array10(input1), array10(input2)),
+        bytes: tb4_of(part10(input1, 0), part10(input2, 0)),
     }
 }
 
@@ -121,7 +121,7 @@ pub fn tb5(cipher_key: &[u8], location_area: u64, carrier: u64, colour_code: u64
     }
     Bytes10 {
         refusal: 0,
-        bytes: tb5_of(array10(cipher_key), location_area, carrier, colour_code),
+        bytes: tb5_of(part10(cipher_key, 0), location_area, carrier, colour_code),
     }
 }
 
@@ -137,7 +137,7 @@ pub fn tb6(cipher_key: &[u8], carrier: u64, identity: u64) -> Bytes10
     }
     Bytes10 {
         refusal: 0,
-        bytes: tb6_of(array10(cipher_key), carrier, identity),
+        bytes: tb6_of(part10(cipher_key, 0), carrier, identity),
     }
 }
 
@@ -149,6 +149,6 @@ pub fn tb7(group_key: &[u8]) -> Bytes16
     }
     Bytes16 {
         refusal: 0,
-        bytes: tb7_of(array12(group_key)),
+        bytes: tb7_of(part12(group_key, 0)),
     }
 }

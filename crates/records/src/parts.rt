@@ -1,6 +1,4 @@
 // The keys of a ring, and the head of a record.
-use arrays::array10;
-use arrays::array16;
 use arrays::byte_at;
 use arrays::copy;
 use arrays::part10;
@@ -42,7 +40,7 @@ fn ring_key(under: RingKey, r: &RingBytes) -> [u8; 16]
     ensures { λ k. ⌜ k ≡ part 0 16 (ringKey under (now (r .entry))) ⌝ }
 {
     match under {
-        RingKey::D => array16(&part10(&r[..], 0)),
+        RingKey::D => part16(&part10(&r[..], 0), 0),
         RingKey::O => part16(&r[..], 10),
         RingKey::G => part16(&r[..], 36),
     }
@@ -56,7 +54,7 @@ pub(crate) fn core_key(kind: Kind, r: &RingBytes, version: Version) -> [u8; 16]
     let algorithm = kind.algorithm;
     let key = ring_key(under, r);
     match algorithm {
-        Algorithm::Ta31 => key10(array10(&key), version),
+        Algorithm::Ta31 => key10(part10(&key, 0), version),
         Algorithm::Ta51 => key16(key, version),
         Algorithm::Ta81 => key16(key, version),
         Algorithm::Ta91 => key16(key, version),

@@ -1,8 +1,8 @@
 // HURDLE-II with the key schedule in sixteen bytes (02, 7): one register beside the block, which starts as the key and steps from round to
 // round until the key is back. The calls answer what those of `hurdle` do.
-use arrays::array8;
-use arrays::array16;
 use arrays::have_lengths;
+use arrays::part8;
+use arrays::part16;
 use arrays::xor16;
 use hurdle::A;
 use hurdle::D;
@@ -122,7 +122,7 @@ fn crypted(key: &[u8], block: &[u8], back: bool) -> Bytes8
     }
     Bytes8 {
         refusal: 0,
-        bytes: crypt(array16(key), array8(block), back),
+        bytes: crypt(part16(key, 0), part8(block, 0), back),
     }
 }
 
@@ -147,6 +147,6 @@ pub fn register(key: &[u8], steps: u64) -> Bytes16
     }
     Bytes16 {
         refusal: 0,
-        bytes: turned(array16(key), (steps % 16) as usize),
+        bytes: turned(part16(key, 0), (steps % 16) as usize),
     }
 }

@@ -1,10 +1,10 @@
 // The calls that seal and unseal one key: TA31/TA32, TA51/TA52, TA81/TA82, TA91/TA92.
-use arrays::array10;
-use arrays::array12;
-use arrays::array15;
-use arrays::array16;
 use arrays::have_lengths;
 use arrays::join_10_2;
+use arrays::part10;
+use arrays::part12;
+use arrays::part15;
+use arrays::part16;
 use standard::Algorithm;
 use standard::Bytes15;
 use standard::KeyNumber;
@@ -42,7 +42,7 @@ fn body(k: [u8; 10], x: u8, y: u8) -> [u8; 12]
 fn key_part(b: [u8; 12]) -> [u8; 10]
     ensures { λ r. ⌜ r ≡ part 0 10 b ⌝ }
 {
-    array10(&b)
+    part10(&b, 0)
 }
 
 fn number51(b: [u8; 12]) -> u16
@@ -102,8 +102,8 @@ fn open16(algorithm: Algorithm, text: &[u8], sealing_key: &[u8], version: Versio
     ensures { λ r. ⌜ r ≡ opened16 (formOf algorithm) (now (text .entry)) (now («sealing_key» .entry)) version ⌝ }
 {
     let right_lengths = have_lengths(text, TEXT, sealing_key, Kind::SEALING_KEY);
-    let key = key16(array16(sealing_key), version);
-    open_if(right_lengths, algorithm, key, array15(text))
+    let key = key16(part16(sealing_key, 0), version);
+    open_if(right_lengths, algorithm, key, part15(text, 0))
 }
 
 pub fn ta31(cipher_key: &[u8], version: Version, sealing_key: &[u8]) -> Bytes15
@@ -115,12 +115,12 @@ pub fn ta31(cipher_key: &[u8], version: Version, sealing_key: &[u8]) -> Bytes15
         sealing_key,
         Kind::TA31_SEALING_KEY,
     );
-    let key = key10(array10(sealing_key), version);
+    let key = key10(part10(sealing_key, 0), version);
     seal_if(
         right_lengths,
         Algorithm::Ta31,
         key,
-        body(array10(cipher_key), 0, 0),
+        body(part10(cipher_key, 0), 0, 0),
     )
 }
 
@@ -128,8 +128,8 @@ pub fn ta32(text: &[u8], sealing_key: &[u8], version: Version) -> Unsealed
     ensures { λ r. ⌜ r ≡ ta32Call (now (text .entry)) (now («sealing_key» .entry)) version ⌝ }
 {
     let right_lengths = have_lengths(text, TEXT, sealing_key, Kind::TA31_SEALING_KEY);
-    let key = key10(array10(sealing_key), version);
-    let opened = open_if(right_lengths, Algorithm::Ta31, key, array15(text));
+    let key = key10(part10(sealing_key, 0), version);
+    let opened = open_if(right_lengths, Algorithm::Ta31, key, part15(text, 0));
     let body = opened.body;
     Unsealed {
         refusal: opened.refusal,
@@ -147,12 +147,12 @@ pub fn ta51(cipher_key: &[u8], version: Version, sealing_key: &[u8], number: Key
     if number.0 > Kind::TA51_HIGHEST {
         return Bytes15::refused(WRONG_NUMBER);
     }
-    let key = key16(array16(sealing_key), version);
+    let key = key16(part16(sealing_key, 0), version);
     seal_if(
         true,
         Algorithm::Ta51,
         key,
-        body(array10(cipher_key), 0, number.0 as u8),
+        body(part10(cipher_key, 0), 0, number.0 as u8),
     )
 }
 
@@ -173,14 +173,14 @@ pub fn ta81(cipher_key: &[u8], version: Version, sealing_key: &[u8], number: Key
     ensures { λ r. ⌜ r ≡ ta81Call (now («cipher_key» .entry)) version (now («sealing_key» .entry)) number ⌝ }
 {
     let right_lengths = have_lengths(cipher_key, Kind::CIPHER_KEY, sealing_key, Kind::SEALING_KEY);
-    let key = key16(array16(sealing_key), version);
+    let key = key16(part16(sealing_key, 0), version);
     let high = (number.0 / 256 % 256) as u8;
     let low = (number.0 % 256) as u8;
     seal_if(
         right_lengths,
         Algorithm::Ta81,
         key,
-        body(array10(cipher_key), high, low),
+        body(part10(cipher_key, 0), high, low),
     )
 }
 
@@ -201,8 +201,8 @@ pub fn ta91(group_key: &[u8], version: Version, sealing_key: &[u8]) -> Bytes15
     ensures { λ r. ⌜ r ≡ ta91Call (now («group_key» .entry)) version (now («sealing_key» .entry)) ⌝ }
 {
     let right_lengths = have_lengths(group_key, Kind::GROUP_KEY, sealing_key, Kind::SEALING_KEY);
-    let key = key16(array16(sealing_key), version);
-    seal_if(right_lengths, Algorithm::Ta91, key, array12(group_key))
+    let key = key16(part16(sealing_key, 0), version);
+    seal_if(right_lengths, Algorithm::Ta91, key, part12(group_key, 0))
 }
 
 pub fn ta92(text: &[u8], sealing_key: &[u8], version: Version) -> UnsealedGroup

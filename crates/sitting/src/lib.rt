@@ -1,8 +1,8 @@
 // The ring recipe on a sitting's file: root 16 bytes, RS, RSO, RAND1, RAND2 and C 10 each, group key 12, sides 1, response mask 2,
 // key mask 2.
-use arrays::array16;
 use arrays::part10;
 use arrays::part12;
+use arrays::part16;
 use keys::ring_of;
 use standard::RingInputs;
 use standard::RingMade;
@@ -27,7 +27,7 @@ pub fn sitting_ring(s: &[u8]) -> RingMade
     }
     let sides = wide(s[78]);
     ring_of(RingInputs {
-        root: array16(s),
+        root: part16(s, 0),
         rs: part10(s, 16),
         rso: part10(s, 26),
         rand1: part10(s, 36),

@@ -1,5 +1,5 @@
 // The forms of the algorithms: BL1's data input from a body of 12 bytes, and the check and the body of BL2's 15 bytes.
-use arrays::array10;
+use arrays::part10;
 use cores::exp1_with;
 use standard::Algorithm;
 ghost use mathlib.Core.Path.{_≡_};
@@ -11,7 +11,7 @@ ghost use Rattle.standard.specs.Seals.{checks, failedOf, failed, orOn, orOf, fo
 fn input31(b: [u8; 12]) -> [u8; 16]
     ensures { λ r. ⌜ r ≡ form31 .input b ⌝ }
 {
-    exp1_with(array10(&b), 0)
+    exp1_with(part10(&b, 0), 0)
 }
 
 fn input51(b: [u8; 12]) -> [u8; 16]

@@ -7,9 +7,9 @@ use crate::text_core::CoreInput;
 use crate::text_core::open_core;
 use crate::text_core::opening_of;
 use crate::text_core::seal_core;
-use arrays::array10;
-use arrays::array16;
 use arrays::join_8_8;
+use arrays::part10;
+use arrays::part16;
 use arrays::xor16;
 use cores::exp4;
 use standard::Algorithm;
@@ -47,7 +47,7 @@ pub fn key16(sealing_key: [u8; 16], version: Version) -> [u8; 16]
 pub fn key10(sealing_key: [u8; 10], version: Version) -> [u8; 16]
     ensures { λ r. ⌜ r ≡ key10Of «sealing_key» (bytesOf 2 (version .0)) ⌝ }
 {
-    exp4(array10(&key16(array16(&sealing_key), version)))
+    exp4(part10(&key16(part16(&sealing_key, 0), version), 0))
 }
 
 // The sealed text of a body.

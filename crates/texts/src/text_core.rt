@@ -1,4 +1,8 @@
 // The core of a sealed text: BL1, without its eighth byte, seals, and BL2 opens. For one text, and for four whose cores run side by side.
+use arrays::join_7_8;
+use arrays::join_8_8;
+use arrays::part7;
+use arrays::part8;
 use cores::CoreOutput15;
 use cores::CoreOutput16;
 use cores::bl1;
@@ -24,23 +28,7 @@ fn without8(o: CoreOutput16) -> CoreOutput15
 {
     let x = o.output;
     CoreOutput15 {
-        output: [
-            x[0],
-            x[1],
-            x[2],
-            x[3],
-            x[4],
-            x[5],
-            x[6],
-            x[8],
-            x[9],
-            x[10],
-            x[11],
-            x[12],
-            x[13],
-            x[14],
-            x[15],
-        ],
+        output: join_7_8(part7(&x, 0), part8(&x, 8)),
         runs: o.runs,
     }
 }
@@ -49,24 +37,9 @@ fn without8(o: CoreOutput16) -> CoreOutput15
 fn with8(t: [u8; 15]) -> [u8; 16]
     ensures { λ r. ⌜ r ≡ with8Of t ⌝ }
 {
-    [
-        t[0],
-        t[1],
-        t[2],
-        t[3],
-        t[4],
-        t[5],
-        t[6],
-        0,
-        t[7],
-        t[8],
-        t[9],
-        t[10],
-        t[11],
-        t[12],
-        t[13],
-        t[14],
-    ]
+    let mut left = part8(&t, 0);
+    left[7] = 0;
+    join_8_8(left, part8(&t, 7))
 }
 
 // What BL2 takes to open a text.

@@ -22,7 +22,7 @@ returns-3 c =
     let fewest = card .before .before in
     let x = fewest .before .before .before .args in
     let h : length (now (x .card)) ≡ 16 = fewest .before .if1 .left in
-    let r = rw (card .array16 .ensures, spelled 16 (now (x .card)) h) at (read .readable .ensures) in
+    let r = rw (card .part16 .ensures, spelled 16 (now (x .card)) h) at (read .readable .ensures) in
     let t = failed (agreed .agree .ensures) (c .before .if3 .taken) in
     rw (c .refused3 .ensures, eq-eqb _ _ h, passed (fewest .at-most-one .ensures) (card .before .if2 .left), rw r at t)
 
@@ -35,7 +35,7 @@ returns-4 c =
     let fewest = card .before .before in
     let x = fewest .before .before .before .args in
     let h : length (now (x .card)) ≡ 16 = fewest .before .if1 .left in
-    let r = rw (card .array16 .ensures, spelled 16 (now (x .card)) h) at (read .readable .ensures) in
+    let r = rw (card .part16 .ensures, spelled 16 (now (x .card)) h) at (read .readable .ensures) in
     let t = passed (agreed .agree .ensures) (c .before .before .if3 .left) in
     rw (c .key-of .ensures, c .before .restored .ensures, r, eq-eqb _ _ h, passed (fewest .at-most-one .ensures) (card .before .if2 .left), rw r at t)
 

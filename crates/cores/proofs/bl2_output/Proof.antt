@@ -3,7 +3,7 @@ use Rattle.cores.proofs.bl2_output.Tie as tie
 
 returns : tie.Need-returns
 returns c = rw (
-  c .array15 .ensures,
+  c .part15 .ensures,
   c .before .before .join-8-8 .ensures,
   c .before .before .before .xor8 .ensures,
   c .before .before .before .before .left .ensures,

@@ -11,8 +11,8 @@ returns c =
     let given = made .before .before .before in
     let r = now (given .args .rec) in
     let h : 16 + 8 ≤ length r = omega (arith, given .pre .0) in
-    counted-flips _ _ r (made .schedule .ensures ∙ ap schedule (made .before .array16 .ensures))
-    (c .before .array8 .ensures ∙ ap (part 0 8) (part-lent 16 8 r h)) (c .count-flips .ensures)
+    counted-flips _ _ r (made .schedule .ensures ∙ ap schedule (made .before .part16 .ensures))
+    (c .before .part8 .ensures ∙ ap (part 0 8) (part-lent 16 8 r h)) (c .count-flips .ensures)
 
 pub count-record-spec : {M : Type 1} → Rattle.diffusion.proofs.count_record.Statement.statement M
 count-record-spec =

@@ -18,7 +18,7 @@ returns-3 c =
     let tested = made .before .before in
     let long = tested .before .if1 .left in
     let key = spelled 10 (now (tested .before .before .before .args .common-key)) long in
-    rw (c .number3 .ensures, c .before .decrypt-identity .ensures, c .before .before .bytes3 .ensures, made .bc .ensures, made .before .array10 .ensures)
+    rw (c .number3 .ensures, c .before .decrypt-identity .ensures, c .before .before .bytes3 .ensures, made .bc .ensures, made .before .part10 .ensures)
     (rw (key, eq-eqb _ _ long, lt-ltb _ _ (tested .if2 .left)))
 
 pub ta61-inverse-spec : {M : Type 1} → Rattle.identity.proofs.ta61_inverse.Statement.statement M

@@ -33,7 +33,7 @@ returns-3 c =
       c .confirmed .ensures,
       made .tb1 .ensures,
       made .before .field .ensures,
-      made .before .before .array8 .ensures,
+      made .before .before .part8 .ensures,
       tb1-again (part 0 8 (now (x .result))) (x .width) t,
       eq-eqb _ _ (tested .before .before .if1 .left),
       t,

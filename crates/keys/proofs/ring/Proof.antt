@@ -18,13 +18,13 @@ returns-2 c =
     let root = rand1 .before .before .before in
     rw (
       c .ring-of .ensures,
-      c .before .array12 .ensures,
-      c10 .array105 .ensures,
-      c10 .before .array104 .ensures,
-      rand1 .array103 .ensures,
-      rand1 .before .array102 .ensures,
-      rand1 .before .before .array10 .ensures,
-      root .array16 .ensures,
+      c .before .part12 .ensures,
+      c10 .part105 .ensures,
+      c10 .before .part104 .ensures,
+      rand1 .part103 .ensures,
+      rand1 .before .part102 .ensures,
+      rand1 .before .before .part10 .ensures,
+      root .part16 .ensures,
     )
     (ring-long _ _ _ _ _ _ _ _ _ _ (not-false _ (root .before .if1 .left)))
 

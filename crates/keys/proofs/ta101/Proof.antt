@@ -24,8 +24,8 @@ returns-3 c =
     rw (
       c .core .ensures,
       c .before .int .ensures,
-      c .before .before .array10 .ensures,
-      c .before .before .before .array16 .ensures,
+      c .before .before .part10 .ensures,
+      c .before .before .before .part16 .ensures,
       s .0,
       s .1,
       t,

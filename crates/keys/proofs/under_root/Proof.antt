@@ -13,7 +13,7 @@ returns-2 : tie.Need-returns-2
 returns-2 c =
     let x = c .before .before .before .before .args in
     let t : hasLength 16 (now (x .root)) && x .seed-has-length ≡ true = not-false _ (c .before .before .if1 .left) in
-    rw (c .core .ensures, c .before .array16 .ensures, length-spelled 16 (now (x .root)) (and-split _ (x .seed-has-length) t .0), t)
+    rw (c .core .ensures, c .before .part16 .ensures, length-spelled 16 (now (x .root)) (and-split _ (x .seed-has-length) t .0), t)
 
 pub under-root-spec : {M : Type 1} → Rattle.keys.proofs.under_root.Statement.statement M
 under-root-spec =

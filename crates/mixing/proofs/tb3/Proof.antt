@@ -43,7 +43,7 @@ returns-4 c =
     rw (
       c .xor16 .ensures,
       c .before .tb1-of .ensures,
-      c .before .before .array16 .ensures,
+      c .before .before .part16 .ensures,
       eq-eqb _ _ (y .before .before .if1 .left),
       passed (y .before .wide .ensures) (y .if2 .left),
       passed (x .before .fits-in .ensures) (x .if3 .left),

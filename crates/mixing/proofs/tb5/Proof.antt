@@ -27,7 +27,7 @@ unfolding tb5Call tb5
 returns-3 c =
     let x = c .before .before .before in
     let e = ap₂ _&&_ (ap₂ _&&_ (x .before .before .fits-in .ensures) (x .before .fits-in2 .ensures)) (x .fits-in3 .ensures) in
-    rw (c .tb5-of .ensures, c .before .array10 .ensures, eq-eqb _ _ (x .before .before .before .if1 .left), passed e (c .before .before .if2 .left))
+    rw (c .tb5-of .ensures, c .before .part10 .ensures, eq-eqb _ _ (x .before .before .before .if1 .left), passed e (c .before .before .if2 .left))
 
 pub tb5-spec : {M : Type 1} → Rattle.mixing.proofs.tb5.Statement.statement M
 tb5-spec =

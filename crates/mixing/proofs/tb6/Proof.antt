@@ -26,7 +26,7 @@ unfolding tb6Call tb6
 returns-3 c =
     let x = c .before .before .before in
     let e = ap₂ _&&_ (x .before .fits-in .ensures) (x .fits-in2 .ensures) in
-    rw (c .tb6-of .ensures, c .before .array10 .ensures, eq-eqb _ _ (x .before .before .if1 .left), passed e (c .before .before .if2 .left))
+    rw (c .tb6-of .ensures, c .before .part10 .ensures, eq-eqb _ _ (x .before .before .if1 .left), passed e (c .before .before .if2 .left))
 
 pub tb6-spec : {M : Type 1} → Rattle.mixing.proofs.tb6.Statement.statement M
 tb6-spec =

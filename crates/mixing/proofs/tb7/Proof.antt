@@ -8,7 +8,7 @@ returns c = rw (c .refused .ensures, ne-eqb _ _ (c .before .if1 .taken))
 
 returns-2 : tie.Need-returns-2
 unfolding tb7Call
-returns-2 c = rw (c .tb7-of .ensures, c .before .array12 .ensures, eq-eqb _ _ (c .before .before .if1 .left))
+returns-2 c = rw (c .tb7-of .ensures, c .before .part12 .ensures, eq-eqb _ _ (c .before .before .if1 .left))
 
 pub tb7-spec : {M : Type 1} → Rattle.mixing.proofs.tb7.Statement.statement M
 tb7-spec =

@@ -15,7 +15,7 @@ returns-2 c =
     let x = tested .before .before .before .args in
     let t = passed (tested .have-lengths .ensures) (root .before .if1 .left) in
     let s = both-spelled 16 8 (now (x .key)) (now (x .block)) t in
-    rw (c .crypt .ensures, c .before .array8 .ensures, root .array16 .ensures, s .0, s .1, t)
+    rw (c .crypt .ensures, c .before .part8 .ensures, root .part16 .ensures, s .0, s .1, t)
 
 pub crypted-spec : {M : Type 1} → Rattle.register.proofs.crypted.Statement.statement M
 crypted-spec =

@@ -14,7 +14,7 @@ returns-2 c =
     let made = c .before in
     let x = made .before .before .before .args in
     let h = made .before .if1 .left in
-    rw (c .turned .ensures, made .array16 .ensures, spelled 16 (now (x .key)) h, eq-eqb _ _ h, begins-anew (now (x .key)) (x .steps) h)
+    rw (c .turned .ensures, made .part16 .ensures, spelled 16 (now (x .key)) h, eq-eqb _ _ h, begins-anew (now (x .key)) (x .steps) h)
 
 pub register-spec : {M : Type 1} → Rattle.register.proofs.register.Statement.statement M
 register-spec =

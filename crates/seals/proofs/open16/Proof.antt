@@ -5,9 +5,9 @@ use Rattle.seals.proofs.open16.Tie as tie
 returns : tie.Need-returns
 returns c = rw (
   c .open-if .ensures,
-  c .before .array15 .ensures,
+  c .before .part15 .ensures,
   c .before .before .key16 .ensures,
-  c .before .before .before .array16 .ensures,
+  c .before .before .before .part16 .ensures,
   c .before .before .before .before .have-lengths .ensures,
   key16-part,
   opened-part,

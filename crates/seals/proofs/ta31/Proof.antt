@@ -7,9 +7,9 @@ unfolding ta31Call seal key10
 returns c = rw (
   c .seal-if .ensures,
   c .before .body .ensures,
-  c .before .before .array102 .ensures,
+  c .before .before .part102 .ensures,
   c .before .before .before .key10 .ensures,
-  c .before .before .before .before .array10 .ensures,
+  c .before .before .before .before .part10 .ensures,
   c .before .before .before .before .before .have-lengths .ensures,
 )
 

@@ -10,9 +10,9 @@ returns c =
     let key = o .before .before in
     rw (c .key-part .ensures)
     (key-out (o .open-if .result) form31 _ _ (rw (
-      o .before .array15 .ensures,
+      o .before .part15 .ensures,
       key .key10 .ensures,
-      key .before .array10 .ensures,
+      key .before .part10 .ensures,
       key .before .before .have-lengths .ensures,
       key10-part,
       opened-part,

@@ -22,9 +22,9 @@ returns-3 c =
     rw (
       c .seal-if .ensures,
       c .before .body .ensures,
-      c .before .before .before .array10 .ensures,
+      c .before .before .before .part10 .ensures,
       key .key16 .ensures,
-      key .before .array16 .ensures,
+      key .before .part16 .ensures,
       passed (tested .before .have-lengths .ensures) (tested .if1 .left),
       le-leb _ _ (fit .if2 .left),
     )

@@ -9,9 +9,9 @@ returns c =
     rw (
       c .seal-if .ensures,
       c .before .body .ensures,
-      c .before .before .array10 .ensures,
+      c .before .before .part10 .ensures,
       key .key16 .ensures,
-      key .before .array16 .ensures,
+      key .before .part16 .ensures,
       key .before .before .have-lengths .ensures,
     ) (simp div-one)
 

@@ -6,9 +6,9 @@ returns : tie.Need-returns
 unfolding ta91Call seal key16
 returns c = rw (
   c .seal-if .ensures,
-  c .before .array12 .ensures,
+  c .before .part12 .ensures,
   c .before .before .key16 .ensures,
-  c .before .before .before .array16 .ensures,
+  c .before .before .before .part16 .ensures,
   c .before .before .before .before .have-lengths .ensures,
 )
 

@@ -16,7 +16,7 @@ returns-2 c =
     let root = c2 .before .before in
     let x = root .before .before .before .before .before .args in
     rw (c .ring-of .ensures, c .before .pair2 .ensures .0, mask .pair .ensures .0, group .part12 .ensures, c5 .part105 .ensures, c5 .before .part104 .ensures)
-    (rw (c5 .before .before .part103 .ensures, c2 .part102 .ensures, c2 .before .part10 .ensures, root .array16 .ensures, root .before .wide .ensures)
+    (rw (c5 .before .before .part103 .ensures, c2 .part102 .ensures, c2 .before .part10 .ensures, root .part16 .ensures, root .before .wide .ensures)
     (sitting-recipe (now (x .s)) (root .before .before .before .if1 .left)))
 
 pub sitting-ring-spec : {M : Type 1} → Rattle.sitting.proofs.sitting_ring.Statement.statement M

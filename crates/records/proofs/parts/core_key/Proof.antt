@@ -6,7 +6,7 @@ returns : tie.Need-returns
 unfolding key10
 returns c =
     let taken = c .before .before .before in
-    rw (taken .enum-told .given .1, c .key10 .ensures, c .before .array10 .ensures, taken .before .before .ring-key .ensures)
+    rw (taken .enum-told .given .1, c .key10 .ensures, c .before .part10 .ensures, taken .before .before .ring-key .ensures)
 
 returns-2 : tie.Need-returns-2
 unfolding key16
