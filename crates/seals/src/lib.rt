@@ -20,10 +20,9 @@ use texts::key10;
 use texts::key16;
 use texts::open_text;
 use texts::seal_body;
-ghost use mathlib.Core.List.{[], _∷_, _++_};
+ghost use mathlib.Core.List.{[], _∷_};
 ghost use mathlib.Core.Path.{_≡_};
-ghost use Prim.Native.Nat.{_+_};
-ghost use Rattle.standard.specs.Bytes.{_!_, part};
+ghost use Rattle.standard.specs.Bytes.{_!_};
 ghost use Rattle.seals.specs.UnsealedBodies.{unsealedBody, opened16};
 ghost use Rattle.standard.specs.Refusals.{wrongLength, first, answer15};
 ghost use Rattle.standard.specs.Seals.{formOf, sealed as sealedOf, opened as openedOf, number2 as number2Of};
@@ -31,19 +30,6 @@ ghost use Rattle.standard.specs.Seals.{ta31Call, ta32Call, ta51Call, ta52Call, 
 
 // A sealed text's bytes.
 const TEXT: usize = 15;
-
-// A body: the key, and what stands after it.
-fn body(k: [u8; 10], x: u8, y: u8) -> [u8; 12]
-    ensures { λ r. ⌜ r ≡ part 0 10 k ++ (x ∷ y ∷ []) ⌝ }
-{
-    join_10_2(k, [x, y])
-}
-
-fn key_part(b: [u8; 12]) -> [u8; 10]
-    ensures { λ r. ⌜ r ≡ part 0 10 b ⌝ }
-{
-    part10(&b, 0)
-}
 
 fn number51(b: [u8; 12]) -> u16
     ensures { λ r. ⌜ r ≡ b ! 11 ⌝ }
@@ -120,7 +106,7 @@ pub fn ta31(cipher_key: &[u8], version: Version, sealing_key: &[u8]) -> Bytes15
         right_lengths,
         Algorithm::Ta31,
         key,
-        body(part10(cipher_key, 0), 0, 0),
+        join_10_2(part10(cipher_key, 0), [0, 0]),
     )
 }
 
@@ -133,7 +119,7 @@ pub fn ta32(text: &[u8], sealing_key: &[u8], version: Version) -> Unsealed
     let body = opened.body;
     Unsealed {
         refusal: opened.refusal,
-        key: key_part(body),
+        key: part10(&body, 0),
         failed_checks: opened.failed_checks,
     }
 }
@@ -152,7 +138,7 @@ pub fn ta51(cipher_key: &[u8], version: Version, sealing_key: &[u8], number: Key
         true,
         Algorithm::Ta51,
         key,
-        body(part10(cipher_key, 0), 0, number.0 as u8),
+        join_10_2(part10(cipher_key, 0), [0, number.0 as u8]),
     )
 }
 
@@ -163,7 +149,7 @@ pub fn ta52(text: &[u8], sealing_key: &[u8], version: Version) -> UnsealedNumber
     let body = opened.body;
     UnsealedNumbered {
         refusal: opened.refusal,
-        key: key_part(body),
+        key: part10(&body, 0),
         number: number51(body),
         failed_checks: opened.failed_checks,
     }
@@ -180,7 +166,7 @@ pub fn ta81(cipher_key: &[u8], version: Version, sealing_key: &[u8], number: Key
         right_lengths,
         Algorithm::Ta81,
         key,
-        body(part10(cipher_key, 0), high, low),
+        join_10_2(part10(cipher_key, 0), [high, low]),
     )
 }
 
@@ -191,7 +177,7 @@ pub fn ta82(text: &[u8], sealing_key: &[u8], version: Version) -> UnsealedNumber
     let body = opened.body;
     UnsealedNumbered {
         refusal: opened.refusal,
-        key: key_part(body),
+        key: part10(&body, 0),
         number: number81(body),
         failed_checks: opened.failed_checks,
     }

@@ -6,7 +6,7 @@ returns : tie.Need-returns
 unfolding ta31Call seal key10
 returns c = rw (
   c .seal-if .ensures,
-  c .before .body .ensures,
+  c .before .join-10-2 .ensures,
   c .before .before .part102 .ensures,
   c .before .before .before .key10 .ensures,
   c .before .before .before .before .part10 .ensures,

@@ -6,9 +6,9 @@ use Rattle.seals.proofs.ta32.Tie as tie
 returns : tie.Need-returns
 unfolding ta32Call unseal fails
 returns c =
-    let o = c .before .before in
+    let o = c .before .before .before in
     let key = o .before .before in
-    rw (c .key-part .ensures)
+    rw (c .part102 .ensures)
     (key-out (o .open-if .result) form31 _ _ (rw (
       o .before .part15 .ensures,
       key .key10 .ensures,
@@ -22,4 +22,4 @@ pub ta32-spec : {M : Type 1} → Rattle.seals.proofs.ta32.Statement.sta
 ta32-spec =
     tie.close
     (tie.spec (λ c κs. search needs) (λ c κs. search needs) (λ c κs. search needs) (λ c κs. search needs) (λ c κs. search needs)
-    (λ c κs. search needs) returns)
+    (λ c. search needs) (λ c κs. search needs) returns)

@@ -21,7 +21,7 @@ returns-3 c =
     let tested = fit .before .before in
     rw (
       c .seal-if .ensures,
-      c .before .body .ensures,
+      c .before .join-10-2 .ensures,
       c .before .before .before .part10 .ensures,
       key .key16 .ensures,
       key .before .part16 .ensures,

@@ -8,7 +8,7 @@ returns c =
     let key = c .before .before .before .before .before in
     rw (
       c .seal-if .ensures,
-      c .before .body .ensures,
+      c .before .join-10-2 .ensures,
       c .before .before .part10 .ensures,
       key .key16 .ensures,
       key .before .part16 .ensures,
