@@ -1,4 +1,4 @@
-// Strings of any length: the test of their lengths, typed arrays of their parts, two joined, the ⊕ of two, big-endian numbers.
+// Strings of any length: tests of their lengths and of their bytes, typed arrays of their parts, two joined, the ⊕ of two, big-endian numbers.
 mod joins;
 mod parts;
 mod words;
@@ -28,6 +28,7 @@ pub use xors::xor10;
 pub use xors::xor16;
 ghost use mathlib.Core.Bool.{_&&_};
 ghost use mathlib.Core.Path.{_≡_};
+ghost use Rattle.standard.specs.Bytes.{same as sameOf};
 ghost use Rattle.standard.specs.Refusals.{hasLength};
 
 // Both strings have their lengths.
@@ -35,4 +36,19 @@ pub fn have_lengths(a: &[u8], m: usize, b: &[u8], n: usize) -> bool
     ensures { λ r. ⌜ r ≡ (hasLength m (now (a .entry)) && hasLength n (now (b .entry))) ⌝ }
 {
     (a.len() == m) & (b.len() == n)
+}
+
+// Two strings are the same.
+pub fn same(a: &[u8], b: &[u8]) -> bool
+    ensures { λ r. ⌜ r ≡ sameOf (now (a .entry)) (now (b .entry)) ⌝ }
+{
+    let n = a.len();
+    if n != b.len() {
+        return false;
+    }
+    let mut t = true;
+    for i in 0..n {
+        t = t & (a[i] == b[i]);
+    }
+    t
 }

@@ -1,3 +1,2 @@
 pub mod AgainLaws
 pub mod BitLaws
-pub mod SameLaws

@@ -1,10 +1,10 @@
-// Fields of eight bytes, and the test whether two strings are the same.
+// Fields of eight bytes.
 use arrays::part8;
 use arrays::word;
 use arrays::xor8;
 ghost use mathlib.Core.Path.{_≡_};
 ghost use Prim.Native.Nat.{_+_, _≤_};
-ghost use Rattle.standard.specs.Bytes.{xors, number as numberOf, same as sameOf};
+ghost use Rattle.standard.specs.Bytes.{xors, number as numberOf};
 ghost use Rattle.standard.specs.Inverses.{field as fieldOf};
 
 // The number that eight bytes spell.
@@ -29,19 +29,4 @@ pub(crate) fn unmixed(key: &[u8], result: &[u8]) -> [u8; 8]
     ensures { λ r. ⌜ r ≡ xors 8 (now (key .entry)) (now (result .entry)) ⌝ }
 {
     xor8(part8(key, 0), part8(result, 0))
-}
-
-// Two strings are the same.
-pub(crate) fn same(a: &[u8], b: &[u8]) -> bool
-    ensures { λ r. ⌜ r ≡ sameOf (now (a .entry)) (now (b .entry)) ⌝ }
-{
-    let n = a.len();
-    if n != b.len() {
-        return false;
-    }
-    let mut t = true;
-    for i in 0..n {
-        t = t & (a[i] == b[i]);
-    }
-    t
 }

@@ -3,10 +3,10 @@
 mod bits;
 
 use crate::bits::field;
-use crate::bits::same;
 use crate::bits::unmixed;
 use arrays::have_lengths;
 use arrays::part8;
+use arrays::same;
 use mixing::tb1;
 use mixing::tb3;
 use mixing::tb5;

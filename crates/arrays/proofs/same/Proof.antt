@@ -2,8 +2,8 @@
 -- Assumes nothing.
 use Rattle.standard.proofs.Prelude.{_≡_, refl, sym, _∙_, _-_, _≤_, zero-le, arith, length, drop, now}
 use Rattle.standard.specs.Bytes.{sameOn, same}
-use Rattle.inverses.proofs.SameLaws.{same-not, same-next, same-end}
-use Rattle.inverses.proofs.bits.same.Tie as tie
+use Rattle.arrays.proofs.SameLaws.{same-not, same-next, same-end}
+use Rattle.arrays.proofs.same.Tie as tie
 
 abbrev Inv-loop : tie.InvT-loop
 Inv-loop a b n t₀ i₀ t i = (i ≤ length a) × (same a b ≡ sameOn t (drop i a) (drop i b))
@@ -29,7 +29,7 @@ returns-2 c =
     let x = c .before .before .before .args in
     sym (at .inv .1 ∙ same-end (at .t) (now (x .a)) (now (x .b)) (at .i) (omega arith) (omega arith))
 
-pub same-spec : {M : Type 1} → Rattle.inverses.proofs.bits.same.Statement.statement M
+pub same-spec : {M : Type 1} → Rattle.arrays.proofs.same.Statement.statement M
 same-spec =
     tie.close
     (tie.spec Inv-loop μ-loop returns loop-holds (λ c. omega arith) (λ c. omega arith) (λ c. omega arith) (λ c. omega arith) loop-again returns-2)
