@@ -1,7 +1,7 @@
 -- A sheet's records and values as code comes to them, and the ways in which the call returns.
 -- Assumes nothing.
 use Rattle.standard.proofs.Prelude.{_≡_, refl, sym, ap, ap₂, _∙_, Bool, true, false, _&&_, List, _++_, ℕ, _-_, _*_, _/_, _≤_, _<_, eqb, ltb, length}
-use Rattle.standard.proofs.Prelude.{drop, eq-eqb, ne-eqb, leb-true, ltb-true}
+use Rattle.standard.proofs.Prelude.{_⊎_, inl, inr, drop, eq-eqb, ne-eqb, leb-true, ltb-true}
 use Rattle.lists.proofs.ListReturnLaws.{call-refused, call-stopped, call-done}
 use Rattle.lists.proofs.WalkLaws.{PrefixWritten, prefix-at}
 use Rattle.lists.specs.Walks.{Clean, Stopped}
@@ -65,26 +65,24 @@ as-value o x l e = sym (spelled valueSize o l) ∙ ap (part 0 valueSize) e
 
 module _ (k : ℕ) (a b : List ℕ) {t o : List ℕ} (et : t ≡ part 0 10 b) where
   module _ (la : length a ≡ 16) (lo : length o ≡ valueSize) where
-    pub by-ta11 : k ≡ 1 → o ≡ core a t → o ≡ part 0 valueSize (derived k a b)
+    -- TA11, or TA41, which does the same
+    pub by-ta11 : (k ≡ 1) ⊎ (k ≡ 3) → o ≡ core a t → o ≡ part 0 valueSize (derived k a b)
     unfolding derived
-    by-ta11 e f = as-value o (derived k a b) lo (f ∙ rw (et, e, spelled 16 a la))
+    by-ta11 (inl e) f = as-value o (derived k a b) lo (f ∙ rw (et, e, spelled 16 a la))
+    by-ta11 (inr e) f = as-value o (derived k a b) lo (f ∙ rw (et, e, spelled 16 a la))
 
     pub by-ta21 : k ≡ 2 → {r : List ℕ} → r ≡ table 10 (λ i. t ! (9 - i)) → o ≡ core a r → o ≡ part 0 valueSize (derived k a b)
     unfolding derived
     by-ta21 e er f = as-value o (derived k a b) lo (f ∙ rw (er, et, e, spelled 16 a la))
-
-    pub by-ta41 : k ≡ 3 → o ≡ core a t → o ≡ part 0 valueSize (derived k a b)
-    unfolding derived
-    by-ta41 e f = as-value o (derived k a b) lo (f ∙ rw (et, e, spelled 16 a la))
 
   module _ {s m : List ℕ} (es : s ≡ part 0 10 a) (f : o ≡ part 0 16 m) where
     pub by-tb4 : k ≡ 4 → m ≡ tb4 s t → o ≡ part 0 valueSize (derived k a b)
     unfolding derived
     by-tb4 e g = f ∙ rw (g, es, et, e)
 
-    pub by-ta71 : (k ≡ 1 → ⊥) → (k ≡ 2 → ⊥) → (k ≡ 3 → ⊥) → (k ≡ 4 → ⊥) → m ≡ ta71 s t → o ≡ part 0 valueSize (derived k a b)
+    pub by-ta71 : ((k ≡ 1) ⊎ (k ≡ 3) → ⊥) → (k ≡ 2 → ⊥) → (k ≡ 4 → ⊥) → m ≡ ta71 s t → o ≡ part 0 valueSize (derived k a b)
     unfolding derived
-    by-ta71 e₁ e₂ e₃ e₄ g = f ∙ rw (g, es, et, ne-eqb k 1 e₁, ne-eqb k 2 e₂, ne-eqb k 3 e₃, ne-eqb k 4 e₄)
+    by-ta71 e₁ e₂ e₄ g = f ∙ rw (g, es, et, ne-eqb k 1 (λ e. e₁ (inl e)), ne-eqb k 2 e₂, ne-eqb k 3 (λ e. e₁ (inr e)), ne-eqb k 4 e₄)
 
 -- ---- the value of a record
 

@@ -5,6 +5,7 @@ use crate::sheet::first_parent;
 use crate::sheet::key_length;
 use crate::sheet::record_at;
 use crate::sheet::second_parent;
+use arrays::same;
 use standard::PARENT_LENGTH;
 use standard::WRONG_FILLING;
 use standard::WRONG_PARENT;
@@ -20,38 +21,15 @@ ghost use Rattle.standard.specs.Sizes.{sheetSize};
 fn given_filled(p: Record) -> bool
     ensures { λ r. ⌜ r ≡ givenFilled p ⌝ }
 {
-    let parents = (p[1] == 0) & (p[2] == 0) & (p[3] == 0) & (p[4] == 0);
-    let after = (p[16] == 0)
-        & (p[17] == 0)
-        & (p[18] == 0)
-        & (p[19] == 0)
-        & (p[20] == 0)
-        & (p[21] == 0);
-    parents & ((p[5] == 16) | ((p[5] == 10) & after))
+    let given = (p[5] == 16) | ((p[5] == 10) & same(&p[16..], &[0; 6]));
+    same(&p[1..5], &[0; 4]) & given
 }
 
 // Length and value zero.
 fn derived_filled(p: Record) -> bool
     ensures { λ r. ⌜ r ≡ derivedFilled p ⌝ }
 {
-    let blank = (p[5] == 0)
-        & (p[6] == 0)
-        & (p[7] == 0)
-        & (p[8] == 0)
-        & (p[9] == 0)
-        & (p[10] == 0)
-        & (p[11] == 0)
-        & (p[12] == 0)
-        & (p[13] == 0)
-        & (p[14] == 0)
-        & (p[15] == 0)
-        & (p[16] == 0)
-        & (p[17] == 0)
-        & (p[18] == 0)
-        & (p[19] == 0)
-        & (p[20] == 0)
-        & (p[21] == 0);
-    (p[0] <= 5) & blank
+    (p[0] <= 5) & same(&p[5..], &[0; 17])
 }
 
 fn filled(p: Record) -> bool

@@ -19,12 +19,6 @@ ghost use Rattle.standard.specs.Lineage.{lineageFault, derived};
 ghost use Rattle.standard.specs.Sizes.{sheetSize, valueSize};
 ghost use Rattle.lineage.specs.SheetValues.{fromValues};
 
-fn given(p: Record) -> Value
-    ensures { λ r. ⌜ r ≡ part 6 16 p ⌝ }
-{
-    part16(&p, 6)
-}
-
 // TA11, TA21, TA41, TB4 or TA71 of the keys in two values.
 fn derive(operation: u8, a: Value, b: Value) -> Value
     ensures { λ r. ⌜ r ≡ part 0 valueSize (derived operation a b) ⌝ }
@@ -32,9 +26,8 @@ fn derive(operation: u8, a: Value, b: Value) -> Value
     let first = part10(&a, 0);
     let second = part10(&b, 0);
     match operation {
-        1 => core(a, second),
+        1 | 3 => core(a, second),
         2 => core(a, reversed(second)),
-        3 => core(a, second),
         4 => part16(&tb4_of(first, second), 0),
         _ => part16(&ta71_of(first, second), 0),
     }
@@ -47,7 +40,7 @@ pub(crate) fn value_of(sheet: &[u8], values: &[u8], i: usize) -> Value
 {
     let p = record_at(sheet, i);
     if p[0] == 0 {
-        return given(p);
+        return part16(&p, 6);
     }
     let a = value_at(values, first_parent(p));
     let b = value_at(values, second_parent(p));

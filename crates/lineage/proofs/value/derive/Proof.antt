@@ -1,5 +1,5 @@
 use Rattle.standard.proofs.Prelude.{needs}
-use Rattle.lineage.proofs.SheetLaws.{by-ta11, by-ta21, by-ta41, by-tb4, by-ta71}
+use Rattle.lineage.proofs.SheetLaws.{by-ta11, by-ta21, by-tb4, by-ta71}
 use Rattle.lineage.proofs.value.derive.Tie as tie
 
 returns : tie.Need-returns
@@ -16,29 +16,24 @@ returns-2 c =
 
 returns-3 : tie.Need-returns-3
 returns-3 c =
-    let x = c .before .before .before .before .before .before .args in
-    by-ta41 (x .operation) (x .t2) (x .t3) (c .before .before .part102 .ensures) (search needs) (search needs) (c .before .match .keys3) (c .core3 .ensures)
+    let made = c .before .before in
+    let keys = made .before .before in
+    let x = keys .before .before .before .before .args in
+    by-tb4 (x .operation) (x .t2) (x .t3) (keys .part102 .ensures) (keys .before .before .part10 .ensures) (c .part16 .ensures)
+    (made .before .match .keys3) (made .tb4-of .ensures)
 
 returns-4 : tie.Need-returns-4
 returns-4 c =
     let made = c .before .before in
     let keys = made .before .before in
     let x = keys .before .before .before .before .args in
-    by-tb4 (x .operation) (x .t2) (x .t3) (keys .part102 .ensures) (keys .before .before .part10 .ensures) (c .part16 .ensures)
-    (made .before .match .keys4) (made .tb4-of .ensures)
-
-returns-5 : tie.Need-returns-5
-returns-5 c =
-    let made = c .before .before in
-    let keys = made .before .before in
-    let x = keys .before .before .before .before .args in
     let r = made .before .match .rest in
     by-ta71 (x .operation) (x .t2) (x .t3) (keys .part102 .ensures) (keys .before .before .part10 .ensures) (c .part162 .ensures)
-    (r .0 .0 .0 .1) (r .0 .0 .1) (r .0 .1) (r .1) (made .ta71-of .ensures)
+    (r .0 .0 .1) (r .0 .1) (r .1) (made .ta71-of .ensures)
 
 pub derive-spec : {M : Type 1} → Rattle.lineage.proofs.value.derive.Statement.statement M
 derive-spec =
     tie.close
     (tie.spec (λ c. search needs) (λ c κs. search needs) (λ c. search needs) (λ c κs. search needs) (λ c κs. search needs) (λ c κs. search needs)
-    (λ c κs. search needs) (λ c κs. search needs) (λ c κs. search needs) (λ c. search needs) (λ c κs. search needs) (λ c κs. search needs)
-    (λ c. search needs) (λ c κs. search needs) returns returns-2 returns-3 returns-4 returns-5)
+    (λ c κs. search needs) (λ c κs. search needs) (λ c. search needs) (λ c κs. search needs) (λ c κs. search needs) (λ c. search needs)
+    (λ c κs. search needs) returns returns-2 returns-3 returns-4)

@@ -9,10 +9,10 @@ use Rattle.lineage.proofs.value.value_of.Tie as tie
 
 returns : tie.Need-returns
 returns c =
-    let made = c .before .before in
+    let made = c .before .before .before in
     let x = made .before .before .before .args in
-    c .given .ensures ∙ ap (part 6 16) (made .record-at .ensures)
-    ∙ value-given (now (x .sheet)) (now (x .values)) (x .i) (ap (λ (p : List ℕ). p ! 0) (sym (made .record-at .ensures)) ∙ c .before .if1 .taken)
+    c .part16 .ensures ∙ ap (part 6 16) (made .record-at .ensures)
+    ∙ value-given (now (x .sheet)) (now (x .values)) (x .i) (ap (λ (p : List ℕ). p ! 0) (sym (made .record-at .ensures)) ∙ c .before .before .if1 .taken)
 
 value-at-requires : tie.Need-value-at-requires
 value-at-requires c κs =
@@ -46,5 +46,5 @@ returns-2 c =
 pub value-of-spec : {M : Type 1} → Rattle.lineage.proofs.value.value_of.Statement.statement M
 value-of-spec =
     tie.close
-    (tie.spec (λ c κs. search needs) (λ c. search needs) (λ c κs. search needs) returns (λ c κs. search needs) value-at-requires
+    (tie.spec (λ c κs. search needs) (λ c. search needs) (λ c. search needs) (λ c κs. search needs) returns (λ c κs. search needs) value-at-requires
     (λ c κs. search needs) value-at-requires-2 (λ c. search needs) (λ c κs. search needs) returns-2)
