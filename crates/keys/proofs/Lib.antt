@@ -1,2 +1,3 @@
+pub mod KeyInputLaws
 pub mod MaskLaws
 pub mod RingLaws

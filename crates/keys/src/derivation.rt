@@ -1,7 +1,11 @@
 // The derivations on typed arrays.
 use arrays::bytes3;
+use arrays::join_6_12;
 use arrays::part10;
+use arrays::part12;
+use arrays::part16;
 use arrays::xor10;
+use arrays::xor16;
 use cores::bl1;
 use cores::exp2;
 ghost use mathlib.Core.List.{[], _∷_, _++_};
@@ -37,42 +41,20 @@ pub fn reversed(seed: [u8; 10]) -> [u8; 10]
     ]
 }
 
-// TA71's key input: A9 to A4, A3 ⊕ B9 to A0 ⊕ B6, B5 to B0.
+// TA71's key input: A9 to A4, A3 ⊕ B9 to A0 ⊕ B6, B5 to B0, which is A and six zero bytes ⊕ six zero bytes and B.
 fn key_input(a: [u8; 10], b: [u8; 10]) -> [u8; 16]
     ensures { λ r. ⌜ r ≡ part 0 6 a ++ table 4 (λ i. a ! (6 + i) ⊕ b ! i) ++ part 4 6 b ⌝ }
 {
-    [
-        a[0],
-        a[1],
-        a[2],
-        a[3],
-        a[4],
-        a[5],
-        a[6] ^ b[0],
-        a[7] ^ b[1],
-        a[8] ^ b[2],
-        a[9] ^ b[3],
-        b[4],
-        b[5],
-        b[6],
-        b[7],
-        b[8],
-        b[9],
-    ]
+    let left = part16(&a, 0);
+    let right = part16(&join_6_12([0; 6], part12(&b, 0)), 0);
+    xor16(left, right)
 }
 
-// SHR3: without the three leftmost and the three rightmost bytes.
-fn shr3(o: [u8; 16]) -> [u8; 10]
-    ensures { λ r. ⌜ r ≡ part 3 10 o ⌝ }
-{
-    part10(&o, 3)
-}
-
-// TA71 on typed arrays.
+// TA71 on typed arrays. SHR3 leaves the three leftmost and the three rightmost bytes out.
 pub fn ta71_of(a: [u8; 10], b: [u8; 10]) -> [u8; 10]
     ensures { λ r. ⌜ r ≡ ta71Of a b ⌝ }
 {
-    shr3(core(key_input(a, b), xor10(a, b)))
+    part10(&core(key_input(a, b), xor10(a, b)), 3)
 }
 
 // Three copies of the network identity's three bytes, and a zero byte.

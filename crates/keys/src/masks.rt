@@ -45,12 +45,6 @@ fn first4(x: [u8; 16]) -> [u8; 4]
     [x[0], x[1], x[2], x[3]]
 }
 
-fn first10(x: [u8; 16]) -> [u8; 10]
-    ensures { λ r. ⌜ r ≡ part 0 10 x ⌝ }
-{
-    part10(&x, 0)
-}
-
 // The response and the key, each chosen by its mask. The masks are not tested: a caller does that once, for any number of outputs.
 pub fn split(output: [u8; 16], response_mask: u16, key_mask: u16) -> Authentication
     ensures { λ r. ⌜ r ≡ record { refusal = 0; response = part 0 4 (chosen «response_mask» output); key = part 0 10 (chosen «key_mask» output) } ⌝ }
@@ -58,6 +52,6 @@ pub fn split(output: [u8; 16], response_mask: u16, key_mask: u16) -> Authenticat
     Authentication {
         refusal: 0,
         response: first4(gathered(response_mask, output)),
-        key: first10(gathered(key_mask, output)),
+        key: part10(&gathered(key_mask, output), 0),
     }
 }
