@@ -6,6 +6,7 @@ use crate::fields::tb1_of;
 use crate::fields::tb5_of;
 use crate::fields::tb6_of;
 use arrays::have_lengths;
+use arrays::join_8_8;
 use arrays::part10;
 use arrays::part12;
 use arrays::part16;
@@ -17,7 +18,9 @@ use standard::Bytes16;
 use standard::VALUE_WIDE;
 use standard::WRONG_LENGTH;
 use standard::WRONG_WIDTH;
+ghost use mathlib.Core.List.{[], _∷_};
 ghost use mathlib.Core.Path.{_≡_};
+ghost use Rattle.standard.specs.Expansions.{grouped};
 ghost use Rattle.standard.specs.Mixing.{tb4 as tb4Of, tb7 as tb7Of, tb1Call, tb2Call, tb3Call, tb4Call, tb5Call, tb6Call, tb7Call};
 
 // TB4 on typed arrays.
@@ -27,9 +30,9 @@ pub fn tb4_of(a: [u8; 10], b: [u8; 10]) -> [u8; 10]
     xor10(a, b)
 }
 
-// TB7 on a typed array: after each three bytes, their ⊕.
-pub fn tb7_of(b: [u8; 12]) -> [u8; 16]
-    ensures { λ r. ⌜ r ≡ tb7Of b ⌝ }
+// The first two groups of three bytes, and after each its ⊕.
+fn two_groups(b: [u8; 12]) -> [u8; 8]
+    ensures { λ r. ⌜ r ≡ grouped (3 ∷ 3 ∷ []) 0 b ⌝ }
 {
     [
         b[0],
@@ -40,15 +43,14 @@ pub fn tb7_of(b: [u8; 12]) -> [u8; 16]
         b[4],
         b[5],
         b[3] ^ b[4] ^ b[5],
-        b[6],
-        b[7],
-        b[8],
-        b[6] ^ b[7] ^ b[8],
-        b[9],
-        b[10],
-        b[11],
-        b[9] ^ b[10] ^ b[11],
     ]
+}
+
+// TB7 on a typed array: after each three bytes, their ⊕.
+pub fn tb7_of(b: [u8; 12]) -> [u8; 16]
+    ensures { λ r. ⌜ r ≡ tb7Of b ⌝ }
+{
+    join_8_8(two_groups(b), two_groups(part12(&b, 6)))
 }
 
 // The calls, over strings of any length and numbers of any size.

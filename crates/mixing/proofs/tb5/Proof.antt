@@ -1,6 +1,6 @@
-use Rattle.standard.proofs.Prelude.{ap₂, _&&_, needs, eq-eqb, ne-eqb, ltb-true}
-use Rattle.standard.proofs.BytesLaws.{and-split, failed, passed}
-use Rattle.standard.specs.Mixing.{tb5, tb5Call}
+use Rattle.standard.proofs.Prelude.{ap₂, _&&_, now, needs, eq-eqb, ne-eqb, ltb-true}
+use Rattle.standard.proofs.BytesLaws.{and-split, failed, passed, spelled}
+use Rattle.standard.specs.Mixing.{tb5Call}
 use Rattle.mixing.proofs.tb5.Tie as tie
 
 returns : tie.Need-returns
@@ -23,11 +23,18 @@ tb5-of-requires c κs =
     (ltb-true _ _ (l .0), ltb-true _ _ (l .1), ltb-true _ _ (s .1))
 
 returns-3 : tie.Need-returns-3
-unfolding tb5Call tb5
+unfolding tb5Call
 returns-3 c =
     let x = c .before .before .before in
+    let tested = x .before .before .before in
     let e = ap₂ _&&_ (ap₂ _&&_ (x .before .before .fits-in .ensures) (x .before .fits-in2 .ensures)) (x .fits-in3 .ensures) in
-    rw (c .tb5-of .ensures, c .before .part10 .ensures, eq-eqb _ _ (x .before .before .before .if1 .left), passed e (c .before .before .if2 .left))
+    rw (
+      c .tb5-of .ensures,
+      c .before .part10 .ensures,
+      spelled 10 (now (tested .before .before .args .cipher-key)) (tested .if1 .left),
+      eq-eqb _ _ (tested .if1 .left),
+      passed e (c .before .before .if2 .left),
+    )
 
 pub tb5-spec : {M : Type 1} → Rattle.mixing.proofs.tb5.Statement.statement M
 tb5-spec =
