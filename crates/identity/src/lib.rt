@@ -1,7 +1,9 @@
 // TA61 and its inverse: the K strings, the permutation P, and the calls.
 use arrays::bytes3;
+use arrays::part8;
 use arrays::part10;
 use arrays::word;
+use arrays::xor8;
 use cores::exp4;
 use hurdle::encrypt_block;
 use hurdle::substitute;
@@ -43,19 +45,19 @@ fn unmix(x: u8, y: u8, z: u8) -> u8
 fn mixed(a: [u8; 3]) -> [u8; 3]
     ensures { λ r. ⌜ r ≡ mixOf (a ! 0) (a ! 1) (a ! 2) ∷ mixOf (a ! 0) (a ! 2) (a ! 1) ∷ mixOf (a ! 1) (a ! 2) (a ! 0) ∷ [] ⌝ }
 {
-    let x = mix(a[0], a[1], a[2]);
-    let y = mix(a[0], a[2], a[1]);
-    let z = mix(a[1], a[2], a[0]);
-    [x, y, z]
+    let x = a[0];
+    let y = a[1];
+    let z = a[2];
+    [mix(x, y, z), mix(x, z, y), mix(y, z, x)]
 }
 
 fn unmixed(a: [u8; 3]) -> [u8; 3]
     ensures { λ r. ⌜ r ≡ unmixOf (a ! 0) (a ! 1) (a ! 2) ∷ unmixOf (a ! 0) (a ! 2) (a ! 1) ∷ unmixOf (a ! 1) (a ! 2) (a ! 0) ∷ [] ⌝ }
 {
-    let x = unmix(a[0], a[1], a[2]);
-    let y = unmix(a[0], a[2], a[1]);
-    let z = unmix(a[1], a[2], a[0]);
-    [x, y, z]
+    let x = a[0];
+    let y = a[1];
+    let z = a[2];
+    [unmix(x, y, z), unmix(x, z, y), unmix(y, z, x)]
 }
 
 fn permuted(a: [u8; 3]) -> [u8; 3]
@@ -98,16 +100,7 @@ fn k3(b: [u8; 8]) -> [u8; 3]
 fn shrunk(a: [u8; 10]) -> [u8; 8]
     ensures { λ r. ⌜ r ≡ table 8 (λ i. a ! i ⊕ a ! (i + 2)) ⌝ }
 {
-    [
-        a[0] ^ a[2],
-        a[1] ^ a[3],
-        a[2] ^ a[4],
-        a[3] ^ a[5],
-        a[4] ^ a[6],
-        a[5] ^ a[7],
-        a[6] ^ a[8],
-        a[7] ^ a[9],
-    ]
+    xor8(part8(&a, 0), part8(&a, 2))
 }
 
 // The bytes from which the K strings come, and the block cipher runs that they took.
