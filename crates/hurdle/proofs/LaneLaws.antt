@@ -4,9 +4,9 @@ use Rattle.standard.proofs.Prelude.{_≡_, ap, _∙_, Bool, List, _++_, ℕ, _+
 use Rattle.hurdle.specs.declared.round.Halves.{Halves as Words}
 use Rattle.hurdle.specs.declared.round.Part.{Part}
 use Rattle.standard.specs.Bytes.{_!_}
-use Rattle.standard.specs.Hurdle.{crypt, roundKey}
+use Rattle.standard.specs.Hurdle.{S, crypt, roundKey}
 use Rattle.hurdle.specs.Lanes.{lanes, lane, eachLane}
-use Rattle.hurdle.specs.RoundSteps.{bytes4, firstOver, secondOver, thirdOver, fOver, exchangedBy, roundOver, roundsOver, spreads, twice, HalvesOf, place}
+use Rattle.hurdle.specs.RoundSteps.{bytes4, firstOver, secondOver, thirdOver, fOver, exchangedBy, roundOver, roundsOver, spreads, HalvesOf, place}
 use Rattle.hurdle.specs.RoundSteps.{halvesAt, partAt}
 use Rattle.hurdle.proofs.RoundLaws.{round-more, crypted}
 
@@ -23,13 +23,13 @@ module _ (back : Bool) (K : ℕ → List ℕ) (h : List Words) where
 
   -- one round more in each lane
   pub rounds-more-x4 : (i n : ℕ) (state next : List Words) (y : List ℕ) → n ≡ place back i → Turned i state
-      → y ≡ lanes (λ j. fOver twice spreads (bytes4 (halvesAt state j .r)) (roundKey (K j) n)) → next ≡ lanes (λ j. exchangedBy (halvesAt state j) (y ! j))
+      → y ≡ lanes (λ j. fOver S spreads (bytes4 (halvesAt state j .r)) (roundKey (K j) n)) → next ≡ lanes (λ j. exchangedBy (halvesAt state j) (y ! j))
       → Turned (i + 1) next
   rounds-more-x4 i n state next y e p q r = rw (r, q) (one 0 (p .0), one 1 (p .1), one 2 (p .2), one 3 (p .3))
     where
       one : (j : ℕ) → halvesAt state j ≡ roundsOver back (K j) i (halvesAt h j)
-          → roundOver twice spreads (roundKey (K j) n) (halvesAt state j) ≡ roundsOver back (K j) (i + 1) (halvesAt h j)
-      one j t = ap (roundOver twice spreads (roundKey (K j) n)) t ∙ round-more back (K j) i n (halvesAt h j) e
+          → roundOver S spreads (roundKey (K j) n) (halvesAt state j) ≡ roundsOver back (K j) (i + 1) (halvesAt h j)
+      one j t = ap (roundOver S spreads (roundKey (K j) n)) t ∙ round-more back (K j) i n (halvesAt h j) e
 
   -- the halves, the rounds and the halves exchanged are the blocks
   pub crypted-x4 : (x : List (List ℕ)) (o : List Words) → eachLane (λ j. HalvesOf (lane x j) (halvesAt h j)) → Turned 16 o

@@ -1,15 +1,13 @@
 -- The steps of the code add up to f, to the rounds and to the block.
 -- Assumes nothing.
-use Rattle.standard.proofs.Prelude.{_≡_, refl, sym, ap, ap₂, _∙_, subst, Bool, List, [], _∷_, _++_, ℕ, zero, suc, _+_, _*_, _/_, _%_, _^_, _<_}
-use Rattle.standard.proofs.Prelude.{div-one, mod-eq-of-lt, add-one, arith, xor-zero-r, eqb, eqb-true}
-use Rattle.standard.proofs.BytesLaws.{every-at}
-use Rattle.standard.proofs.HurdleLaws.{permuted}
+use Rattle.standard.proofs.Prelude.{_≡_, refl, sym, ap, ap₂, _∙_, Bool, List, [], _∷_, _++_, ℕ, zero, suc, _+_, _*_, _/_, _%_, _^_, _<_}
+use Rattle.standard.proofs.Prelude.{div-one, mod-eq-of-lt, add-one, arith, xor-zero-r}
 use mathlib.Core.List.{map}
 use lib.Bits.{bitXor, xor-shr, xor-mod}
 use Rattle.hurdle.specs.declared.round.Halves.{Halves as Words}
-use Rattle.standard.specs.Bytes.{_!_, byte, bit, _⊕_, _⊞_, table, xors, bytesOf}
+use Rattle.standard.specs.Bytes.{_!_, byte, bit, _⊞_, xors, bytesOf}
 use Rattle.standard.specs.Hurdle.{S, E, T, ofBits, f, Halves, round, rounds, crypt, roundKey}
-use Rattle.hurdle.specs.RoundSteps.{bytes4, halfBytes, linked, linksOver, lastOver, nibblesOver, secondOver, thirdOver, fOver, spreadOf, spreads, twice}
+use Rattle.hurdle.specs.RoundSteps.{bytes4, halfBytes, linksOver, nibblesOver, secondOver, thirdOver, fOver, spreadOf, spreads}
 use Rattle.hurdle.specs.RoundSteps.{exchangedBy, roundOver, roundsOver, HalvesOf, place}
 
 -- ---- the bits
@@ -61,81 +59,43 @@ gathered t =
 
 -- ---- f
 
--- S twice, at an index of nine bits
-twice-at : (i : ℕ) → twice ! (i % 512) ≡ S ! (i % 256)
-unfolding twice S
-twice-at i =
-    let e : i % 512 % 256 ≡ i % 256 = omega arith in
-    eqb-true _ _ (every-at 512 (λ j. eqb (twice ! j) (S ! (j % 256))) refl (i % 512) (omega arith)) ∙ ap (_!_ S) e
-
-s-lt : (i : ℕ) → S ! (i % 256) < 256
-s-lt i = permuted (i % 256) (omega arith) .s-byte
-
--- a link's index as a byte
-link-byte : (a b t : ℕ) → t < 256 → ((a + b) ⊕ t) % 256 ≡ (a ⊞ b) ⊕ t
-link-byte a b t h = xor-mod (a + b) t 8 ∙ ap (_⊕_ (a ⊞ b)) (mod-eq-of-lt h)
-
--- one link more: S at its index
-link-more : (a b i : ℕ) {u v : ℕ} → S ! (i % 256) ≡ u → S ! ((a ⊞ b) ⊕ u) ≡ v → S ! (((a + b) ⊕ twice ! (i % 512)) % 256) ≡ v
-link-more a b i p q =
-    ap (λ (u : ℕ). S ! (((a + b) ⊕ u) % 256)) (twice-at i)
-    ∙ ap (_!_ S) (link-byte a b (S ! (i % 256)) (s-lt i))
-    ∙ ap (λ (u : ℕ). S ! ((a ⊞ b) ⊕ u)) p
-    ∙ q
-
 -- S at four indexes is u
 record Found (i : List ℕ) (u : ℕ → ℕ) : Type 0 where
-  at-0 : S ! (i ! 0 % 256) ≡ u 0
-  at-1 : S ! (i ! 1 % 256) ≡ u 1
-  at-2 : S ! (i ! 2 % 256) ≡ u 2
-  at-3 : S ! (i ! 3 % 256) ≡ u 3
-
-four-links : (e k u : ℕ → ℕ) (t : ℕ) → t < 256 → S ! ((e 0 ⊞ k 0) ⊕ t) ≡ u 0 → S ! ((e 1 ⊞ k 1) ⊕ u 0) ≡ u 1 → S ! ((e 2 ⊞ k 2) ⊕ u 1) ≡ u 2
-    → S ! ((e 3 ⊞ k 3) ⊕ u 2) ≡ u 3 → Found (table 4 (linked twice t e k)) u
-four-links e k u t h p q r s =
-    let a = ap (_!_ S) (link-byte (e 0) (k 0) t h) ∙ p in
-    let b = link-more (e 1) (k 1) _ a q in
-    let c = link-more (e 2) (k 2) _ b r in
-    record { at-0 = a; at-1 = b; at-2 = c; at-3 = link-more (e 3) (k 3) _ c s }
-
-found-lt : {i : List ℕ} {u : ℕ → ℕ} → Found i u → u 3 < 256
-found-lt {i} p = subst (λ (n : ℕ). n < 256) (p .at-3) (s-lt (i ! 3))
+  at-0 : S ! (i ! 0) ≡ u 0
+  at-1 : S ! (i ! 1) ≡ u 1
+  at-2 : S ! (i ! 2) ≡ u 2
+  at-3 : S ! (i ! 3) ≡ u 3
 
 -- T0 to T3, where T0 is a link after 0; T4 to T7; T8 to T11
-links-0 : (x k : List ℕ) → Found (linksOver twice 0 x k 0) (λ j. T x k (j + 0))
+links-0 : (x k : List ℕ) → Found (linksOver S 0 x k 0) (λ j. T x k j)
 unfolding T linksOver
-links-0 x k =
-    let e : S ! ((E x 0 ⊞ byte 12 k 0) ⊕ 0) ≡ T x k 0 = ap (_!_ S) (xor-zero-r (E x 0 ⊞ byte 12 k 0)) in
-    four-links (λ j. E x (j + 0)) (λ j. byte 12 k (j + 0)) (λ j. T x k (j + 0)) 0 (omega arith) e refl refl refl
+links-0 x k = rw (xor-zero-r (E x 0 ⊞ byte 12 k 0)) (record { at-0 = refl; at-1 = refl; at-2 = refl; at-3 = refl })
 
-links-4 : (x k : List ℕ) → Found (linksOver twice (T x k 3) x k 4) (λ j. T x k (j + 4))
+links-4 : (x k : List ℕ) → Found (linksOver S (T x k 3) x k 4) (λ j. T x k (j + 4))
 unfolding T linksOver
-links-4 x k = four-links (λ j. E x (j + 4)) (λ j. byte 12 k (j + 4)) (λ j. T x k (j + 4)) (T x k 3) (found-lt (links-0 x k)) refl refl refl refl
+links-4 x k = record { at-0 = refl; at-1 = refl; at-2 = refl; at-3 = refl }
 
-links-8 : (x k : List ℕ) → Found (linksOver twice (T x k 7) x k 8) (λ j. T x k (j + 8))
+links-8 : (x k : List ℕ) → Found (linksOver S (T x k 7) x k 8) (λ j. T x k (j + 8))
 unfolding T linksOver
-links-8 x k = four-links (λ j. E x (j + 8)) (λ j. byte 12 k (j + 8)) (λ j. T x k (j + 8)) (T x k 7) (found-lt (links-4 x k)) refl refl refl refl
-
-last : {i : List ℕ} {u : ℕ → ℕ} → Found i u → lastOver twice i ≡ u 3
-last {i} p = twice-at (i ! 3) ∙ p .at-3
+links-8 x k = record { at-0 = refl; at-1 = refl; at-2 = refl; at-3 = refl }
 
 -- their bits, spread
 nibbles : {i : List ℕ} {u : ℕ → ℕ} → Found i u
     → nibblesOver spreads i ≡ (spreadOf (u 0) + 2 * spreadOf (u 1) + 4 * spreadOf (u 2) + 8 * spreadOf (u 3)) % 4294967296
 nibbles {i} p =
-    rw (spread-at (i ! 0 % 256), spread-at (i ! 1 % 256), spread-at (i ! 2 % 256), spread-at (i ! 3 % 256), p .at-0, p .at-1, p .at-2, p .at-3)
+    rw (spread-at (i ! 0), spread-at (i ! 1), spread-at (i ! 2), spread-at (i ! 3), p .at-0, p .at-1, p .at-2, p .at-3)
 
 -- the bits of T4 to T7 and of T8 to T11 in one sum
 both-nibbles : (a b : ℕ) → (a % 4294967296 + 16 * (b % 4294967296)) % 4294967296 ≡ (a + 16 * b) % 4294967296
 both-nibbles a b = omega arith
 
-f-spread : (x k : List ℕ) → fOver twice spreads x k ≡ ofBits (λ m. spreadOf (T x k (m + 4))) % 4294967296
+f-spread : (x k : List ℕ) → fOver S spreads x k ≡ ofBits (λ m. spreadOf (T x k (m + 4))) % 4294967296
 unfolding fOver secondOver thirdOver
 f-spread x k =
-    rw (last (links-0 x k), last (links-4 x k), nibbles (links-4 x k), nibbles (links-8 x k))
+    rw (links-0 x k .at-3, links-4 x k .at-3, nibbles (links-4 x k), nibbles (links-8 x k))
     (both-nibbles _ _ ∙ ap (λ (n : ℕ). n % 4294967296) (omega arith))
 
-pub f-word : (x k : List ℕ) → bytes4 (fOver twice spreads x k) ≡ f x k
+pub f-word : (x k : List ℕ) → bytes4 (fOver S spreads x k) ≡ f x k
 unfolding f
 f-word x k = ap bytes4 (f-spread x k) ∙ gathered (λ m. T x k (m + 4))
 
@@ -147,7 +107,7 @@ xor-byte a b k = rw xor-shr (xor-mod (a / 2 ^ k) (b / 2 ^ k) 8)
 bytes4-xor : (a b : ℕ) → bytes4 (bitXor a b) ≡ xors 4 (bytes4 a) (bytes4 b)
 bytes4-xor a b = cc (xor-byte a b 24, xor-byte a b 16, xor-byte a b 8, xor-mod a b 8)
 
-pub round-word : (k : List ℕ) (h : Words) → halfBytes (roundOver twice spreads k h) ≡ round k (halfBytes h)
+pub round-word : (k : List ℕ) (h : Words) → halfBytes (roundOver S spreads k h) ≡ round k (halfBytes h)
 unfolding round
 round-word k h = ap (λ (y : List ℕ). (bytes4 (h .r), y)) (bytes4-xor (h .l) _ ∙ ap (xors 4 (bytes4 (h .l))) (f-word (bytes4 (h .r)) k))
 
@@ -159,13 +119,13 @@ rounds-word back keys (suc n) h = round-word _ _ ∙ ap (round (roundKey keys (p
 
 -- one round more
 pub round-more : (back : Bool) (keys : List ℕ) (i n : ℕ) (h : Words) → n ≡ place back i
-    → roundOver twice spreads (roundKey keys n) (roundsOver back keys i h) ≡ roundsOver back keys (i + 1) h
+    → roundOver S spreads (roundKey keys n) (roundsOver back keys i h) ≡ roundsOver back keys (i + 1) h
 unfolding roundsOver
 round-more back keys i n h e = rw e (ap (λ (m : ℕ). roundsOver back keys m h) (sym (add-one i)))
 
 -- the same, in the code's two steps
 pub rounds-more : (back : Bool) (keys : List ℕ) (i n : ℕ) (h : Words) {state next : Words} {y : ℕ} → n ≡ place back i
-    → state ≡ roundsOver back keys i h → y ≡ fOver twice spreads (bytes4 (state .r)) (roundKey keys n) → next ≡ exchangedBy state y
+    → state ≡ roundsOver back keys i h → y ≡ fOver S spreads (bytes4 (state .r)) (roundKey keys n) → next ≡ exchangedBy state y
     → next ≡ roundsOver back keys (i + 1) h
 rounds-more back keys i n h e p q r = r ∙ rw (q, p) (round-more back keys i n h e)
 

@@ -1,13 +1,13 @@
 -- What the steps of a round compute, on words of 32 bits, on their way to the definitions.
 -- Assumes nothing.
 use mathlib.Core.Bool.{Bool, true, false, _&&_}
-use mathlib.Core.List.{List, [], _∷_, _++_, map}
+use mathlib.Core.List.{List, [], _∷_, map}
 use mathlib.Core.Path.{_≡_}
 use Prim.Native.Nat.{ℕ, zero, suc, _+_, _-_, _*_, _/_, _%_, _^_}
 use lib.ListN.{getD}
 use Rattle.hurdle.specs.declared.round.Halves.{Halves as Words}
 use Rattle.hurdle.specs.declared.round.Part.{Part}
-use Rattle.standard.specs.Bytes.{_!_, byte, bit, _⊕_, table, part}
+use Rattle.standard.specs.Bytes.{_!_, byte, bit, _⊕_, _⊞_, table, part}
 use Rattle.standard.specs.Hurdle.{S, E, Halves, crypt, schedule, roundKey}
 use Rattle.standard.specs.Refusals.{wrongLength, hasLength, first, answer8}
 use Rattle.standard.specs.declared.Bytes8.{Bytes8}
@@ -21,12 +21,12 @@ abbrev pub place : Bool → ℕ → ℕ
 place false i = i
 place true i = 15 - i
 
--- ---- f over tables s and w in the places of S, twice, and of its spread bits: the code takes copies, made once for a block or for four
+-- ---- f over tables s and w in the places of S and of its spread bits: the code takes copies, made once for a block or for four
 
--- the index in s of link j, of those after the byte t: each takes s at the index before. A sum of two bytes has nine bits
+-- the index in s of link j, of those after the byte t: each takes s at the index before
 abbrev pub linked : (s : List ℕ) (t : ℕ) (e k : ℕ → ℕ) → ℕ → ℕ
-linked s t e k zero = (e 0 + k 0) ⊕ t
-linked s t e k (suc j) = (e (suc j) + k (suc j)) ⊕ s ! (linked s t e k j % 512)
+linked s t e k zero = (e 0 ⊞ k 0) ⊕ t
+linked s t e k (suc j) = (e (suc j) ⊞ k (suc j)) ⊕ s ! (linked s t e k j)
 
 -- the indexes of links n to n + 3 of f's chain, after the byte t
 unfoldable pub linksOver : (s : List ℕ) (t : ℕ) (x k : List ℕ) → ℕ → List ℕ
@@ -34,11 +34,11 @@ linksOver s t x k n = table 4 (linked s t (λ j. E x (j + n)) (λ j. byte 12 k (
 
 -- the byte of the chain after four links
 abbrev pub lastOver : (s i : List ℕ) → ℕ
-lastOver s i = s ! (i ! 3 % 512)
+lastOver s i = s ! (i ! 3)
 
 -- the sum of w at four indexes, each one bit further left
 abbrev pub nibblesOver : (w i : List ℕ) → ℕ
-nibblesOver w i = (w ! (i ! 0 % 256) + 2 * w ! (i ! 1 % 256) + 4 * w ! (i ! 2 % 256) + 8 * w ! (i ! 3 % 256)) % 4294967296
+nibblesOver w i = (w ! (i ! 0) + 2 * w ! (i ! 1) + 4 * w ! (i ! 2) + 8 * w ! (i ! 3)) % 4294967296
 
 -- T3
 abbrev pub firstOver : (s x k : List ℕ) → ℕ
@@ -66,10 +66,6 @@ roundOver s w k h = exchangedBy h (fOver s w (bytes4 (h .r)) k)
 abbrev pub spreadOf : ℕ → ℕ
 spreadOf t = bit 0 t + 256 * bit 1 t + 65536 * bit 2 t + 16777216 * bit 3 t
 
--- S, and S again
-unfoldable pub twice : List ℕ
-twice = S ++ S
-
 -- S's entries, spread
 unfoldable pub spreads : List ℕ
 spreads = map spreadOf S
@@ -77,7 +73,7 @@ spreads = map spreadOf S
 -- n rounds
 unfoldable pub roundsOver : Bool → List ℕ → ℕ → Words → Words
 roundsOver back keys zero h = h
-roundsOver back keys (suc n) h = roundOver twice spreads (roundKey keys (place back n)) (roundsOver back keys n h)
+roundsOver back keys (suc n) h = roundOver S spreads (roundKey keys (place back n)) (roundsOver back keys n h)
 
 -- of four pairs of halves, or of four parts of the chain, lane j's
 abbrev pub halvesAt : List Words → ℕ → Words

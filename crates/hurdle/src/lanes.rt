@@ -8,7 +8,7 @@ use crate::round::place;
 use crate::round::second;
 use crate::round::split;
 use crate::round::third;
-use crate::tables::S_TWICE;
+use crate::tables::S;
 use crate::tables::SPREAD;
 ghost use mathlib.Core.List.{_++_};
 ghost use mathlib.Core.Path.{_≡_};
@@ -21,7 +21,7 @@ ghost use Rattle.hurdle.specs.RoundSteps.{bytes4, firstOver, secondOver,
 ghost use Rattle.hurdle.specs.RoundSteps.{halvesAt, partAt};
 
 fn first_x4(
-    s: &[u8; 512],
+    s: &[u8; 256],
     h: [Halves; 4],
     ka: &[u8],
     kb: &[u8],
@@ -42,7 +42,7 @@ fn first_x4(
 }
 
 fn second_x4(
-    s: &[u8; 512],
+    s: &[u8; 256],
     w: &[u32; 256],
     t: [u8; 4],
     h: [Halves; 4],
@@ -65,7 +65,7 @@ fn second_x4(
 }
 
 fn third_x4(
-    s: &[u8; 512],
+    s: &[u8; 256],
     w: &[u32; 256],
     p: [Part; 4],
     h: [Halves; 4],
@@ -89,7 +89,7 @@ fn third_x4(
 
 // f in each lane.
 fn f_x4(
-    s: &[u8; 512],
+    s: &[u8; 256],
     w: &[u32; 256],
     h: [Halves; 4],
     ka: &[u8],
@@ -143,7 +143,7 @@ fn rounds_x4(
     ensures { λ o. ⌜ eachLane (λ j. halvesAt o j ≡ roundsOver back
         (byLane (now (ka .entry)) (now (kb .entry)) (now (kc .entry)) (now (kd .entry)) j) 16 (halvesAt h j)) ⌝ }
 {
-    let s = S_TWICE;
+    let s = S;
     let w = SPREAD;
     let a = &ka[..];
     let b = &kb[..];

@@ -22,7 +22,6 @@ use standard::WRONG_LENGTH;
 pub use tables::A;
 pub use tables::D;
 pub use tables::S;
-pub use tables::S_TWICE;
 pub use tables::SPREAD;
 ghost use mathlib.Core.Path.{_≡_};
 ghost use Rattle.standard.specs.Bytes.{_!_, table};

@@ -1,14 +1,15 @@
 // f, and the sixteen rounds on the halves L and R, which are words here.
-use crate::tables::S_TWICE;
+use crate::tables::S;
 use crate::tables::SPREAD;
-use crate::tables::chained;
+use crate::tables::entry;
 use crate::tables::spread;
 use arrays::word;
+use std::num::wrapping_add_u8;
 ghost use mathlib.Core.List.{_++_};
 ghost use mathlib.Core.Path.{_≡_};
 ghost use Prim.Native.Nat.{_+_, _-_, _<_, _≤_};
 ghost use lib.ListN.{length};
-ghost use Rattle.standard.specs.Bytes.{_!_, byte, _⊕_, table, part};
+ghost use Rattle.standard.specs.Bytes.{_!_, byte, _⊕_, _⊞_, table, part};
 ghost use Rattle.standard.specs.Hurdle.{crypt as cryptOf, roundKey};
 ghost use Rattle.hurdle.specs.RoundSteps.{bytes4, linked, nibblesOver, firstOver, secondOver, thirdOver, fOver, exchangedBy, roundOver, roundsOver};
 ghost use Rattle.hurdle.specs.RoundSteps.{place as placeOf, HalvesOf};
@@ -25,26 +26,26 @@ fn half_bytes(x: u32) -> [u8; 4]
     ]
 }
 
-// The index of a link in S_TWICE: (e + k) ⊕ t.
-fn link(t: u8, e: u8, k: u8) -> usize
-    ensures { λ r. ⌜ r ≡ (e + k) ⊕ t ⌝ }
+// The index of a link in S: (e + k) ⊕ t.
+fn link(t: u8, e: u8, k: u8) -> u8
+    ensures { λ r. ⌜ r ≡ (e ⊞ k) ⊕ t ⌝ }
 {
-    (e as usize + k as usize) ^ t as usize
+    wrapping_add_u8(e, k) ^ t
 }
 
 // The indexes of four links after the byte t of the chain.
-fn links(s: &[u8; 512], t: u8, e: [u8; 4], k: [u8; 4]) -> [usize; 4]
+fn links(s: &[u8; 256], t: u8, e: [u8; 4], k: [u8; 4]) -> [u8; 4]
     ensures { λ r. ⌜ r ≡ table 4 (linked (now (s .entry)) t (_!_ e) (_!_ k)) ⌝ }
 {
     let a = link(t, e[0], k[0]);
-    let b = link(chained(s, a), e[1], k[1]);
-    let c = link(chained(s, b), e[2], k[2]);
-    let d = link(chained(s, c), e[3], k[3]);
+    let b = link(entry(s, a), e[1], k[1]);
+    let c = link(entry(s, b), e[2], k[2]);
+    let d = link(entry(s, c), e[3], k[3]);
     [a, b, c, d]
 }
 
 // Byte n of the word has bit n of the entries of S at four indexes.
-fn nibbles(w: &[u32; 256], i: [usize; 4]) -> u32
+fn nibbles(w: &[u32; 256], i: [u8; 4]) -> u32
     ensures { λ r. ⌜ r ≡ nibblesOver (now (w .entry)) i ⌝ }
 {
     let a = spread(w, i[0]) as u64;
@@ -68,12 +69,12 @@ fn key_bytes(k: &[u8], at: usize, n: usize) -> [u8; 4]
 }
 
 // f's chain in three fours of links, under the round key of twelve bytes from index `at` on. The first ends with T3; T0 is a link after 0.
-pub(crate) fn first(s: &[u8; 512], x: u32, k: &[u8], at: usize) -> u8
+pub(crate) fn first(s: &[u8; 256], x: u32, k: &[u8], at: usize) -> u8
     requires { ⌜ at + 12 ≤ length (now k) ⌝ }
     ensures { λ r. ⌜ r ≡ firstOver (now (s .entry)) (bytes4 x) (part at 12 (now (k .entry))) ⌝ }
 {
     let i = links(s, 0, half_bytes(x), key_bytes(k, at, 8));
-    chained(s, i[3])
+    entry(s, i[3])
 }
 
 // T7, and the bits of T4 to T7.
@@ -82,20 +83,20 @@ pub(crate) struct Part {
     pub y: u32,
 }
 
-pub(crate) fn second(s: &[u8; 512], w: &[u32; 256], t: u8, x: u32, k: &[u8], at: usize) -> Part
+pub(crate) fn second(s: &[u8; 256], w: &[u32; 256], t: u8, x: u32, k: &[u8], at: usize) -> Part
     requires { ⌜ at + 12 ≤ length (now k) ⌝ }
     ensures { λ r. ⌜ r ≡ secondOver (now (s .entry)) (now (w .entry)) t (bytes4 x) (part at 12 (now (k .entry))) ⌝ }
 {
     let e = half_bytes(x);
     let i = links(s, t, [e[0], e[2], e[1], e[3]], key_bytes(k, at, 4));
     Part {
-        t: chained(s, i[3]),
+        t: entry(s, i[3]),
         y: nibbles(w, i),
     }
 }
 
 // T8 to T11, after T7: byte n of the result has bit n of T(m+4) as its bit m.
-pub(crate) fn third(s: &[u8; 512], w: &[u32; 256], p: Part, x: u32, k: &[u8], at: usize) -> u32
+pub(crate) fn third(s: &[u8; 256], w: &[u32; 256], p: Part, x: u32, k: &[u8], at: usize) -> u32
     requires { ⌜ at + 12 ≤ length (now k) ⌝ }
     ensures { λ r. ⌜ r ≡ thirdOver (now (s .entry)) (now (w .entry)) p (bytes4 x) (part at 12 (now (k .entry))) ⌝ }
 {
@@ -106,7 +107,7 @@ pub(crate) fn third(s: &[u8; 512], w: &[u32; 256], p: Part, x: u32, k: &[u8], at
 }
 
 // f of a half and the round key from index `at` on.
-fn f(s: &[u8; 512], w: &[u32; 256], x: u32, k: &[u8], at: usize) -> u32
+fn f(s: &[u8; 256], w: &[u32; 256], x: u32, k: &[u8], at: usize) -> u32
     requires { ⌜ at + 12 ≤ length (now k) ⌝ }
     ensures { λ r. ⌜ r ≡ fOver (now (s .entry)) (now (w .entry)) (bytes4 x) (part at 12 (now (k .entry))) ⌝ }
 {
@@ -127,8 +128,8 @@ pub(crate) fn exchanged(h: Halves, y: u32) -> Halves
     Halves { l: h.r, r: h.l ^ y }
 }
 
-// A round under bytes 11 to 0 of a register, over tables of which the caller has copies: S_TWICE and SPREAD.
-pub fn round_under(s: &[u8; 512], w: &[u32; 256], h: Halves, q: &[u8; 16]) -> Halves
+// A round under bytes 11 to 0 of a register, over tables of which the caller has copies: S and SPREAD.
+pub fn round_under(s: &[u8; 256], w: &[u32; 256], h: Halves, q: &[u8; 16]) -> Halves
     ensures { λ o. ⌜ o ≡ roundOver (now (s .entry)) (now (w .entry)) (part 4 12 (now (q .entry))) h ⌝ }
 {
     exchanged(h, f(s, w, h.r, &q[..], 4))
@@ -172,7 +173,7 @@ pub fn joined(h: Halves) -> [u8; 8]
 fn rounds(keys: &[u8; 192], h: Halves, back: bool) -> Halves
     ensures { λ o. ⌜ o ≡ roundsOver back (now (keys .entry)) 16 h ⌝ }
 {
-    let s = S_TWICE;
+    let s = S;
     let w = SPREAD;
     let laid = &keys[..];
     let mut state = h;

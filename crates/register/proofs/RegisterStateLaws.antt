@@ -2,12 +2,12 @@
 -- Assumes nothing.
 use Rattle.standard.proofs.Prelude.{_≡_, sym, ap, ap₂, _∙_, List, _++_, ℕ, suc, _+_, _-_, _%_, _≤_, _<_, mod-eq-of-lt, add-one, arith, length}
 use Rattle.hurdle.proofs.RoundLaws.{round-word}
-use Rattle.hurdle.specs.RoundSteps.{bytes4, halfBytes, roundOver, spreads, twice, HalvesOf}
+use Rattle.hurdle.specs.RoundSteps.{bytes4, halfBytes, roundOver, spreads, HalvesOf}
 use Rattle.hurdle.specs.declared.round.Halves.{Halves as Words}
 use Rattle.standard.proofs.RegisterLaws.{a-most, same-cipher}
 use Rattle.standard.proofs.BytesLaws.{table-at}
 use Rattle.standard.specs.Bytes.{_!_, table, part, xors}
-use Rattle.standard.specs.Hurdle.{Halves, D, a, rotl, next, encrypt, decrypt}
+use Rattle.standard.specs.Hurdle.{S, Halves, D, a, rotl, next, encrypt, decrypt}
 use Rattle.standard.specs.Register.{step, stepBack, turned, State, roundUnder, onward, backward, encryptRegister, decryptRegister}
 use Rattle.register.specs.RegisterStates.{stateOf}
 
@@ -15,7 +15,7 @@ abbrev state : List ℕ → Halves → State
 state q h = record { register = q; halves = h }
 
 -- a round over the code's copies of S and its spread bits
-under : (q : List ℕ) (h o : Words) → o ≡ roundOver twice spreads (part 4 12 q) h → halfBytes o ≡ roundUnder q (halfBytes h)
+under : (q : List ℕ) (h o : Words) → o ≡ roundOver S spreads (part 4 12 q) h → halfBytes o ≡ roundUnder q (halfBytes h)
 under q h o e = ap halfBytes e ∙ round-word (part 4 12 q) h
 
 -- the code's rotations are those of the sequence a, so none goes beyond sixteen
@@ -28,7 +28,7 @@ twice-byte q xs i n e h = ap (λ (l : List ℕ). l ! (i + n)) e ∙ table-at 32 
 
 -- one turn of encryption
 pub onward-more : (rots : List ℕ) (i : ℕ) (s : State) (q : List ℕ) (h : Words) (q₁ : List ℕ) (h₁ : Words) → rots ≡ a → stateOf q h ≡ onward i s
-    → h₁ ≡ roundOver twice spreads (part 4 12 q) h → q₁ ≡ next (rots ! i) q → stateOf q₁ h₁ ≡ onward (i + 1) s
+    → h₁ ≡ roundOver S spreads (part 4 12 q) h → q₁ ≡ next (rots ! i) q → stateOf q₁ h₁ ≡ onward (i + 1) s
 unfolding onward
 onward-more rots i s q h q₁ h₁ t e r p =
     ap₂ state (p ∙ ap (λ (b : List ℕ). next (b ! i) q) t) (under q h h₁ r)
@@ -41,7 +41,7 @@ Ahead s i q h = (q ≡ stepBack ((31 - i) % 16) (backward i s .register)) × (ha
 
 -- one turn of it
 pub backward-more : (rots : List ℕ) (i : ℕ) (s : State) (q : List ℕ) (h : Words) (q₁ : List ℕ) (h₁ : Words) → rots ≡ a → i < 16 → Ahead s i q h
-    → q₁ ≡ rotl (16 - rots ! ((30 - i) % 16)) (xors 16 q D) → h₁ ≡ roundOver twice spreads (part 4 12 q) h → Ahead s (i + 1) q₁ h₁
+    → q₁ ≡ rotl (16 - rots ! ((30 - i) % 16)) (xors 16 q D) → h₁ ≡ roundOver S spreads (part 4 12 q) h → Ahead s (i + 1) q₁ h₁
 unfolding backward
 backward-more rots i s q h q₁ h₁ t l e p r =
     let more : backward (i + 1) s ≡ backward (suc i) s = ap (λ (n : ℕ). backward n s) (add-one i) in

@@ -7,7 +7,7 @@ use arrays::xor16;
 use hurdle::A;
 use hurdle::D;
 use hurdle::Halves;
-use hurdle::S_TWICE;
+use hurdle::S;
 use hurdle::SPREAD;
 use hurdle::doubled;
 use hurdle::joined;
@@ -58,7 +58,7 @@ fn step_back(q: &[u8; 16], n: usize) -> [u8; 16]
 fn onward(key: [u8; 16], block: Halves) -> Halves
     ensures { λ o. ⌜ halfBytes o ≡ onwardOf 16 (stateOf key block) .halves ⌝ }
 {
-    let s = S_TWICE;
+    let s = S;
     let w = SPREAD;
     let a = A;
     let mut q = key;
@@ -75,7 +75,7 @@ fn onward(key: [u8; 16], block: Halves) -> Halves
 fn backward(key: [u8; 16], block: Halves) -> Halves
     ensures { λ o. ⌜ halfBytes o ≡ backwardOf 16 (stateOf key block) .halves ⌝ }
 {
-    let s = S_TWICE;
+    let s = S;
     let w = SPREAD;
     let a = A;
     let mut q = step_back(&key, a[15]);

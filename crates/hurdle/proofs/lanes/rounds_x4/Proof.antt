@@ -3,7 +3,7 @@
 use Rattle.standard.proofs.Prelude.{_≡_, refl, _-_, _≤_, zero-le, arith, now}
 use Rattle.hurdle.proofs.LaneLaws.{Turned, rounds-more-x4}
 use Rattle.hurdle.specs.Lanes.{byLane}
-use Rattle.hurdle.specs.RoundSteps.{roundsOver, spreads, twice}
+use Rattle.hurdle.specs.RoundSteps.{roundsOver, spreads}
 use Rattle.standard.specs.Bytes.{bit}
 use Rattle.standard.specs.Hurdle.{S}
 use Rattle.hurdle.proofs.lanes.rounds_x4.Tie as tie
@@ -19,7 +19,7 @@ unfolding roundsOver
 loop-holds c = (zero-le, (refl, refl, refl, refl))
 
 loop-again : tie.Need-loop-again Inv-loop μ-loop
-unfolding S twice spreads bit
+unfolding S spreads bit
 loop-again c =
     let made = c .before in
     let placed = made .before in

@@ -6,7 +6,7 @@ returns : tie.Need-returns
 unfolding linksOver
 returns c =
     let linked = c .before in
-    rw (c .chained .ensures, linked .links .ensures, linked .before .key-bytes .ensures, linked .before .before .half-bytes .ensures)
+    rw (c .entry .ensures, linked .links .ensures, linked .before .key-bytes .ensures, linked .before .before .half-bytes .ensures)
 
 pub first-spec : {M : Type 1} → Rattle.hurdle.proofs.round.first.Statement.statement M
 first-spec =

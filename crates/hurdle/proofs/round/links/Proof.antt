@@ -6,8 +6,8 @@ returns c =
     let third = c .before .before in
     let second = third .before .before in
     let first = second .before .before in
-    rw (c .link4 .ensures, c .before .chained3 .ensures, third .link3 .ensures, third .before .chained2 .ensures)
-    (rw (second .link2 .ensures, second .before .chained .ensures, first .link .ensures))
+    rw (c .link4 .ensures, c .before .entry3 .ensures, third .link3 .ensures, third .before .entry2 .ensures)
+    (rw (second .link2 .ensures, second .before .entry .ensures, first .link .ensures))
 
 pub links-spec : {M : Type 1} → Rattle.hurdle.proofs.round.links.Statement.statement M
 links-spec =

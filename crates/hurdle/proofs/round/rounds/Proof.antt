@@ -2,7 +2,7 @@
 -- Assumes nothing.
 use Rattle.standard.proofs.Prelude.{_≡_, refl, ap, _∙_, ℕ, _+_, _-_, _*_, _≤_, zero-le, arith, now}
 use Rattle.hurdle.proofs.RoundLaws.{rounds-more}
-use Rattle.hurdle.specs.RoundSteps.{roundsOver, spreads, twice}
+use Rattle.hurdle.specs.RoundSteps.{roundsOver, spreads}
 use Rattle.standard.specs.Bytes.{bit}
 use Rattle.standard.specs.Hurdle.{S}
 use Rattle.hurdle.proofs.round.rounds.Tie as tie
@@ -18,7 +18,7 @@ unfolding roundsOver
 loop-holds c = (zero-le, refl)
 
 loop-again : tie.Need-loop-again Inv-loop μ-loop
-unfolding S twice spreads bit
+unfolding S spreads bit
 loop-again c =
     let placed2 = c .before .before in
     let middle = placed2 .before .before .before in

@@ -6,7 +6,7 @@ returns : tie.Need-returns
 unfolding linksOver secondOver
 returns c =
     let linked = c .before .before in
-    rw (c .nibbles .ensures, c .before .chained .ensures, linked .links .ensures)
+    rw (c .nibbles .ensures, c .before .entry .ensures, linked .links .ensures)
     (rw (linked .before .key-bytes .ensures, linked .before .before .half-bytes .ensures))
 
 pub second-spec : {M : Type 1} → Rattle.hurdle.proofs.round.second.Statement.statement M
