@@ -3,21 +3,21 @@
 use Rattle.standard.proofs.Prelude.{_≡_, refl, sym, ap, ap₂, _∙_, subst, Bool, true, false, _&&_, List, [], _∷_, ℕ, zero, suc, _+_, _*_, _/_}
 use Rattle.standard.proofs.Prelude.{_%_, _^_, _<_, suc-inj, suc-ne-zero, arith, xor-self, eqb, length, eqb-true, eqb-false, eq-eqb, ne-eqb}
 use native.Mathlib.Nat.{pow-succ', div-div-eq-div-mul}
-use lib.Bits.{or-add-and, and-le-l, and-le-r}
-use Rattle.standard.specs.Bytes.{_!_, bit, _⊕_, _∣_, sameOn, same, choose}
+use lib.Bits.{bitOr, or-add-and, and-le-l, and-le-r}
+use Rattle.standard.specs.Bytes.{_!_, bit, _⊕_, sameOn, same, choose}
 use Rattle.standard.specs.Seals.{differences, failedOf, clear, orOn, orOf, formOf}
 use Rattle.standard.specs.declared.Algorithm.{Algorithm}
 use Rattle.standard.specs.declared.Algorithm.the-variants.{Ta31, Ta51, Ta81, Ta91}
 use Rattle.standard.proofs.XorLaws.{xor-cancel-r}
 
 -- an or is 0 exactly if both its parts are
-or-test : (a b : ℕ) → eqb (a ∣ b) 0 ≡ eqb a 0 && eqb b 0
+or-test : (a b : ℕ) → eqb (bitOr a b) 0 ≡ eqb a 0 && eqb b 0
 or-test a b = go (eqb a 0) refl (eqb b 0) refl
   where
-    go : (s : Bool) → eqb a 0 ≡ s → (t : Bool) → eqb b 0 ≡ t → eqb (a ∣ b) 0 ≡ s && t
+    go : (s : Bool) → eqb a 0 ≡ s → (t : Bool) → eqb b 0 ≡ t → eqb (bitOr a b) 0 ≡ s && t
     go true es true et = rw (eqb-true a 0 es, eqb-true b 0 et)
-    go true es false et = ne-eqb (a ∣ b) 0 (λ (e : a ∣ b ≡ 0). eqb-false b 0 et (omega (arith, or-add-and a b, and-le-l a b)))
-    go false es t et = ne-eqb (a ∣ b) 0 (λ (e : a ∣ b ≡ 0). eqb-false a 0 es (omega (arith, or-add-and a b, and-le-r a b)))
+    go true es false et = ne-eqb (bitOr a b) 0 (λ (e : bitOr a b ≡ 0). eqb-false b 0 et (omega (arith, or-add-and a b, and-le-l a b)))
+    go false es t et = ne-eqb (bitOr a b) 0 (λ (e : bitOr a b ≡ 0). eqb-false a 0 es (omega (arith, or-add-and a b, and-le-r a b)))
 
 -- a difference is 0 exactly if both are the same
 pub xor-test : (a b : ℕ) → eqb (b ⊕ a) 0 ≡ eqb a b
@@ -32,7 +32,7 @@ or-same x t e [] [] l = e
 or-same x t e [] (b ∷ ys) l = absurd (suc-ne-zero (length ys) (sym l))
 or-same x t e (a ∷ xs) [] l = absurd (suc-ne-zero (length xs) l)
 or-same x t e (a ∷ xs) (b ∷ ys) l =
-    or-same (x ∣ (b ⊕ a)) (t && eqb a b) (or-test x (b ⊕ a) ∙ ap₂ _&&_ e (xor-test a b)) xs ys (suc-inj l)
+    or-same (bitOr x (b ⊕ a)) (t && eqb a b) (or-test x (b ⊕ a) ∙ ap₂ _&&_ e (xor-test a b)) xs ys (suc-inj l)
 
 and-assoc : (s t u : Bool) → s && (t && u) ≡ s && t && u
 and-assoc true t u = refl

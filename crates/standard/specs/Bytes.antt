@@ -5,13 +5,12 @@ use mathlib.Core.Bool.{Bool, true, false, _&&_}
 use mathlib.Core.List.{List, [], _∷_}
 use mathlib.Core.Path.{_≡_}
 use Prim.Native.Nat.{ℕ, zero, suc, _+_, _-_, _*_, _/_, _%_, _^_, _<_}
-use lib.Bits.{bitOr, bitXor}
+use lib.Bits.{bitXor}
 use lib.Dec.{eqb}
 use lib.ListN.{length, getD}
 
 infixl 90 _!_
 infixl 75 _⊕_
-infixl 70 _∣_
 infixl 75 _⊞_
 -- the byte at index i from the left; 0 past the end
 abbrev pub _!_ : List ℕ → ℕ → ℕ
@@ -28,10 +27,6 @@ bit n x = x / 2 ^ n % 2
 -- bitwise exclusive or
 abbrev pub _⊕_ : ℕ → ℕ → ℕ
 a ⊕ b = bitXor a b
-
--- bitwise or (02, 3)
-abbrev pub _∣_ : ℕ → ℕ → ℕ
-a ∣ b = bitOr a b
 
 -- byte sums wrap at 256
 abbrev pub _⊞_ : ℕ → ℕ → ℕ

@@ -5,8 +5,9 @@
 use mathlib.Core.Bool.{Bool, _&&_}
 use mathlib.Core.List.{List, [], _∷_, _++_}
 use Prim.Native.Nat.{ℕ, _+_, _*_, _/_, _%_}
+use lib.Bits.{bitOr}
 use lib.Dec.{eqb, leb}
-use Rattle.standard.specs.Bytes.{_!_, _⊕_, _∣_, table, part, xors, zeros, bytesOf, choose}
+use Rattle.standard.specs.Bytes.{_!_, _⊕_, table, part, xors, zeros, bytesOf, choose}
 use Rattle.standard.specs.Cores.{bl1, bl2}
 use Rattle.standard.specs.Expansions.{ungrouped, inserted, expected, exp1Groups, exp3Groups, x16Groups, exp1, exp3, exp4, x16, shr1, shr2}
 use Rattle.standard.specs.Refusals.{wrongLength, wrongNumber, notZero, hasLength, first, answer15, unsealed, unsealedNumbered, unsealedGroup}
@@ -101,7 +102,7 @@ clear F u = eqb (failed F u) 0
 -- (02, 3) the checks or-ed together
 abbrev pub orOn : ℕ → List ℕ → ℕ
 orOn x [] = x
-orOn x (y ∷ ys) = orOn (x ∣ y) ys
+orOn x (y ∷ ys) = orOn (bitOr x y) ys
 
 abbrev pub orOf : Form → List ℕ → ℕ
 orOf F u = orOn 0 (checks F u)
