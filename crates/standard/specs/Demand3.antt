@@ -17,7 +17,7 @@ pub record IsSealedForm (r p s : List ℕ) : Type 0 where
 
 -- of the ring r, the bytes s handed in as a sealed book, and the output
 pub record Demand3 (r s out : List ℕ) : Type 0 where
-  -- they open exactly when they are the sealed form of a well-formed plain book
+  -- they open exactly if sealing makes them of some well-formed plain book
   pub opens : (openBook r s out .0 .refusal ≡ 0) ↔ ((p : List ℕ) × IsSealedForm r p s)
   -- then of one such book and no other
   pub unique : (p q : List ℕ) → IsSealedForm r p s → IsSealedForm r q s → p ≡ q

@@ -87,7 +87,7 @@ wrongSides = 13
 abbrev pub wrongFilling : ℕ
 wrongFilling = 14
 
--- (02, 5) a parent's index is not below that of its own record
+-- (02, 5) a parent stands at or after the record itself
 abbrev pub wrongParent : ℕ
 wrongParent = 15
 

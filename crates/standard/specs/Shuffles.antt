@@ -95,7 +95,7 @@ oneRing = zeros ringSize
 abbrev pub otherRing : List ℕ
 otherRing = table ringSize suc
 
-abbrev pub TwoRings : Type 0
-TwoRings =
+abbrev pub TwoRingsJoined : Type 0
+TwoRingsJoined =
     openBook oneRing (sealedForm oneRing oneRecord ++ sealedForm otherRing oneRecord) (zeros 36)
     ≡ (record { refusal = flagSet; index = 1; written = 0; runs = 4 }, zeros 36)

@@ -1,5 +1,5 @@
-// What the calls take and answer with. An answer's first field is 0, or the number of the refusal; on a refusal every other field is
-// zero, but for a book's index and a refused opening's runs: `refused` makes such an answer.
+// What the calls take and answer with. An answer's first field is 0, or the number of the refusal; a refused answer has zeros
+// in all its other fields, but for a book's index and a refused opening's runs: `refused` makes such an answer.
 ghost use mathlib.Core.List.{[], _∷_};
 ghost use mathlib.Core.Path.{_≡_};
 ghost use Prim.Native.Nat.{_+_, _*_};
