@@ -35,23 +35,15 @@ onward-more rots i s q h q₁ h₁ t e r p =
     ∙ ap (λ (u : State). state (step i (u .register)) (roundUnder (u .register) (u .halves))) e
     ∙ ap (λ (n : ℕ). onward n s) (sym (add-one i))
 
--- decryption before turn i: the halves so far, and the register a step ahead
-abbrev pub Ahead : State → ℕ → List ℕ → Words → Type 0
-Ahead s i q h = (q ≡ stepBack ((31 - i) % 16) (backward i s .register)) × (halfBytes h ≡ backward i s .halves)
-
--- one turn of it
-pub backward-more : (rots : List ℕ) (i : ℕ) (s : State) (q : List ℕ) (h : Words) (q₁ : List ℕ) (h₁ : Words) → rots ≡ a → i < 16 → Ahead s i q h
-    → q₁ ≡ rotl (16 - rots ! ((30 - i) % 16)) (xors 16 q D) → h₁ ≡ roundOver S spreads (part 4 12 q) h → Ahead s (i + 1) q₁ h₁
+-- one turn of decryption
+pub backward-more : (rots : List ℕ) (i : ℕ) (s : State) (q : List ℕ) (h : Words) (q₁ : List ℕ) (h₁ : Words) → rots ≡ a → stateOf q h ≡ backward i s
+    → q₁ ≡ rotl (16 - rots ! (15 - i)) (xors 16 q D) → h₁ ≡ roundOver S spreads (part 4 12 q₁) h → stateOf q₁ h₁ ≡ backward (i + 1) s
 unfolding backward
-backward-more rots i s q h q₁ h₁ t l e p r =
-    let more : backward (i + 1) s ≡ backward (suc i) s = ap (λ (n : ℕ). backward n s) (add-one i) in
-    let here : (31 - i) % 16 ≡ 15 - i = omega arith in
-    let ahead : (30 - i) % 16 ≡ (31 - (i + 1)) % 16 = ap (λ (n : ℕ). n % 16) (omega arith) in
-    let reached : q ≡ stepBack (15 - i) (backward i s .register) = e .0 ∙ ap (λ (n : ℕ). stepBack n (backward i s .register)) here in (
-      p ∙ ap₂ (λ (b x : List ℕ). rotl (16 - b ! ((30 - i) % 16)) (xors 16 x D)) t (reached ∙ sym (ap (λ (u : State). u .register) more))
-          ∙ ap (λ (n : ℕ). stepBack n (backward (i + 1) s .register)) ahead,
-      under q h h₁ r ∙ ap₂ roundUnder reached (e .1) ∙ sym (ap (λ (u : State). u .halves) more),
-    )
+backward-more rots i s q h q₁ h₁ t e p r =
+    let back : q₁ ≡ stepBack (15 - i) q = p ∙ ap (λ (b : List ℕ). rotl (16 - b ! (15 - i)) (xors 16 q D)) t in
+    ap₂ state back (under q₁ h h₁ r ∙ ap (λ (x : List ℕ). roundUnder x (halfBytes h)) back)
+    ∙ ap (λ (u : State). state (stepBack (15 - i) (u .register)) (roundUnder (stepBack (15 - i) (u .register)) (u .halves))) e
+    ∙ ap (λ (n : ℕ). backward n s) (sym (add-one i))
 
 -- one step of the register, of the first sixteen
 pub turned-more : (rots : List ℕ) (i : ℕ) (key q q₁ : List ℕ) → rots ≡ a → i < 16 → q ≡ turned key i → q₁ ≡ next (rots ! i) q → q₁ ≡ turned key (i + 1)
@@ -62,15 +54,15 @@ turned-more rots i key q q₁ t h e p =
 -- ---- the block
 
 -- the halves after the rounds, from those of the block
-module _ (key b out : List ℕ) (h o : Words) (s : HalvesOf b h) (j : out ≡ bytes4 (o .r) ++ bytes4 (o .l)) where
-  pub encrypted : halfBytes o ≡ onward 16 (stateOf key h) .halves → out ≡ encrypt key b
+module _ (key b out q : List ℕ) (h o : Words) (s : HalvesOf b h) (j : out ≡ bytes4 (o .r) ++ bytes4 (o .l)) where
+  pub encrypted : stateOf q o ≡ onward 16 (stateOf key h) → out ≡ encrypt key b
   unfolding encryptRegister
-  encrypted r =
-      j ∙ ap (λ (g : Halves). g .1 ++ g .0) (r ∙ ap₂ (λ (x y : List ℕ). onward 16 (state key (x, y)) .halves) (s .left) (s .right))
+  encrypted e =
+      j ∙ ap (λ (t : State). t .halves .1 ++ t .halves .0) (e ∙ ap₂ (λ (x y : List ℕ). onward 16 (state key (x, y))) (s .left) (s .right))
       ∙ same-cipher .encrypting key b
 
-  pub decrypted : length key ≡ 16 → halfBytes o ≡ backward 16 (stateOf key h) .halves → out ≡ decrypt key b
+  pub decrypted : length key ≡ 16 → stateOf q o ≡ backward 16 (stateOf key h) → out ≡ decrypt key b
   unfolding decryptRegister
-  decrypted k r =
-      j ∙ ap (λ (g : Halves). g .1 ++ g .0) (r ∙ ap₂ (λ (x y : List ℕ). backward 16 (state key (x, y)) .halves) (s .left) (s .right))
+  decrypted k e =
+      j ∙ ap (λ (t : State). t .halves .1 ++ t .halves .0) (e ∙ ap₂ (λ (x y : List ℕ). backward 16 (state key (x, y))) (s .left) (s .right))
       ∙ same-cipher .decrypting key b k

@@ -18,7 +18,6 @@ use standard::Bytes16;
 use standard::WRONG_LENGTH;
 ghost use mathlib.Core.Path.{_≡_};
 ghost use Prim.Native.Nat.{_-_, _≤_};
-ghost use Rattle.hurdle.specs.RoundSteps.{halfBytes};
 ghost use Rattle.standard.specs.Bytes.{xors};
 ghost use Rattle.standard.specs.Hurdle.{D as dOf, rotl, next, encryptCall, decryptCall};
 ghost use Rattle.standard.specs.Register.{turned as turnedOf, onward as onwardOf, backward as backwardOf, registerCall};
@@ -53,10 +52,15 @@ fn step_back(q: &[u8; 16], n: usize) -> [u8; 16]
     rotated(&xor16(*q, D), 16 - n)
 }
 
-// Sixteen rounds of encryption: each a round, and then the step. The code makes the step before the round, so that it need not wait for the
-// end of the round's chain of lookups.
-fn onward(key: [u8; 16], block: Halves) -> Halves
-    ensures { λ o. ⌜ halfBytes o ≡ onwardOf 16 (stateOf key block) .halves ⌝ }
+// What the rounds keep: the register, and the block's halves beside it.
+struct State {
+    register: [u8; 16],
+    halves: Halves,
+}
+
+// Sixteen rounds of encryption: each a round under the register, and then its step.
+fn onward(key: [u8; 16], block: Halves) -> State
+    ensures { λ r. ⌜ stateOf (r .register) (r .halves) ≡ onwardOf 16 (stateOf key block) ⌝ }
 {
     let s = S;
     let w = SPREAD;
@@ -64,28 +68,32 @@ fn onward(key: [u8; 16], block: Halves) -> Halves
     let mut q = key;
     let mut h = block;
     for i in 0..16 {
-        let stepped = step(&q, a[i]);
         h = round_under(&s, &w, h, &q);
-        q = stepped;
+        q = step(&q, a[i]);
     }
-    h
+    State {
+        register: q,
+        halves: h,
+    }
 }
 
-// Sixteen rounds of decryption: each the step back, and then a round. The code is a step ahead here too; the last one is for no round.
-fn backward(key: [u8; 16], block: Halves) -> Halves
-    ensures { λ o. ⌜ halfBytes o ≡ backwardOf 16 (stateOf key block) .halves ⌝ }
+// Sixteen rounds of decryption: each the step back, and then a round under the register.
+fn backward(key: [u8; 16], block: Halves) -> State
+    ensures { λ r. ⌜ stateOf (r .register) (r .halves) ≡ backwardOf 16 (stateOf key block) ⌝ }
 {
     let s = S;
     let w = SPREAD;
     let a = A;
-    let mut q = step_back(&key, a[15]);
+    let mut q = key;
     let mut h = block;
     for i in 0..16 {
-        let stepped = step_back(&q, a[(30 - i) % 16]);
+        q = step_back(&q, a[15 - i]);
         h = round_under(&s, &w, h, &q);
-        q = stepped;
     }
-    h
+    State {
+        register: q,
+        halves: h,
+    }
 }
 
 // The register after so many steps.
@@ -107,9 +115,11 @@ fn crypt(key: [u8; 16], block: [u8; 8], back: bool) -> [u8; 8]
 {
     let halves = split(block);
     if back {
-        joined(backward(key, halves))
+        let state = backward(key, halves);
+        joined(state.halves)
     } else {
-        joined(onward(key, halves))
+        let state = onward(key, halves);
+        joined(state.halves)
     }
 }
 

@@ -4,7 +4,7 @@ use Rattle.standard.proofs.Prelude.{_≡_, refl, ap, _-_, _≤_, zero-le, arith
 use Rattle.hurdle.specs.RoundSteps.{spreads}
 use Rattle.standard.specs.Bytes.{bit}
 use Rattle.standard.specs.Hurdle.{S, a}
-use Rattle.standard.specs.Register.{State, onward}
+use Rattle.standard.specs.Register.{onward}
 use Rattle.register.proofs.RegisterStateLaws.{rotation-most, onward-more}
 use Rattle.register.specs.RegisterStates.{stateOf}
 use Rattle.register.proofs.onward.Tie as tie
@@ -21,27 +21,27 @@ loop-holds c = (zero-le, refl, refl)
 
 step-requires : tie.Need-step-requires Inv-loop μ-loop
 step-requires c κs =
-    let at = c .before .before .loop in
+    let at = c .before .before .before .before .before .before .loop in
     rotation-most _ (at .i) (at .inv .1) (omega arith)
 
 loop-again : tie.Need-loop-again Inv-loop μ-loop
 unfolding S spreads bit
 loop-again c =
-    let stepped = c .before .before .before .before in
-    let at = stepped .before .before .before .loop in (
+    let made = c .before .before in
+    let at = made .before .before .before .before .before .loop in (
       omega arith,
       at .inv .1,
-      onward-more _ (at .i) _ (at .q) (at .h) (stepped .step .result) (c .round-under .result) (at .inv .1) (at .inv .2)
-          (c .round-under .ensures) (stepped .step .ensures),
+      onward-more _ (at .i) _ (at .q) (at .h) (c .step .result) (made .round-under .result) (at .inv .1) (at .inv .2)
+          (made .round-under .ensures) (c .step .ensures),
     )
 
 returns : tie.Need-returns Inv-loop μ-loop
 returns c =
     let e : c .before .loop .i ≡ 16 = omega arith in
-    ap (λ (t : State). t .halves) (rw e at (c .before .loop .inv .2))
+    rw e at (c .before .loop .inv .2)
 
 pub onward-spec : {M : Type 1} → Rattle.register.proofs.onward.Statement.statement M
 onward-spec =
     tie.close
-    (tie.spec Inv-loop μ-loop loop-holds (λ c. omega arith) (λ c. omega arith) step-requires (λ c κs. search needs) (λ c. omega arith)
+    (tie.spec Inv-loop μ-loop loop-holds (λ c κs. search needs) (λ c. omega arith) (λ c. omega arith) step-requires (λ c. omega arith)
     (λ c. omega arith) loop-again returns)
