@@ -53,7 +53,7 @@ abbrev over : List ℕ → List ℕ → List ℕ
 over s out = take (length out) s ++ drop (length s) out
 
 module _ (m : ℕ) (a b out : List ℕ) (ha : length a ≡ m) (h : length out ≡ m + length b) where
-  over-front : over a out ≡ a ++ drop m out
+  pub over-front : over a out ≡ a ++ drop m out
   over-front = ap₂ _++_ (take-all (length out) a (omega arith)) (ap (λ (k : ℕ). drop k out) ha)
 
   rest : length (drop m out) ≡ length b
@@ -63,7 +63,7 @@ module _ (m : ℕ) (a b out : List ℕ) (ha : length a ≡ m) (h : length out �
   over-rest =
       rw (rest, drop-of-length-le (drop m out) {i = length b} (omega (arith, rest)), append-nil) (take-all (length b) b (omega arith))
 
-  two-copied : (n : ℕ) (r₁ r₂ : List ℕ) → n ≡ length b → r₁ ≡ over a out → r₂ ≡ over b (midOf m n r₁) → putMid m n r₁ r₂ ≡ a ++ b
+  pub two-copied : (n : ℕ) (r₁ r₂ : List ℕ) → n ≡ length b → r₁ ≡ over a out → r₂ ≡ over b (midOf m n r₁) → putMid m n r₁ r₂ ≡ a ++ b
   two-copied n r₁ r₂ k e₁ e₂ =
       let f₁ : r₁ ≡ a ++ drop m out = e₁ ∙ over-front in
       let f₂ : r₂ ≡ b =

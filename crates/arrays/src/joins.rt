@@ -16,14 +16,6 @@ fn join(a: &[u8], seam: usize, b: &[u8], out: &mut [u8])
     copy(b, &mut out[seam..]);
 }
 
-pub fn join_4_10(a: [u8; 4], b: [u8; 10]) -> [u8; 14]
-    ensures { λ r. ⌜ r ≡ part 0 4 a ++ part 0 10 b ⌝ }
-{
-    let mut out = [0u8; 14];
-    join(&a, 4, &b, &mut out);
-    out
-}
-
 pub fn join_6_12(a: [u8; 6], b: [u8; 12]) -> [u8; 18]
     ensures { λ r. ⌜ r ≡ part 0 6 a ++ part 0 12 b ⌝ }
 {

@@ -4,7 +4,6 @@ mod parts;
 mod words;
 mod xors;
 
-pub use joins::join_4_10;
 pub use joins::join_6_12;
 pub use joins::join_6_15;
 pub use joins::join_7_8;

@@ -1,10 +1,17 @@
 -- A class's records are those of single calls, and the ways in which the call returns.
 -- Assumes nothing.
-use Rattle.standard.proofs.Prelude.{_≡_, refl, sym, ap, _∙_, Bool, List, _++_, ℕ, _*_, _/_, _≤_, arith, length, drop, eq-eqb, ne-eqb, leb-true}
+use Rattle.standard.proofs.Prelude.{_≡_, refl, sym, ap, ap₂, _∙_, Bool, List, _++_, ℕ, _+_, _-_, _*_, _/_, _^_, _≤_, _<_, arith, length, take, drop}
+use Rattle.standard.proofs.Prelude.{length-append, length-drop, eq-eqb, ne-eqb, leb-true}
+use lib.Count.{ones}
+use borrow.Rule.Slice.PartMut.{midOf, putMid}
+use Rattle.arrays.proofs.CopyLaws.{over-front, two-copied}
+use Rattle.keys.proofs.MaskLaws.{front-filled}
+use Rattle.keys.specs.Masks.{Counted}
 use Rattle.lists.proofs.ListReturnLaws.{call-refused, call-done}
 use Rattle.standard.proofs.BookLaws.{each-same}
+use Rattle.standard.proofs.BytesLaws.{spelled}
+use Rattle.standard.proofs.DerivationLaws.{length-chosen}
 use Rattle.standard.proofs.FirstLaws.{all-pass, first-append}
-use Rattle.standard.specs.Bytes.{part}
 use Rattle.standard.specs.Classes.{classRecord, ta12ClassCall}
 use Rattle.standard.specs.Cores.{bl1With, bl1}
 use Rattle.standard.specs.Derivation.{chosen, ta12Call}
@@ -13,7 +20,6 @@ use Rattle.standard.specs.Hurdle.{schedule}
 use Rattle.standard.specs.Lists.{recordAt, each, listTests, refused}
 use Rattle.standard.specs.Refusals.{wrongLength, maskTests, first}
 use Rattle.standard.specs.Sizes.{challengeSize, authenticationSize}
-use Rattle.standard.specs.declared.Authentication.{Authentication}
 use Rattle.classes.specs.ClassRecords.{recordFrom, recordWith}
 
 from-length : (rm km : ℕ) (o : List ℕ) → length (recordFrom rm km o) ≡ authenticationSize
@@ -24,11 +30,26 @@ pub record-length : (keys : List ℕ) (rm km : ℕ) (x : List ℕ) → length (r
 unfolding recordWith
 record-length keys rm km x = from-length rm km (bl1With keys (exp2 x))
 
--- the response and the key, one after the other
-pub record-made : (rm km : ℕ) (o : List ℕ) {a : Authentication} → a ≡ record { refusal = 0; response = part 0 4 (chosen rm o); key = part 0 10 (chosen km o) }
-    → part 0 4 (a .response) ++ part 0 10 (a .key) ≡ recordFrom rm km o
-unfolding recordFrom
-record-made rm km o e = rw e
+-- the response in the front of the part, and the key in the rest of it
+module _ (rm km : ℕ) (o out r₁ r₂ : List ℕ) (hr : rm < 2 ^ 16) (hk : km < 2 ^ 16) (counted : Counted rm km) (l : length out ≡ authenticationSize)
+    (e₁ : r₁ ≡ take (length (take (ones rm) out)) (chosen rm o) ++ drop (length (chosen rm o)) (take (ones rm) out)) where
+  responded : r₁ ≡ chosen rm o
+  responded = front-filled rm o out r₁ hr (omega (arith, l, counted .0)) e₁
+
+  pub rest-length : length (r₁ ++ drop (ones rm) out) ≡ authenticationSize
+  rest-length = length-append r₁ (drop (ones rm) out) ∙ omega (arith, ap length responded, length-chosen rm o hr, length-drop (ones rm) out, l, counted .0)
+
+  pub record-filled : r₂ ≡ take (length (midOf (ones rm) (ones rm + ones km - ones rm) (r₁ ++ drop (ones rm) out))) (chosen km o)
+      ++ drop (length (chosen km o)) (midOf (ones rm) (ones rm + ones km - ones rm) (r₁ ++ drop (ones rm) out))
+      → putMid (ones rm) (ones rm + ones km - ones rm) (r₁ ++ drop (ones rm) out) r₂ ≡ recordFrom rm km o
+  unfolding recordFrom
+  record-filled e₂ =
+      let lr : length (chosen rm o) ≡ ones rm = length-chosen rm o hr in
+      let lk : length (chosen km o) ≡ ones km = length-chosen km o hk in
+      let long : length out ≡ ones rm + length (chosen km o) = omega (arith, l, lk, counted .0, counted .1) in
+      two-copied (ones rm) (chosen rm o) (chosen km o) out lr long (ones rm + ones km - ones rm) (r₁ ++ drop (ones rm) out) r₂ (omega (arith, lk))
+      (ap (λ (y : List ℕ). y ++ drop (ones rm) out) responded ∙ sym (over-front (ones rm) (chosen rm o) (chosen km o) out lr long)) e₂
+      ∙ sym (ap₂ _++_ (spelled 4 (chosen rm o) (lr ∙ counted .0)) (spelled 10 (chosen km o) (lk ∙ counted .1)))
 
 -- the core's output for a challenge gives its record
 pub record-by : (keys : List ℕ) (rm km : ℕ) (x : List ℕ) {y o : List ℕ} → y ≡ exp2 x → o ≡ bl1With keys y → recordFrom rm km o ≡ recordWith keys rm km x

@@ -1,7 +1,5 @@
 // A whole class of challenges under one session key: for each the response and the key that TA12 answers. The masks are tested and the
 // round keys made once, and four challenges go side by side.
-use arrays::copy;
-use arrays::join_4_10;
 use arrays::part10;
 use arrays::part16;
 use cores::CoreOutput16;
@@ -9,8 +7,8 @@ use cores::bl1_with;
 use cores::exp2;
 use cores_x4::bl1_with_x4;
 use hurdle::schedule;
+use keys::choose;
 use keys::mask_refusal;
-use keys::split;
 use lists::lengths_and_output;
 use standard::AUTHENTICATION;
 use standard::BookAnswer;
@@ -22,23 +20,39 @@ ghost use Prim.Native.Nat.{_+_, _*_, _≤_};
 ghost use lib.ListN.{length, drop};
 ghost use Rattle.cores_x4.specs.Lanes.{lane16};
 ghost use Rattle.hurdle.specs.Lanes.{lanes};
+ghost use Rattle.keys.specs.Masks.{Counted};
 ghost use Rattle.lists.specs.Walks.{after, replaceAt, replaceFrom};
 ghost use Rattle.standard.specs.Classes.{ta12ClassCall};
 ghost use Rattle.standard.specs.Lists.{recordAt, each};
 ghost use Rattle.standard.specs.Sizes.{challengeSize, authenticationSize};
 ghost use Rattle.classes.specs.ClassRecords.{inputAt, recordFrom, recordWith};
 
-// The record of an output of the core, at place i.
+// The record of an output of the core: the response and the key, each in the part that as many bytes fill as its mask has ones.
+fn write_record(output: [u8; 16], response_mask: u16, key_mask: u16, out: &mut [u8])
+    requires { ⌜ length (now out) ≡ authenticationSize ⌝ }
+    requires { ⌜ Counted «response_mask» «key_mask» ⌝ }
+    ensures { λ _. ⌜ now (out .exit) ≡ recordFrom «response_mask» «key_mask» output ⌝ }
+{
+    let n = u16::count_ones(response_mask) as usize;
+    let m = u16::count_ones(key_mask) as usize;
+    choose(response_mask, output, &mut out[..n]);
+    choose(key_mask, output, &mut out[n..n + m]);
+}
+
+// At place i.
 fn write_at(o: CoreOutput16, response_mask: u16, key_mask: u16, i: usize, out: &mut [u8])
     requires { ⌜ authenticationSize * i + authenticationSize ≤ length (now out) ⌝ }
+    requires { ⌜ Counted «response_mask» «key_mask» ⌝ }
     ensures { λ _. ⌜ now (out .exit) ≡ replaceAt authenticationSize i (recordFrom «response_mask» «key_mask» (o .output)) (now (out .entry)) ⌝ }
 {
     let output = o.output;
-    let a = split(output, response_mask, key_mask);
-    let response = a.response;
-    let key = a.key;
     let b = AUTHENTICATION * i;
-    copy(&join_4_10(response, key), &mut out[b..b + AUTHENTICATION]);
+    write_record(
+        output,
+        response_mask,
+        key_mask,
+        &mut out[b..b + AUTHENTICATION],
+    );
 }
 
 // Challenge i, expanded.
@@ -60,6 +74,7 @@ fn write_one(
     out: &mut [u8],
 )
     requires { ⌜ (challengeSize * i + challengeSize ≤ length (now challenges)) × (authenticationSize * i + authenticationSize ≤ length (now out)) ⌝ }
+    requires { ⌜ Counted «response_mask» «key_mask» ⌝ }
     ensures { λ _. ⌜ now (out .exit)
         ≡ replaceAt authenticationSize i (recordWith (now (keys .entry)) «response_mask» «key_mask» (recordAt challengeSize (now (challenges .entry)) i))
         (now (out .entry)) ⌝ }
@@ -82,6 +97,7 @@ fn input_at_x4(challenges: &[u8], i: usize) -> [[u8; 16]; 4]
 
 fn write_at_x4(o: [CoreOutput16; 4], response_mask: u16, key_mask: u16, i: usize, out: &mut [u8])
     requires { ⌜ authenticationSize * (i + 4) ≤ length (now out) ⌝ }
+    requires { ⌜ Counted «response_mask» «key_mask» ⌝ }
     ensures { λ _. ⌜ now (out .exit)
         ≡ replaceFrom authenticationSize i (λ j. recordFrom «response_mask» «key_mask» (lane16 o j .output)) 4 (now (out .entry)) ⌝ }
 {
@@ -100,6 +116,7 @@ fn write_x4(
     out: &mut [u8],
 )
     requires { ⌜ (challengeSize * (i + 4) ≤ length (now challenges)) × (authenticationSize * (i + 4) ≤ length (now out)) ⌝ }
+    requires { ⌜ Counted «response_mask» «key_mask» ⌝ }
     ensures { λ _. ⌜ now (out .exit)
         ≡ replaceFrom authenticationSize i
         (λ j. recordWith (now (keys .entry)) «response_mask» «key_mask» (recordAt challengeSize (now (challenges .entry)) (i + j))) 4
@@ -119,6 +136,7 @@ fn write(
     out: &mut [u8],
 )
     requires { ⌜ (challengeSize * n ≤ length (now challenges)) × (authenticationSize * n ≤ length (now out)) ⌝ }
+    requires { ⌜ Counted «response_mask» «key_mask» ⌝ }
     ensures { λ _. ⌜ now (out .exit)
         ≡ each n challengeSize (recordWith (now (keys .entry)) «response_mask» «key_mask») (now (challenges .entry))
         ++ drop (authenticationSize * n) (now (out .entry)) ⌝ }

@@ -4,6 +4,7 @@ mod masks;
 mod recipe;
 
 use crate::derivation::int;
+use crate::masks::split;
 use crate::recipe::make;
 use arrays::have_lengths;
 use arrays::part10;
@@ -12,8 +13,8 @@ use arrays::part16;
 pub use derivation::core;
 pub use derivation::reversed;
 pub use derivation::ta71_of;
+pub use masks::choose;
 pub use masks::mask_refusal;
-pub use masks::split;
 use standard::Authentication;
 use standard::Bytes10;
 use standard::Bytes16;

@@ -1,12 +1,14 @@
 // The two masks of TA12 and TA22: their tests, and the bytes that they choose.
-use arrays::part10;
 use standard::Authentication;
 use standard::SHARED_BIT;
 use standard::WRONG_MASK;
+ghost use mathlib.Core.List.{_++_};
 ghost use mathlib.Core.Path.{_≡_};
-ghost use Rattle.standard.specs.Bytes.{part};
-ghost use Rattle.standard.specs.Derivation.{chosen};
+ghost use lib.Count.{ones};
+ghost use lib.ListN.{length, take, drop};
+ghost use Rattle.standard.specs.Derivation.{chosen, split as splitOf};
 ghost use Rattle.standard.specs.Refusals.{maskTests, first};
+ghost use Rattle.keys.specs.Masks.{Counted};
 
 // The number of the first test that the masks fail; 0 if none.
 pub fn mask_refusal(response_mask: u16, key_mask: u16) -> u32
@@ -22,36 +24,43 @@ pub fn mask_refusal(response_mask: u16, key_mask: u16) -> u32
     0
 }
 
-// Of the bytes B15 to B0 those whose bit is set, higher bytes first, and zeros after them.
-fn gathered(mask: u16, output: [u8; 16]) -> [u8; 16]
-    ensures { λ r. ⌜ r ≡ part 0 16 (chosen mask output) ⌝ }
+// Of the bytes B15 to B0 those whose bit is set, higher bytes first, into the front of the lent part, as far as both go.
+pub fn choose(mask: u16, output: [u8; 16], out: &mut [u8])
+    ensures { λ _. ⌜ now (out .exit) ≡ take (length (now (out .entry))) (chosen mask output) ++ drop (length (chosen mask output)) (now (out .entry)) ⌝ }
 {
-    let mut out = [0u8; 16];
+    let n = out.len();
     let mut i: usize = 16;
     let mut k: usize = 0;
-    while i > 0 {
+    while (i > 0) & (k < n) {
         i -= 1;
         if (mask >> i) % 2 == 1 {
             out[k] = output[15 - i];
             k += 1;
         }
     }
-    out
 }
 
-fn first4(x: [u8; 16]) -> [u8; 4]
-    ensures { λ r. ⌜ r ≡ part 0 4 x ⌝ }
+// The lent part becomes all the bytes that the mask chooses, as many as it has ones.
+fn fill(mask: u16, output: [u8; 16], out: &mut [u8])
+    requires { ⌜ length (now out) ≡ ones mask ⌝ }
+    ensures { λ _. ⌜ now (out .exit) ≡ chosen mask output ⌝ }
 {
-    [x[0], x[1], x[2], x[3]]
+    let n = u16::count_ones(mask) as usize;
+    choose(mask, output, &mut out[..n]);
 }
 
-// The response and the key, each chosen by its mask. The masks are not tested: a caller does that once, for any number of outputs.
-pub fn split(output: [u8; 16], response_mask: u16, key_mask: u16) -> Authentication
-    ensures { λ r. ⌜ r ≡ record { refusal = 0; response = part 0 4 (chosen «response_mask» output); key = part 0 10 (chosen «key_mask» output) } ⌝ }
+// The response and the key. They have 4 and 10 bytes because the masks have passed their tests.
+pub(crate) fn split(output: [u8; 16], response_mask: u16, key_mask: u16) -> Authentication
+    requires { ⌜ Counted «response_mask» «key_mask» ⌝ }
+    ensures { λ r. ⌜ r ≡ splitOf «response_mask» «key_mask» output ⌝ }
 {
+    let mut response = [0u8; 4];
+    fill(response_mask, output, &mut response);
+    let mut key = [0u8; 10];
+    fill(key_mask, output, &mut key);
     Authentication {
         refusal: 0,
-        response: first4(gathered(response_mask, output)),
-        key: part10(&gathered(key_mask, output), 0),
+        response,
+        key,
     }
 }

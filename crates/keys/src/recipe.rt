@@ -10,8 +10,8 @@ use standard::Authentication;
 use standard::RingInputs;
 use standard::RingMade;
 ghost use mathlib.Core.Path.{_≡_};
-ghost use lib.Count.{ones};
 ghost use Rattle.standard.specs.Derivation.{core as coreOf, half as halfOf, ringAnswer};
+ghost use Rattle.keys.specs.Masks.{Counted};
 
 // One half of the recipe: a session key from root and seed, and what it answers to a challenge. A half that does not run answers zero bytes,
 // with no cipher run.
@@ -23,7 +23,7 @@ fn half(
     response_mask: u16,
     key_mask: u16,
 ) -> Authentication
-    requires { ⌜ (ones «response_mask» ≡ 4) × (ones «key_mask» ≡ 10) ⌝ }
+    requires { ⌜ Counted «response_mask» «key_mask» ⌝ }
     ensures { λ r. ⌜ r ≡ halfOf runs «response_mask» «key_mask» (coreOf (coreOf root seed) challenge) ⌝ }
 {
     if !runs {
@@ -38,7 +38,7 @@ fn half(
 
 // D, O, C and G, and both responses.
 pub(crate) fn make(x: RingInputs) -> RingMade
-    requires { ⌜ (ones (x .«response_mask») ≡ 4) × (ones (x .«key_mask») ≡ 10) ⌝ }
+    requires { ⌜ Counted (x .«response_mask») (x .«key_mask») ⌝ }
     ensures { λ r. ⌜ r ≡ ringAnswer 0 x ⌝ }
 {
     let root = x.root;

@@ -26,7 +26,7 @@ pub lent : (w i : ℕ) (xs : List ℕ) → w * i + w ≤ length xs → take (w *
 lent w i xs h = lent-part (w * i) w xs h
 
 -- and has w bytes
-lent-length : (w i : ℕ) (xs : List ℕ) → w * i + w ≤ length xs → length (take (w * i + w - w * i) (drop (w * i) xs)) ≡ w
+pub lent-length : (w i : ℕ) (xs : List ℕ) → w * i + w ≤ length xs → length (take (w * i + w - w * i) (drop (w * i) xs)) ≡ w
 lent-length w i xs h = simp (length-take, length-drop) (omega (arith, h))
 
 -- a part of v bytes is overwritten whole by a string of as many
@@ -125,13 +125,16 @@ module _ (v : ℕ) (g : ℕ → List ℕ) (long : (i : ℕ) → length (g i) ≡
 
 -- ---- strings put at their places
 
--- the part from v * i on, lent and overwritten whole by y, puts y at place i
+-- the part from v * i on, lent and made y, puts y at place i
+pub replaced-by : (v i : ℕ) (out y exit : List ℕ) → exit ≡ y → take (v * i) out ++ (exit ++ drop (v * i + v - v * i) (drop (v * i) out)) ≡ replaceAt v i y out
+replaced-by v i out y exit e = rw (e, add-sub-cancel-left (v * i) v, drop-drop v (v * i) out)
+
+-- and so if y is copied over it
 pub replaced-lent : (v i : ℕ) (out y exit : List ℕ) → v * i + v ≤ length out → length y ≡ v
     → exit ≡ take (length (take (v * i + v - v * i) (drop (v * i) out))) y ++ drop v (take (v * i + v - v * i) (drop (v * i) out))
     → take (v * i) out ++ (exit ++ drop (v * i + v - v * i) (drop (v * i) out)) ≡ replaceAt v i y out
 replaced-lent v i out y exit room l e =
-    let whole : exit ≡ y = overwritten v (take (v * i + v - v * i) (drop (v * i) out)) y exit (lent-length v i out room) l e in
-    rw (whole, add-sub-cancel-left (v * i) v, drop-drop v (v * i) out)
+    replaced-by v i out y exit (overwritten v (take (v * i + v - v * i) (drop (v * i) out)) y exit (lent-length v i out room) l e)
 
 -- n strings from place i on stand in an output that was out₀
 pub record ReplacedFrom (v i : ℕ) (g : ℕ → List ℕ) (out₀ : List ℕ) (n : ℕ) (out : List ℕ) : Type 0 where

@@ -1,6 +1,7 @@
 use Rattle.standard.proofs.Prelude.{_≡_, sym, ap, _∙_, List, _++_, ℕ, _*_, _/_, length, drop, now, needs}
 use Rattle.lists.proofs.LengthLaws.{records-within}
 use Rattle.standard.proofs.BytesLaws.{spelled}
+use Rattle.standard.proofs.DerivationLaws.{masks-ones}
 use Rattle.standard.specs.Hurdle.{schedule}
 use Rattle.standard.specs.Sizes.{challengeSize, authenticationSize}
 use Rattle.classes.proofs.ClassLaws.{same-records, key-refused, lengths-refused, room, masks-refused, all-written}
@@ -30,11 +31,15 @@ returns-3 c =
 
 write-requires : tie.Need-write-requires
 write-requires c κs =
-    let lens = c .before .before .before .before .before .before .before in
+    let masks = c .before .before .before .before .before in
+    let lens = masks .before .before in
     let x = lens .before .before .before .before .before .args in (
-      records-within challengeSize (length (now (x .challenges))),
-      room (now (x .session-key)) (now (x .challenges)) (x .response-mask) (x .key-mask) (now (x .out))
-          (lens .before .if1 .left) _ (lens .lengths-and-output .ensures) (c .before .before .before .before .before .before .if2 .left),
+      (
+        records-within challengeSize (length (now (x .challenges))),
+        room (now (x .session-key)) (now (x .challenges)) (x .response-mask) (x .key-mask) (now (x .out))
+            (lens .before .if1 .left) _ (lens .lengths-and-output .ensures) (masks .before .if2 .left),
+      ),
+      masks-ones _ _ (sym (masks .mask-refusal .ensures) ∙ c .before .before .before .before .if3 .left),
     )
 
 returns-4 : tie.Need-returns-4

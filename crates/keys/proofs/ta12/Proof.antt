@@ -3,7 +3,6 @@ use Rattle.standard.proofs.BytesLaws.{failed, passed, both-spelled}
 use Rattle.standard.proofs.DerivationLaws.{masks-ones}
 use Rattle.standard.specs.Derivation.{ta12Call}
 use Rattle.standard.specs.Refusals.{maskTests, first}
-use Rattle.keys.proofs.MaskLaws.{whole-split}
 use Rattle.keys.proofs.ta12.Tie as tie
 
 returns : tie.Need-returns
@@ -17,6 +16,11 @@ returns-2 c =
     let t = passed (masked .before .before .have-lengths .ensures) (masked .before .if1 .left) in
     rw (c .refused2 .ensures, t, ← masked .mask-refusal .ensures, ne-eqb _ _ (c .before .if2 .taken))
 
+split-requires : tie.Need-split-requires
+split-requires c κs =
+    let accepted = c .before .before .before in
+    masks-ones _ _ (sym (accepted .before .mask-refusal .ensures) ∙ accepted .if2 .left)
+
 returns-3 : tie.Need-returns-3
 unfolding ta12Call
 returns-3 c =
@@ -28,7 +32,6 @@ returns-3 c =
     let m : first (maskTests (x .response-mask) (x .key-mask)) ≡ 0 = sym (accepted .before .mask-refusal .ensures) ∙ accepted .if2 .left in
     rw (
       c .split .ensures,
-      whole-split (x .response-mask) (x .key-mask) _ (search needs) (search needs) (masks-ones _ _ m),
       c .before .core .ensures,
       c .before .before .part10 .ensures,
       c .before .before .before .part16 .ensures,
@@ -42,4 +45,4 @@ pub ta12-spec : {M : Type 1} → Rattle.keys.proofs.ta12.Statement.stat
 ta12-spec =
     tie.close
     (tie.spec (λ c κs. search needs) (λ c κs. search needs) returns (λ c κs. search needs) (λ c κs. search needs) returns-2 (λ c κs. search needs)
-    (λ c κs. search needs) (λ c κs. search needs) (λ c κs. search needs) returns-3)
+    (λ c κs. search needs) (λ c κs. search needs) split-requires returns-3)

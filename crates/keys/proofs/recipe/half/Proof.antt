@@ -1,5 +1,4 @@
 use Rattle.standard.proofs.Prelude.{_≡_, true, false, needs, not-true, not-false}
-use Rattle.keys.proofs.MaskLaws.{whole-split}
 use Rattle.keys.proofs.recipe.half.Tie as tie
 
 returns : tie.Need-returns
@@ -10,15 +9,9 @@ returns-2 c =
     let start = c .before .before .before in
     let x = start .before .args in
     let t : x .runs ≡ true = not-false _ (start .if1 .left) in
-    rw (
-      c .split .ensures,
-      whole-split (x .response-mask) (x .key-mask) _ (search needs) (search needs) (start .before .pre),
-      c .before .core2 .ensures,
-      c .before .before .core .ensures,
-      t,
-    )
+    rw (c .split .ensures, c .before .core2 .ensures, c .before .before .core .ensures, t)
 
 pub half-spec : {M : Type 1} → Rattle.keys.proofs.recipe.half.Statement.statement M
 half-spec =
     tie.close
-    (tie.spec returns (λ c κs. search needs) (λ c κs. search needs) (λ c κs. search needs) returns-2)
+    (tie.spec returns (λ c κs. search needs) (λ c κs. search needs) (λ c κs. c .before .before .before .pre) returns-2)
