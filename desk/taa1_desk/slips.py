@@ -765,7 +765,7 @@ def _put_back(place: int) -> Slip:
     """The zero byte put back at another place from the left."""
     name = {0: "in front", 15: "at the end"}.get(place, f"at byte {15 - place}")
     return Slip(
-        f"zero byte put back {name}, not at byte 8",
+        f"zero byte put back {name} instead of at byte 8",
         {"zero_back": lambda steps, text: text[:place] + b"\0" + text[place:]},
     )
 

@@ -564,7 +564,7 @@ class Steps:
         return sum(1 << i for i, group in enumerate(cut) if xored(group))
 
     def failed_bits(self, number: int) -> int:
-        """Whether the number byte's top three bits are not zero."""
+        """Whether one of the number byte's three highest bits is set."""
         return int(number > 31)
 
     def five_bits(self, number: int) -> int:

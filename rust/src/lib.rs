@@ -516,7 +516,7 @@ pub fn open_book(ring: &[u8], sealed: &[u8]) -> Result<CountedBook, CountedRefus
     counted_book(answer, out)
 }
 
-/// The number of records of a well-formed plain book.
+/// How many records a well-formed plain book has.
 pub fn check_plain(plain: &[u8]) -> Result<usize, BookRefusal> {
     records(&call!(check_plain([plain])))
 }

@@ -140,8 +140,8 @@ def _turned(work: Working, text: bytes, under: bytes, version: int) -> Unsealed:
 def _opening() -> List[Slip]:
     """Slips that only opening has."""
     return [
-        slip("zero-at-end", "the zero byte put back at the end, not at byte 8", put_back=_put(15)),
-        slip("zero-in-front", "the zero byte put back in front, not at byte 8", put_back=_put(0)),
+        slip("zero-at-end", "the zero byte put back at the end instead of at byte 8", put_back=_put(15)),
+        slip("zero-in-front", "the zero byte put back in front instead of at byte 8", put_back=_put(0)),
         slip("zero-at-7", "the zero byte put back at byte 7, one too far right", put_back=_put(8)),
         slip(
             "three-bits",

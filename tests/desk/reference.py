@@ -155,7 +155,7 @@ class Working:
         return self.choose_bits(chain[4:])
 
     def choose_bits(self, chain: Sequence[int]) -> bytes:
-        """f's output from T4 to T11: bit m of byte n is bit n of T(m + 4)."""
+        """f's output from T4 to T11: their bits n make up byte n, that of T4 the lowest."""
         output = 0
         for m, byte in enumerate(chain):
             output |= SPREAD[byte & 15] << m

@@ -180,9 +180,9 @@ ONE_SIDED = {
     ("radio", "challenges-reversed"): "TA22's challenge reversed (RAND2)",
 }
 OPENING = {
-    "zero-at-end": "zero byte put back at the end, not at byte 8",
-    "zero-in-front": "zero byte put back in front, not at byte 8",
-    "zero-at-7": "zero byte put back at byte 7, not at byte 8",
+    "zero-at-end": "zero byte put back at the end instead of at byte 8",
+    "zero-in-front": "zero byte put back in front instead of at byte 8",
+    "zero-at-7": "zero byte put back at byte 7 instead of at byte 8",
     "three-bits": "three zero bits not checked",
     "whole-byte": "three zero bits not checked, and taken into the number",
     "bl2-unchained": "no chaining in BL2",
