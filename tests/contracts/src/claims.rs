@@ -119,8 +119,7 @@ fn fault(row: &Row, specs: &[File], proofs: &[File]) -> Option<&'static str> {
 
 /// How many rows are right, and what is wrong.
 pub fn check(guide: &str, specs: &[File], proofs: &[File]) -> (usize, Vec<String>) {
-    let section = guide.split_once(HEADING).map_or("", |(_, rest)| rest);
-    let section = section.split("\n## ").next().unwrap_or("");
+    let section = crate::section(guide, HEADING);
     let lines = section.lines().filter(|line| line.starts_with('|'));
     let mut rows: Vec<Row> = Vec::new();
     let mut faults = Vec::new();

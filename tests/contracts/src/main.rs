@@ -2,7 +2,7 @@
 //! `requires`, one that stays in its crate is `pub(crate)`, what hosts call cites
 //! definitions of `standard` alone, and docs/READING.md has the table of the public
 //! ones, that of what they cite outside `standard`, and that of the must-fail edits.
-//! The claims of docs/ARGUMENT.md are those of the crate `claims`. docs/hosts.md has the
+//! The code has 01's forms where that guide's table of forms says. The claims of docs/ARGUMENT.md are those of the crate `claims`. docs/hosts.md has the
 //! table of the calls, and include/taa1.h names the refusals of each. Every copy of the
 //! release is that of the file VERSION, and every link of a guide leads somewhere.
 //!
@@ -13,7 +13,9 @@
 mod claims;
 mod definitions;
 mod edits;
+mod forms;
 mod hosts;
+mod items;
 mod links;
 mod version;
 
@@ -53,6 +55,12 @@ fn antt_files(folder: &Path) -> Vec<claims::File> {
     }
     files.sort();
     files
+}
+
+/// A section of a guide: what stands after its heading, up to the next one.
+fn section<'a>(guide: &'a str, heading: &str) -> &'a str {
+    let rest = guide.split_once(heading).map_or("", |(_, rest)| rest);
+    rest.split("\n## ").next().unwrap_or("")
 }
 
 /// The word after `before`, up to what cannot stand in a name.
@@ -299,9 +307,9 @@ fn calls(root: &Path, all: &[Function]) -> (String, Vec<String>) {
 /// The indented lines of a section of a guide that stand in none of the files. One
 /// that has `..` leaves something out, and is not looked for.
 fn unquoted<'a>(guide: &'a str, heading: &str, files: &[String]) -> Vec<&'a str> {
-    let section = guide.split_once(heading).map_or("", |(_, rest)| rest);
-    let section = section.split("\n## ").next().unwrap_or("");
-    let quoted = section.lines().filter(|line| line.starts_with("    "));
+    let quoted = section(guide, heading)
+        .lines()
+        .filter(|line| line.starts_with("    "));
     let told = |line: &str| files.iter().any(|file| file.contains(line.trim()));
     quoted
         .filter(|line| !line.contains("..") && !told(line))
@@ -382,8 +390,7 @@ fn main() -> ExitCode {
     let mut missing = 0;
     for (guide, heading, table) in &tables {
         let text = read(&root.join(format!("docs/{guide}.md")));
-        let section = text.split_once(heading).map_or("", |(_, rest)| rest);
-        if !section.split("\n## ").next().unwrap_or("").contains(table) {
+        if !section(&text, heading).contains(table) {
             println!("a table in docs/{guide}.md differs; `contracts table` prints the right ones");
             missing += 1;
         }
@@ -404,15 +411,21 @@ fn main() -> ExitCode {
     for fault in &faults {
         println!("docs/ARGUMENT.md: {fault}");
     }
+    let (formed, lost) = forms::check(&read(&root.join("docs/READING.md")), |path| {
+        fs::read_to_string(root.join("crates").join(path)).ok()
+    });
+    for fault in &lost {
+        println!("docs/READING.md: {fault}");
+    }
     let (linked, astray) = links::check(&root);
     let copies = version::check(&root);
     for fault in astray.iter().chain(&copies) {
         println!("{fault}");
     }
     let passed = passed + tables.len() - missing + claimed + usize::from(untold.is_empty());
-    let passed = passed + linked + usize::from(copies.is_empty());
+    let passed = passed + formed + linked + usize::from(copies.is_empty());
     let failed = failed + odd.len() + missing + faults.len() + untold.len();
-    let failed = failed + astray.len() + copies.len();
+    let failed = failed + lost.len() + astray.len() + copies.len();
     println!("{passed} passed, {failed} failed");
     ExitCode::from(u8::from(failed != 0))
 }
