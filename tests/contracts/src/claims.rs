@@ -3,10 +3,10 @@
 //! proofs/, has that statement. No claim is left out, and no public theorem of a
 //! proof file whose name ends in Claims.
 
-const HEADING: &str = "## The claims\n";
+use crate::project::{files, read, section, File};
+use std::path::Path;
 
-/// A file's name without its ending, and its text.
-pub type File = (String, String);
+const HEADING: &str = "## The claims\n";
 
 /// A row of the table. Statement and theorem are a file and a name.
 struct Row<'a> {
@@ -118,8 +118,22 @@ fn fault(row: &Row, specs: &[File], proofs: &[File]) -> Option<&'static str> {
 }
 
 /// How many rows are right, and what is wrong.
-pub fn check(guide: &str, specs: &[File], proofs: &[File]) -> (usize, Vec<String>) {
-    let section = crate::section(guide, HEADING);
+pub fn check_in(root: &Path) -> (usize, Vec<String>) {
+    let folder = |name: &str| -> Vec<File> {
+        let found = files(&root.join("crates/claims").join(name), ".antt");
+        let plain = |(name, text): File| (name.trim_end_matches(".antt").to_string(), text);
+        found.into_iter().map(plain).collect()
+    };
+    let guide = read(&root.join("docs/ARGUMENT.md"));
+    let (passed, faults) = check(&guide, &folder("specs"), &folder("proofs"));
+    let named = faults
+        .iter()
+        .map(|fault| format!("docs/ARGUMENT.md: {fault}"));
+    (passed, named.collect())
+}
+
+fn check(guide: &str, specs: &[File], proofs: &[File]) -> (usize, Vec<String>) {
+    let section = section(guide, HEADING);
     let lines = section.lines().filter(|line| line.starts_with('|'));
     let mut rows: Vec<Row> = Vec::new();
     let mut faults = Vec::new();

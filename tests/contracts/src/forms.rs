@@ -3,7 +3,9 @@
 //! the table, so that a reader sees what is looked for.
 
 use crate::items::{code_of, definition_of};
+use crate::project::section;
 
+const GUIDE: &str = "docs/READING.md";
 const HEADING: &str = "## Forms\n";
 /// 01 names nine.
 const FORMS: usize = 9;
@@ -33,7 +35,7 @@ fn fault(path: &str, source: Option<String>, item: &str, signs: &[&str]) -> Opti
 
 /// How many rows are right, and what is wrong. `read` gives a file of crates/.
 pub fn check(guide: &str, read: impl Fn(&str) -> Option<String>) -> (usize, Vec<String>) {
-    let rows = crate::section(guide, HEADING).lines();
+    let rows = section(guide, HEADING).lines();
     let rows = rows.filter(|line| line.starts_with('|')).skip(2);
     let mut seen = [false; FORMS];
     let mut passed = 0;
@@ -50,18 +52,18 @@ pub fn check(guide: &str, read: impl Fn(&str) -> Option<String>) -> (usize, Vec<
         let place = match (&file[..], &item[..]) {
             ([file], [item]) if (1..=FORMS).contains(&number) && !signs.is_empty() => (file, item),
             _ => {
-                faults.push(format!("not understood: {line}"));
+                faults.push(format!("{GUIDE}: not understood: {line}"));
                 continue;
             }
         };
         seen[number - 1] = true;
         match fault(place.0, read(place.0), place.1, &signs) {
-            Some(fault) => faults.push(format!("form {number}: {fault}")),
+            Some(fault) => faults.push(format!("{GUIDE}: form {number}: {fault}")),
             None => passed += 1,
         }
     }
     let missing = (1..).zip(seen).filter(|(_, seen)| !seen);
-    faults.extend(missing.map(|(number, _)| format!("form {number}: no row")));
+    faults.extend(missing.map(|(number, _)| format!("{GUIDE}: form {number}: no row")));
     (passed, faults)
 }
 
@@ -117,23 +119,21 @@ fn write(out: &mut [u8])
             ),
         ];
         for (row, fault) in rows {
-            let faults = vec![format!("form 1: {fault}")];
+            let faults = vec![format!("{GUIDE}: form 1: {fault}")];
             assert_eq!(with(&format!("| 1 | w | {row} |")), (FORMS - 1, faults));
         }
     }
 
     #[test]
     fn each_form_has_a_row_that_is_understood() {
-        assert_eq!(with("").1, ["form 1: no row"]);
+        let missing = format!("{GUIDE}: form 1: no row");
+        assert_eq!(with("").1, [missing.clone()]);
         for row in [
             "| 1 | w | `a.rt` | `write` | none |",
             "| 10 | w | `a.rt` | `write` | `fill(` |",
             "| 1 | w | `a.rt` | `write` |",
         ] {
-            let faults = [
-                format!("not understood: {row}"),
-                "form 1: no row".to_string(),
-            ];
+            let faults = [format!("{GUIDE}: not understood: {row}"), missing.clone()];
             assert_eq!(with(row).1, faults);
         }
     }

@@ -74,6 +74,12 @@ fn declared(header: &str) -> Vec<Call<'_>> {
     calls
 }
 
+/// The names of the calls that the header declares, in its order.
+pub fn names(header: &str) -> Vec<String> {
+    let calls = declared(header);
+    calls.iter().map(|call| call.name.to_string()).collect()
+}
+
 fn numbers(refusals: &[u64]) -> String {
     let numbers: Vec<String> = refusals.iter().map(u64::to_string).collect();
     numbers.join(", ")

@@ -5,6 +5,8 @@
 use std::ops::Range;
 
 pub struct Item {
+    /// `fn`, `struct`, `impl` and so on.
+    pub kind: String,
     /// `write_at`; in an `impl`, `Kind::from_byte`; the block itself, `impl Kind`.
     pub name: String,
     /// Its lines in the file, counted from 0.
@@ -60,7 +62,8 @@ pub fn items(source: &str) -> Vec<Item> {
             (_, "") => name.to_string(),
             _ => format!("{}::{name}", block.0),
         };
-        found.push(Item { name, lines });
+        let kind = kind.to_string();
+        found.push(Item { kind, name, lines });
     }
     found
 }
