@@ -31,6 +31,8 @@
 HOLDS(sizeof(size_t) == 8);
 HOLDS(sizeof(void *) == 8);
 
+/* begin structs, made by `contracts write` */
+
 STRUCT(taa1_version, 2, 2);
 FIELD(taa1_version, value, 0, 2);
 
@@ -126,3 +128,4 @@ STRUCT(taa1_release_numbers, 12, 4);
 FIELD(taa1_release_numbers, major, 0, 4);
 FIELD(taa1_release_numbers, minor, 4, 4);
 FIELD(taa1_release_numbers, patch, 8, 4);
+/* end structs */

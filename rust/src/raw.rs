@@ -4,6 +4,7 @@
 
 use crate::{KeyNumber, Version, RING_BYTES};
 
+// begin answers, made by `contracts write`
 #[repr(C)]
 #[derive(Clone, Copy, Debug, PartialEq, Eq)]
 pub struct Bytes<const N: usize> {
@@ -118,6 +119,7 @@ pub struct Release {
     pub minor: u32,
     pub patch: u32,
 }
+// end answers
 
 /// Hands the declarations of all calls that take something to a macro: `[name]` is a
 /// byte string and `{name}` an output, which are a pointer and a length each.
@@ -125,6 +127,7 @@ pub struct Release {
 macro_rules! calls {
     ($macro:ident) => {
         $macro! {
+            // begin calls, made by `contracts write`
             encrypt([key], [block]) -> Bytes<8>;
             decrypt([key], [block]) -> Bytes<8>;
             encrypt_register([key], [block]) -> Bytes<8>;
@@ -158,14 +161,14 @@ macro_rules! calls {
             tb5([cipher_key], location_area: u64, carrier: u64, colour_code: u64) -> Bytes<10>;
             tb6([cipher_key], carrier: u64, identity: u64) -> Bytes<10>;
             tb7([group_key]) -> Bytes<16>;
+            restore_card([card], unreadable: u16) -> Card;
             tb1_inverse([result], width: u64) -> Value;
             tb3_inverse([input], [result], width: u64) -> Value;
             tb5_inverse([cipher_key], [result]) -> Cell;
             tb6_inverse([cipher_key], [result]) -> CarrierIdentity;
-            restore_card([card], unreadable: u16) -> Card;
             ring(
-                [root], [rs], [rso], [rand1], [rand2], [c], [group_key],
-                sides: u64, response_mask: u16, key_mask: u16
+                [root], [rs], [rso], [rand1], [rand2], [c], [group_key], sides: u64,
+                response_mask: u16, key_mask: u16
             ) -> RingMade;
             seal_book([ring], [plain], {out}) -> CountedAnswer;
             open_book([ring], [sealed], {out}) -> CountedAnswer;
@@ -175,6 +178,7 @@ macro_rules! calls {
             plain_from_columns([columns], {out}) -> BookAnswer;
             sealed_to_columns([sealed], {out}) -> BookAnswer;
             sealed_from_columns([columns], {out}) -> BookAnswer;
+            // end calls
         }
     };
 }

@@ -9,7 +9,7 @@ from typing import Any, get_type_hints
 
 from common import DESK, ROOT, Case, taa1
 from taa1 import NAMES, Bytes, Engine, KeyNumber, Refused, Release, Sitting, Version
-from taa1.calls import ANSWERS, CALLS, Call, Field, Parameter
+from taa1.calls import ANSWERS, CALLS, PURPOSES, Call, Field, Parameter
 
 HEADER = re.sub(r"/\*.*?\*/", " ", (ROOT / "include" / "taa1.h").read_text(), flags=re.S)
 CONSTANTS = {name: int(value) for name, value in re.findall(r"\b(TAA1_\w+) = (\d+)", HEADER)}
@@ -69,6 +69,7 @@ class Table(unittest.TestCase):
         wanted = {call.name: (call.answer, parameters(call)) for call in CALLS.values()}
         wanted["release"] = ("release_numbers", "void")  # takes nothing and refuses nothing
         self.assertEqual(wanted, declared)
+        self.assertEqual(set(PURPOSES), set(CALLS))
 
     def test_answers(self) -> None:
         declared = {}

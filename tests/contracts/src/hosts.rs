@@ -3,81 +3,32 @@
 //! names its refusals.
 
 use crate::definitions::{Definitions, Tests};
+use crate::header::{Argument, Call, Header};
 
-/// A declaration of the header.
-struct Call<'a> {
-    name: &'a str,
-    /// The struct that it answers.
-    answer: &'a str,
-    /// The comment above it, in one line.
-    comment: String,
-    arguments: Vec<Argument<'a>>,
+/// A call with what its definition tests.
+pub struct Described<'a> {
+    pub call: &'a Call,
+    pub tests: Tests,
 }
 
-enum Argument<'a> {
-    Bytes(&'a str),
-    Number(&'a str),
-    Output(&'a str),
-}
-
-impl Argument<'_> {
-    fn name(&self) -> &str {
-        match self {
-            Argument::Bytes(name) | Argument::Number(name) | Argument::Output(name) => name,
-        }
-    }
-}
-
-/// A byte string's length stands after it, and is no argument of its own.
-fn argument(text: &str) -> Option<Argument<'_>> {
-    let (kind, name) = text.trim().rsplit_once(' ')?;
-    match (kind, name.strip_prefix('*')) {
-        ("const uint8_t", Some(name)) => Some(Argument::Bytes(name)),
-        ("uint8_t", Some(name)) => Some(Argument::Output(name)),
-        ("size_t", None) => None,
-        _ => Some(Argument::Number(name)),
-    }
-}
-
-/// The comment that ends a text, without its signs.
-fn comment(before: &str) -> String {
-    let comment = before.trim_end().strip_suffix("*/");
-    let comment = comment
-        .and_then(|text| text.rsplit_once("/*"))
-        .map_or("", |(_, text)| text);
-    let words = comment.split_whitespace().filter(|word| *word != "*");
-    words.collect::<Vec<_>>().join(" ")
-}
-
-/// The calls that the header declares, in its order.
-fn declared(header: &str) -> Vec<Call<'_>> {
-    let mut calls = Vec::new();
-    let mut at = 0;
-    for line in header.split_inclusive('\n') {
-        let head = line
-            .split_once('(')
-            .and_then(|(head, _)| head.split_once(' '));
-        if let Some((answer, name)) = head.filter(|_| line.starts_with("taa1_")) {
-            let end = header[at..].find(");").unwrap_or(0);
-            let arguments = header[at..at + end]
-                .split_once('(')
-                .map_or("", |(_, rest)| rest);
-            calls.push(Call {
-                name,
-                answer,
-                comment: comment(&header[..at]),
-                arguments: arguments.split(',').filter_map(argument).collect(),
-            });
-        }
-        at += line.len();
-    }
-    calls
-}
-
-/// The names of the calls that the header declares, in its order.
-pub fn names(header: &str) -> Vec<String> {
-    let calls = declared(header);
-    calls.iter().map(|call| call.name.to_string()).collect()
+/// The calls of the header. A call's contract is found by its name: the term after ≡ in
+/// the file `engine`.
+pub fn described<'a>(
+    header: &'a Header,
+    definitions: &Definitions,
+    contract: impl Fn(&str) -> Option<String>,
+) -> Vec<Described<'a>> {
+    let one = |call: &'a Call| {
+        let names = call.arguments.iter().map(|a| a.name().to_string());
+        let names: Vec<String> = names.collect();
+        let term = contract(&call.name).unwrap_or_default();
+        let tests = match names.is_empty() {
+            true => Tests::default(), // what takes nothing tests nothing
+            false => definitions.tests("engine", &term, &names),
+        };
+        Described { call, tests }
+    };
+    header.calls.iter().map(one).collect()
 }
 
 fn numbers(refusals: &[u64]) -> String {
@@ -105,7 +56,7 @@ fn input(argument: &Argument, tests: &Tests) -> Option<String> {
             (None, Some((list, bytes))) if list == name => format!(" [{bytes} a record]"),
             _ => " [?]".to_string(),
         },
-        Argument::Number(_) => {
+        Argument::Number(..) => {
             let range = (tests.least.get(name), tests.greatest.get(name));
             match (tests.bits.get(name), tests.ones.get(name), range) {
                 (Some(bits), _, _) => format!(" ({bits} bits)"),
@@ -119,12 +70,13 @@ fn input(argument: &Argument, tests: &Tests) -> Option<String> {
     Some(format!("`{name}`{limit}"))
 }
 
-fn row(call: &Call, tests: &Tests) -> String {
-    let inputs: Vec<String> = call
-        .arguments
-        .iter()
-        .filter_map(|a| input(a, tests))
-        .collect();
+fn row(Described { call, tests }: &Described) -> String {
+    let Call { name, answer, .. } = call;
+    if call.arguments.is_empty() {
+        return format!("| `{name}` | - | - | `{answer}` | - |\n");
+    }
+    let inputs = call.arguments.iter().filter_map(|a| input(a, tests));
+    let inputs = inputs.collect::<Vec<_>>().join(", ");
     let mut outputs = call.arguments.iter().filter_map(|argument| match argument {
         Argument::Output(name) => Some(name),
         _ => None,
@@ -134,57 +86,44 @@ fn row(call: &Call, tests: &Tests) -> String {
         (Some(name), Some(bytes)) => format!("`{name}`: {bytes} a record"),
         (Some(name), None) => format!("`{name}`: ?"),
     };
-    let (name, answer, refusals) = (call.name, call.answer, refusals(tests));
-    let inputs = inputs.join(", ");
+    let refusals = refusals(tests);
     format!("| `{name}` | {inputs} | {refusals} | `{answer}` | {written} |\n")
 }
 
-/// The table, and what is wrong with the header. A call's contract is found by its
-/// name: the term after ≡ in the file `engine`.
-pub fn table(
-    header: &str,
-    definitions: &Definitions,
-    contract: impl Fn(&str) -> Option<String>,
-) -> (String, Vec<String>) {
-    let mut text = String::from(
-        "| call | inputs | refusals, in order | answer | writes |\n|---|---|---|---|---|\n",
-    );
-    let mut faults = Vec::new();
-    for call in declared(header) {
-        if call.arguments.is_empty() {
-            // What takes nothing tests nothing.
-            let (name, answer) = (call.name, call.answer);
-            text.push_str(&format!("| `{name}` | - | - | `{answer}` | - |\n"));
-            if !call.comment.contains("Refuses nothing.") {
-                faults.push(format!(
-                    "include/taa1.h: {name}: its comment has no \"Refuses nothing.\""
-                ));
-            }
-            continue;
+pub fn table(calls: &[Described]) -> String {
+    let head = "| call | inputs | refusals, in order | answer | writes |\n|---|---|---|---|---|\n";
+    let rows = calls.iter().map(row);
+    rows.fold(head.to_string(), |text, row| text + &row)
+}
+
+/// Whether the header has the engine's calls, and describes each as it should; and what
+/// is wrong.
+pub fn check(calls: &[Described], engine: &[&str]) -> (usize, Vec<String>) {
+    let undeclared = |name: &&&str| calls.iter().all(|one| one.call.name != **name);
+    let undeclared = engine.iter().filter(undeclared);
+    let mut faults: Vec<String> = undeclared
+        .map(|name| format!("include/taa1.h: {name} is not declared"))
+        .collect();
+    for one in calls {
+        let Described { call, tests } = one;
+        let mut fault = |what: String| {
+            faults.push(format!("include/taa1.h: {}: {what}", call.name));
+        };
+        let takes = !call.arguments.is_empty();
+        let row = row(one);
+        if takes && (row.contains('?') || tests.refusals.is_empty()) {
+            let row = row.trim_end();
+            fault(format!("its definition is not understood: {row}"));
         }
-        let term = contract(call.name).unwrap_or_default();
-        let names: Vec<String> = call
-            .arguments
-            .iter()
-            .map(|a| a.name().to_string())
-            .collect();
-        let tests = definitions.tests("engine", &term, &names);
-        let row = row(&call, &tests);
-        let mut fault =
-            |what: String| faults.push(format!("include/taa1.h: {}: {what}", call.name));
-        if row.contains('?') || tests.refusals.is_empty() {
-            fault(format!(
-                "its definition is not understood: {}",
-                row.trim_end()
-            ));
-        }
-        let said = format!("Refuses {}.", refusals(&tests));
+        let said = match takes {
+            true => format!("Refuses {}.", refusals(tests)),
+            false => "Refuses nothing.".to_string(),
+        };
         if !call.comment.contains(&said) {
             fault(format!("its comment has no \"{said}\""));
         }
-        text.push_str(&row);
     }
-    (text, faults)
+    (usize::from(faults.is_empty()), faults)
 }
 
 #[cfg(test)]
@@ -230,7 +169,10 @@ twoCall k out = value (first ((wrongLength) ∷ []))
             "taa1_one" => Some("oneCall key steps".to_string()),
             _ => Some("twoCall key out".to_string()),
         };
-        let (table, faults) = table(HEADER, &definitions, contract);
+        let header = Header::read(HEADER);
+        let calls = described(&header, &definitions, contract);
+        let table = table(&calls);
+        let (_, faults) = check(&calls, &["taa1_one", "taa1_four"]);
         let rows: Vec<&str> = table.lines().skip(2).collect();
         let second = "| `taa1_two` | `key` [?] | 11 | `taa1_book_answer` | `out`: ? |";
         assert_eq!(
@@ -244,6 +186,7 @@ twoCall k out = value (first ((wrongLength) ∷ []))
         assert_eq!(
             faults,
             [
+                "include/taa1.h: taa1_four is not declared".to_string(),
                 format!("include/taa1.h: taa1_two: its definition is not understood: {second}"),
                 "include/taa1.h: taa1_two: its comment has no \"Refuses 11.\"".to_string(),
                 "include/taa1.h: taa1_three: its comment has no \"Refuses nothing.\"".to_string(),

@@ -15,10 +15,14 @@ mod forms;
 mod functions;
 mod generated;
 mod graph;
+mod header;
 mod hosts;
 mod items;
+mod layout;
 mod links;
 mod project;
+mod python_rows;
+mod rust_rows;
 mod version;
 
 use definitions::Definitions;
@@ -26,10 +30,16 @@ use edits::Edit;
 use functions::Function;
 use generated::Generated;
 use graph::Graph;
+use header::Header;
+use hosts::Described;
 use project::{files, Project};
 use std::fs;
 use std::path::Path;
 use std::process::ExitCode;
+
+/// The hosts' declarations, in Rust and in Python.
+const RAW: &str = "rust/src/raw.rs";
+const TABLE: &str = "python/taa1/calls.py";
 
 /// How many things are right, and what is wrong with the others.
 type Verdict = (usize, Vec<String>);
@@ -40,7 +50,8 @@ struct Sources {
     functions: Vec<Function>,
     edits: Vec<Edit>,
     graph: Graph,
-    header: String,
+    header: Header,
+    definitions: Definitions,
     /// What is not understood.
     odd: Vec<String>,
 }
@@ -51,37 +62,42 @@ impl Sources {
         let (functions, mut odd) = functions::of_crates(&project.crates);
         let (edits, more) = edits::of_crates(&project.crates);
         odd.extend(more);
+        let specs = files(&root.join("crates/standard/specs"), ".antt");
+        let engine = project.file("crates/engine/src/lib.rt");
+        let specs = specs
+            .iter()
+            .map(|(name, text)| (name.trim_end_matches(".antt"), &text[..]));
         Sources {
             functions,
             edits,
             graph: Graph::of(&project.crates),
-            header: project.file("include/taa1.h"),
+            header: Header::read(&project.file("include/taa1.h")),
+            definitions: Definitions::read(specs.chain([("engine", &engine[..])])),
             project,
             odd,
         }
     }
 
-    /// The table of the calls for hosts, and what is wrong with the header.
-    fn calls(&self) -> (String, Vec<String>) {
-        let specs = files(&self.project.root.join("crates/standard/specs"), ".antt");
-        let engine = self.project.file("crates/engine/src/lib.rt");
-        let sources = specs
-            .iter()
-            .map(|(name, text)| (name.trim_end_matches(".antt"), &text[..]));
-        let definitions = Definitions::read(sources.chain([("engine", &engine[..])]));
-        let contract = |name: &str| {
+    /// The calls of the header with what their definitions test.
+    fn described(&self) -> Vec<Described<'_>> {
+        hosts::described(&self.header, &self.definitions, |name| {
             let name = format!("engine::{name}");
             let function = self.functions.iter().find(|f| f.name == name)?;
             let (_, right) = function.ensures.first()?.split_once("≡ ")?;
             Some(right.to_string())
-        };
-        hosts::table(&self.header, &definitions, contract)
+        })
+    }
+
+    fn call_names(&self) -> Vec<String> {
+        let calls = self.header.calls.iter();
+        calls.map(|call| call.name.clone()).collect()
     }
 
     /// Everything that `contracts write` writes.
     fn generated(&self) -> Vec<Generated> {
         let lines = Generated::lines;
-        let calls = hosts::names(&self.header);
+        let calls = self.call_names();
+        let described = self.described();
         let mut all = vec![
             lines(
                 "docs/functions.md",
@@ -99,7 +115,22 @@ impl Sources {
                 "calls",
                 edits::calls_table(&calls, &self.edits, &self.graph),
             ),
-            lines("docs/hosts.md", "calls", self.calls().0),
+            lines("docs/hosts.md", "calls", hosts::table(&described)),
+            lines("tests/header.c", "structs", layout::layout(&self.header)),
+            lines(RAW, "answers", rust_rows::structs(&self.header)),
+            lines(RAW, "calls", rust_rows::calls(&self.header)),
+            lines(TABLE, "answers", python_rows::answers(&self.header)),
+            lines(TABLE, "calls", python_rows::calls(&described)),
+            lines(
+                "tests/host/src/engine.rs",
+                "answers",
+                rust_rows::answers(&self.header),
+            ),
+            lines(
+                "tests/host/src/long/inputs.rs",
+                "lists",
+                rust_rows::record_bytes(&described),
+            ),
         ];
         all.extend(figures::figures(
             &self.project,
@@ -117,12 +148,16 @@ fn all_right(faults: Vec<String>) -> Verdict {
 fn check(root: &Path) -> ExitCode {
     let sources = Sources::read(root);
     let in_crates = |path: &str| fs::read_to_string(root.join("crates").join(path)).ok();
-    let calls = hosts::names(&sources.header);
+    let calls = sources.call_names();
+    let names = sources.functions.iter().map(|function| &function.name[..]);
+    let engine: Vec<&str> = names
+        .filter_map(|name| name.strip_prefix("engine::"))
+        .collect();
     let verdicts: Vec<Verdict> = vec![
         all_right(sources.odd.clone()),
         functions::check(&sources.functions),
         edits::check(&calls, &sources.edits, &sources.graph),
-        all_right(sources.calls().1),
+        hosts::check(&sources.described(), &engine),
         generated::check(root, &sources.generated()),
         forms::check(&sources.project.file("docs/READING.md"), in_crates),
         claims::check_in(root),

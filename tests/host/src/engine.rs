@@ -1,17 +1,14 @@
 //! The engine's calls, over slices.
 
-use crate::{books, cards, diffusion, inverses, taa1};
-pub use interface::raw::{
-    Authentication, BookAnswer, Bytes, Card, CarrierIdentity, Cell, CountedAnswer, Identity,
-    RingMade, Tally, Unsealed, UnsealedNumbered, Value,
-};
+use crate::other;
+pub use interface::raw::*;
 pub use interface::{KeyNumber, Version};
 
 /// The independent implementation's answers as the engine's, for comparison.
 macro_rules! answers {
-    ($($other:ident::$from:ident -> $name:ident$(<$n:ident>)? { $($field:ident),* })*) => {$(
-        impl$(<const $n: usize>)? From<$other::$from$(<$n>)?> for $name$(<$n>)? {
-            fn from(answer: $other::$from$(<$n>)?) -> Self {
+    ($($name:ident$(<$n:ident>)? { $($field:ident),* })*) => {$(
+        impl$(<const $n: usize>)? From<other::$name$(<$n>)?> for $name$(<$n>)? {
+            fn from(answer: other::$name$(<$n>)?) -> Self {
                 $name {
                     refusal: answer.refusal,
                     $($field: answer.$field.into(),)*
@@ -22,19 +19,21 @@ macro_rules! answers {
 }
 
 answers! {
-    taa1::Bytes -> Bytes<N> { bytes }
-    taa1::Authentication -> Authentication { response, key }
-    taa1::Identity -> Identity { identity }
-    taa1::UnsealedKey -> Unsealed<N> { key, failed_checks }
-    taa1::UnsealedNumbered -> UnsealedNumbered { key, number, failed_checks }
-    taa1::RingMade -> RingMade { ring, response1, response2 }
-    cards::Card -> Card { key, card }
-    diffusion::Diffusion -> Tally { flips, total, least, greatest }
-    inverses::Value -> Value { value }
-    inverses::Cell -> Cell { location_area, carrier, colour_code }
-    inverses::CarrierIdentity -> CarrierIdentity { carrier, identity }
-    books::BookAnswer -> BookAnswer { index, written }
-    books::CountedAnswer -> CountedAnswer { index, written, runs }
+    // begin answers, made by `contracts write`
+    Bytes<N> { bytes }
+    Authentication { response, key }
+    Identity { identity }
+    Value { value }
+    Cell { location_area, carrier, colour_code }
+    CarrierIdentity { carrier, identity }
+    Unsealed<N> { key, failed_checks }
+    UnsealedNumbered { key, number, failed_checks }
+    RingMade { ring, response1, response2 }
+    Card { key, card }
+    BookAnswer { index, written }
+    CountedAnswer { index, written, runs }
+    Tally { flips, total, least, greatest }
+    // end answers
 }
 
 /// The answer that has these bytes.

@@ -21,14 +21,14 @@ pub mod sheets;
 pub mod taa1;
 pub mod tally;
 
-/// The calls of the independent implementation.
+/// The calls of the independent implementation, and its answers by the engine's names.
 pub mod other {
-    pub use crate::books::{check_plain, open_book, seal_book};
+    pub use crate::books::{check_plain, open_book, seal_book, BookAnswer, CountedAnswer};
     pub use crate::cards::*;
     pub use crate::class::ta12_class;
     pub use crate::columns::*;
-    pub use crate::diffusion::diffusion;
+    pub use crate::diffusion::{diffusion, Diffusion as Tally};
     pub use crate::inverses::*;
     pub use crate::lineage::lineage;
-    pub use crate::taa1::*;
+    pub use crate::taa1::{UnsealedKey as Unsealed, *};
 }
