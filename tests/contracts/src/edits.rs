@@ -167,6 +167,8 @@ mod tests {
         };
         Crate {
             name: name.to_string(),
+            layer: String::new(),
+            purpose: String::new(),
             uses: uses.iter().map(|name| name.to_string()).collect(),
             sources: vec![("lib.rt".to_string(), source.to_string())],
             edits: edited.iter().map(edit).collect(),

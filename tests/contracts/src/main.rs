@@ -18,6 +18,7 @@ mod graph;
 mod header;
 mod hosts;
 mod items;
+mod layers;
 mod layout;
 mod links;
 mod project;
@@ -116,6 +117,12 @@ impl Sources {
                 edits::calls_table(&calls, &self.edits, &self.graph),
             ),
             lines("docs/hosts.md", "calls", hosts::table(&described)),
+            lines(
+                "docs/PROVING.md",
+                "layers",
+                layers::picture(&self.project.crates),
+            ),
+            lines("README.md", "crates", layers::list(&self.project.crates)),
             lines("tests/header.c", "structs", layout::layout(&self.header)),
             lines(RAW, "answers", rust_rows::structs(&self.header)),
             lines(RAW, "calls", rust_rows::calls(&self.header)),
@@ -155,6 +162,7 @@ fn check(root: &Path) -> ExitCode {
         .collect();
     let verdicts: Vec<Verdict> = vec![
         all_right(sources.odd.clone()),
+        layers::check(&sources.project.crates),
         functions::check(&sources.functions),
         edits::check(&calls, &sources.edits, &sources.graph),
         hosts::check(&sources.described(), &engine),

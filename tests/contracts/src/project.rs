@@ -6,9 +6,12 @@ use std::path::{Path, PathBuf};
 /// A file's name and its text.
 pub type File = (String, String);
 
-/// A crate, from its line in crates.txt and its folder.
+/// A crate, from its line in crates.txt, the comment above it, and its folder.
 pub struct Crate {
     pub name: String,
+    /// The comment is `# LAYER: what it is for`.
+    pub layer: String,
+    pub purpose: String,
     /// The crates that it uses.
     pub uses: Vec<String>,
     /// The files of src/ and of must-fail/.
@@ -61,14 +64,17 @@ pub fn section<'a>(guide: &'a str, heading: &str) -> &'a str {
 impl Project {
     pub fn read(root: PathBuf) -> Self {
         let mut crates = Vec::new();
+        let mut comment = String::new();
         for line in read(&root.join("crates.txt")).lines() {
-            if line.starts_with('#') {
-                continue;
-            }
-            if let Some((name, uses)) = line.split_once(':') {
+            if let Some(said) = line.strip_prefix("# ") {
+                comment = said.to_string();
+            } else if let Some((name, uses)) = line.split_once(':') {
+                let (layer, purpose) = comment.split_once(": ").unwrap_or_default();
                 let folder = root.join("crates").join(name);
                 crates.push(Crate {
                     name: name.to_string(),
+                    layer: layer.to_string(),
+                    purpose: purpose.to_string(),
                     uses: uses.split_whitespace().map(str::to_string).collect(),
                     sources: files(&folder.join("src"), ".rt"),
                     edits: files(&folder.join("must-fail"), ".edit"),
