@@ -29,14 +29,27 @@ fn comments(text: &str) -> Option<(&str, &str)> {
     (shown && lines.next()?.starts_with("file: ")).then_some((mistake, fact))
 }
 
+/// The rest of an edit's line that begins so.
+fn after<'a>(edit: &'a str, key: &str) -> &'a str {
+    let found = edit.lines().find_map(|line| line.strip_prefix(key));
+    found.unwrap_or("")
+}
+
+/// The function that has the line which an edit changes.
 fn function(one: &Crate, edit: &str) -> Option<String> {
-    let after = |key: &str| edit.lines().find_map(|line| line.strip_prefix(key));
-    let source = one.source(after("file: src/")?)?;
-    let old = after("old: ")?;
+    let source = one.source(after(edit, "file: src/"))?;
+    let old = after(edit, "old: ");
     let at = source.lines().position(|line| line.contains(old))?;
     let mut functions = items(source).into_iter().filter(|item| item.kind == "fn");
     let found = functions.find(|item| item.lines.contains(&at))?;
     Some(format!("{}::{}", one.name, found.name))
+}
+
+/// Whether an edit of code changes a line that stands there once.
+fn is_aimed(one: &Crate, edit: &str) -> bool {
+    let file = after(edit, "file: src/");
+    let source = one.source(file).unwrap_or("");
+    file.is_empty() || source.matches(after(edit, "old: ")).count() == 1
 }
 
 /// The edits of all crates, by their labels; and the files that are not understood.
@@ -45,6 +58,11 @@ pub fn of_crates(crates: &[Crate]) -> (Vec<Edit>, Vec<String>) {
     for one in crates {
         for (file, text) in &one.edits {
             let name = format!("{}/{}", one.name, file.trim_end_matches(".edit"));
+            if !is_aimed(one, text) {
+                odd.push(format!(
+                    "{name}.edit: the line to be changed does not stand there once"
+                ));
+            }
             match comments(text) {
                 Some((mistake, fact)) => edits.push(Edit {
                     name,
@@ -158,6 +176,18 @@ mod tests {
         assert!(!read("# a mistake\n# a fact\n# more\n"));
         assert!(!read("# a | mistake\n# a fact\n"));
         assert!(comments("# a mistake\n# a fact\n").is_none());
+    }
+
+    #[test]
+    fn the_line_stands_there_once() {
+        let odd = |old: &str| {
+            let source = "fn a() -> u8 {\n    1\n}\n\nfn b() -> u8 {\n    12\n}\n";
+            of_crates(&[one("a", &[], source, &[("e", old)])]).1
+        };
+        assert_eq!(odd("    12"), [""; 0]);
+        let fault = "a/e.edit: the line to be changed does not stand there once";
+        assert_eq!(odd("    1"), [fault]);
+        assert_eq!(odd("    2"), [fault]);
     }
 
     fn one(name: &str, uses: &[&str], source: &str, edited: &[(&str, &str)]) -> Crate {

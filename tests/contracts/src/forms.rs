@@ -127,7 +127,7 @@ fn write(out: &mut [u8])
     #[test]
     fn each_form_has_a_row_that_is_understood() {
         let missing = format!("{GUIDE}: form 1: no row");
-        assert_eq!(with("").1, [missing.clone()]);
+        assert_eq!(with("").1, vec![missing.clone()]);
         for row in [
             "| 1 | w | `a.rt` | `write` | none |",
             "| 10 | w | `a.rt` | `write` | `fill(` |",

@@ -94,7 +94,7 @@ pub fn code_of(source: &str, name: &str) -> Option<String> {
 pub fn definition_of(source: &str, name: &str) -> Option<String> {
     let declares = |line: &str| {
         let (head, _) = line.split_once(" : ").unwrap_or_default();
-        head.split(' ').last() == Some(name)
+        head.rsplit(' ').next() == Some(name)
     };
     let mut parts = source.split("\n\n");
     let part = parts.find(|part| part.lines().any(declares))?;
