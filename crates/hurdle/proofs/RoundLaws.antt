@@ -59,6 +59,18 @@ gathered t =
 
 -- ---- f
 
+-- 256 added to one side stays above the ⊕ of two bytes
+pub xor-raised : (a t : ℕ) → a < 256 → t < 256 → bitXor (a + 256) t ≡ 256 + bitXor a t
+xor-raised a t ha ht =
+    let x : ℕ = bitXor (a + 256) t in
+    let a-low : (a + 256) % 256 ≡ a = omega arith in
+    let t-low : t % 256 ≡ t = omega arith in
+    let a-high : (a + 256) / 2 ^ 8 ≡ 1 = omega arith in
+    let t-high : t / 2 ^ 8 ≡ 0 = omega arith in
+    let low : x % 256 ≡ bitXor a t = xor-mod (a + 256) t 8 ∙ ap₂ bitXor a-low t-low in
+    let high : x / 2 ^ 8 ≡ 1 = xor-shr (a + 256) t 8 ∙ ap₂ bitXor a-high t-high in
+    omega (arith, low, high)
+
 -- S at four indexes is u
 record Found (i : List ℕ) (u : ℕ → ℕ) : Type 0 where
   at-0 : S ! (i ! 0) ≡ u 0

@@ -32,6 +32,10 @@ linked s t e k (suc j) = (e (suc j) ⊞ k (suc j)) ⊕ s ! (linked s t e k j)
 unfoldable pub linksOver : (s : List ℕ) (t : ℕ) (x k : List ℕ) → ℕ → List ℕ
 linksOver s t x k n = table 4 (linked s t (λ j. E x (j + n)) (λ j. byte 12 k (j + n)))
 
+-- s and w at the index i
+abbrev pub linkOver : (s w : List ℕ) → ℕ → Part
+linkOver s w i = record { t = s ! i; y = w ! i }
+
 -- the byte of the chain after four links
 abbrev pub lastOver : (s i : List ℕ) → ℕ
 lastOver s i = s ! (i ! 3)
@@ -40,13 +44,17 @@ lastOver s i = s ! (i ! 3)
 abbrev pub nibblesOver : (w i : List ℕ) → ℕ
 nibblesOver w i = (w ! (i ! 0) + 2 * w ! (i ! 1) + 4 * w ! (i ! 2) + 8 * w ! (i ! 3)) % 4294967296
 
+-- both
+abbrev pub fourOver : (s w i : List ℕ) → Part
+fourOver s w i = record { t = lastOver s i; y = nibblesOver w i }
+
 -- T3
 abbrev pub firstOver : (s x k : List ℕ) → ℕ
 firstOver s x k = lastOver s (linksOver s 0 x k 0)
 
 -- T7 and the bits of T4 to T7, after t
 unfoldable pub secondOver : (s w : List ℕ) (t : ℕ) (x k : List ℕ) → Part
-secondOver s w t x k = record { t = lastOver s (linksOver s t x k 4); y = nibblesOver w (linksOver s t x k 4) }
+secondOver s w t x k = fourOver s w (linksOver s t x k 4)
 
 -- with the bits of T8 to T11
 unfoldable pub thirdOver : (s w : List ℕ) → Part → (x k : List ℕ) → ℕ

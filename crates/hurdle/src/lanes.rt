@@ -22,6 +22,7 @@ ghost use Rattle.hurdle.specs.RoundSteps.{halvesAt, partAt};
 
 fn first_x4(
     s: &[u8; 256],
+    w: &[u32; 256],
     h: [Halves; 4],
     ka: &[u8],
     kb: &[u8],
@@ -34,10 +35,10 @@ fn first_x4(
         (part at 12 (byLane (now (ka .entry)) (now (kb .entry)) (now (kc .entry)) (now (kd .entry)) j))) ⌝ }
 {
     [
-        first(s, h[0].r, ka, at),
-        first(s, h[1].r, kb, at),
-        first(s, h[2].r, kc, at),
-        first(s, h[3].r, kd, at),
+        first(s, w, h[0].r, ka, at),
+        first(s, w, h[1].r, kb, at),
+        first(s, w, h[2].r, kc, at),
+        first(s, w, h[3].r, kd, at),
     ]
 }
 
@@ -102,7 +103,7 @@ fn f_x4(
     ensures { λ r. ⌜ r ≡ lanes (λ j. fOver (now (s .entry)) (now (w .entry)) (bytes4 (halvesAt h j .r))
         (part at 12 (byLane (now (ka .entry)) (now (kb .entry)) (now (kc .entry)) (now (kd .entry)) j))) ⌝ }
 {
-    let t = first_x4(s, h, ka, kb, kc, kd, at);
+    let t = first_x4(s, w, h, ka, kb, kc, kd, at);
     let p = second_x4(s, w, t, h, ka, kb, kc, kd, at);
     third_x4(s, w, p, h, ka, kb, kc, kd, at)
 }

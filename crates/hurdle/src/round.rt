@@ -1,8 +1,6 @@
 // f, and the sixteen rounds on the halves L and R, which are words here.
 use crate::tables::S;
 use crate::tables::SPREAD;
-use crate::tables::entry;
-use crate::tables::spread;
 use arrays::word;
 use std::num::wrapping_add_u8;
 ghost use mathlib.Core.List.{_++_};
@@ -11,7 +9,7 @@ ghost use Prim.Native.Nat.{_+_, _-_, _<_, _≤_};
 ghost use lib.ListN.{length};
 ghost use Rattle.standard.specs.Bytes.{_!_, byte, _⊕_, _⊞_, table, part};
 ghost use Rattle.standard.specs.Hurdle.{crypt as cryptOf, roundKey};
-ghost use Rattle.hurdle.specs.RoundSteps.{bytes4, linked, nibblesOver, firstOver, secondOver, thirdOver, fOver, exchangedBy, roundOver, roundsOver};
+ghost use Rattle.hurdle.specs.RoundSteps.{bytes4, linkOver, linked, fourOver, firstOver, secondOver, thirdOver, fOver, exchangedBy, roundOver, roundsOver};
 ghost use Rattle.hurdle.specs.RoundSteps.{place as placeOf, HalvesOf};
 
 // The bytes of a half, the rightmost first, as E numbers them.
@@ -26,33 +24,42 @@ fn half_bytes(x: u32) -> [u8; 4]
     ]
 }
 
-// The index of a link in S: (e + k) ⊕ t.
-fn link(t: u8, e: u8, k: u8) -> u8
-    ensures { λ r. ⌜ r ≡ (e ⊞ k) ⊕ t ⌝ }
-{
-    wrapping_add_u8(e, k) ^ t
+// A byte of f's chain, and the bits of it or of four, spread.
+pub(crate) struct Part {
+    pub t: u8,
+    pub y: u32,
 }
 
-// The indexes of four links after the byte t of the chain.
-fn links(s: &[u8; 256], t: u8, e: [u8; 4], k: [u8; 4]) -> [u8; 4]
-    ensures { λ r. ⌜ r ≡ table 4 (linked (now (s .entry)) t (_!_ e) (_!_ k)) ⌝ }
+// The index of a link in S: (e + k) ⊕ t. With 256 added to one side the ⊕ is of two words; of two bytes the compiler would make a byte and
+// widen it again, and each link of the chain would take a cycle more.
+fn index(t: u8, e: u8, k: u8) -> usize
+    ensures { λ i. ⌜ (i ≡ (e ⊞ k) ⊕ t) × (i < 256) ⌝ }
 {
-    let a = link(t, e[0], k[0]);
-    let b = link(entry(s, a), e[1], k[1]);
-    let c = link(entry(s, b), e[2], k[2]);
-    let d = link(entry(s, c), e[3], k[3]);
-    [a, b, c, d]
+    ((wrapping_add_u8(e, k) as usize + 256) ^ (t as usize)) - 256
 }
 
-// Byte n of the word has bit n of the entries of S at four indexes.
-fn nibbles(w: &[u32; 256], i: [u8; 4]) -> u32
-    ensures { λ r. ⌜ r ≡ nibblesOver (now (w .entry)) i ⌝ }
+// A link after t: S's byte and its bits, spread.
+fn link(s: &[u8; 256], w: &[u32; 256], t: u8, e: u8, k: u8) -> Part
+    ensures { λ r. ⌜ r ≡ linkOver (now (s .entry)) (now (w .entry)) ((e ⊞ k) ⊕ t) ⌝ }
 {
-    let a = spread(w, i[0]) as u64;
-    let b = spread(w, i[1]) as u64;
-    let c = spread(w, i[2]) as u64;
-    let d = spread(w, i[3]) as u64;
-    ((a + 2 * b + 4 * c + 8 * d) % 4294967296) as u32
+    let i = index(t, e, k);
+    Part { t: s[i], y: w[i] }
+}
+
+// Four links after t: the last one's byte, and in byte n of the word the bits n of all four.
+fn links(s: &[u8; 256], w: &[u32; 256], t: u8, e: [u8; 4], k: [u8; 4]) -> Part
+    ensures { λ r. ⌜ r ≡ fourOver (now (s .entry)) (now (w .entry))
+        (table 4 (linked (now (s .entry)) t (_!_ e) (_!_ k))) ⌝ }
+{
+    let a = link(s, w, t, e[0], k[0]);
+    let b = link(s, w, a.t, e[1], k[1]);
+    let c = link(s, w, b.t, e[2], k[2]);
+    let d = link(s, w, c.t, e[3], k[3]);
+    let sum = a.y as u64 + 2 * (b.y as u64) + 4 * (c.y as u64) + 8 * (d.y as u64);
+    Part {
+        t: d.t,
+        y: (sum % 4294967296) as u32,
+    }
 }
 
 // Of the round key from index `at` on, the four bytes at n to n + 3, the rightmost first.
@@ -69,30 +76,21 @@ fn key_bytes(k: &[u8], at: usize, n: usize) -> [u8; 4]
 }
 
 // f's chain in three fours of links, under the round key of twelve bytes from index `at` on. The first ends with T3; T0 is a link after 0.
-pub(crate) fn first(s: &[u8; 256], x: u32, k: &[u8], at: usize) -> u8
+pub(crate) fn first(s: &[u8; 256], w: &[u32; 256], x: u32, k: &[u8], at: usize) -> u8
     requires { ⌜ at + 12 ≤ length (now k) ⌝ }
     ensures { λ r. ⌜ r ≡ firstOver (now (s .entry)) (bytes4 x) (part at 12 (now (k .entry))) ⌝ }
 {
-    let i = links(s, 0, half_bytes(x), key_bytes(k, at, 8));
-    entry(s, i[3])
+    let p = links(s, w, 0, half_bytes(x), key_bytes(k, at, 8));
+    p.t
 }
 
 // T7, and the bits of T4 to T7.
-pub(crate) struct Part {
-    pub t: u8,
-    pub y: u32,
-}
-
 pub(crate) fn second(s: &[u8; 256], w: &[u32; 256], t: u8, x: u32, k: &[u8], at: usize) -> Part
     requires { ⌜ at + 12 ≤ length (now k) ⌝ }
     ensures { λ r. ⌜ r ≡ secondOver (now (s .entry)) (now (w .entry)) t (bytes4 x) (part at 12 (now (k .entry))) ⌝ }
 {
     let e = half_bytes(x);
-    let i = links(s, t, [e[0], e[2], e[1], e[3]], key_bytes(k, at, 4));
-    Part {
-        t: entry(s, i[3]),
-        y: nibbles(w, i),
-    }
+    links(s, w, t, [e[0], e[2], e[1], e[3]], key_bytes(k, at, 4))
 }
 
 // T8 to T11, after T7: byte n of the result has bit n of T(m+4) as its bit m.
@@ -101,8 +99,8 @@ pub(crate) fn third(s: &[u8; 256], w: &[u32; 256], p: Part, x: u32, k: &[u8], at
     ensures { λ r. ⌜ r ≡ thirdOver (now (s .entry)) (now (w .entry)) p (bytes4 x) (part at 12 (now (k .entry))) ⌝ }
 {
     let e = half_bytes(x);
-    let i = links(s, p.t, [e[2], e[0], e[3], e[1]], key_bytes(k, at, 0));
-    let high = nibbles(w, i) as u64;
+    let q = links(s, w, p.t, [e[2], e[0], e[3], e[1]], key_bytes(k, at, 0));
+    let high = q.y as u64;
     ((p.y as u64 + 16 * high) % 4294967296) as u32
 }
 
@@ -111,7 +109,7 @@ fn f(s: &[u8; 256], w: &[u32; 256], x: u32, k: &[u8], at: usize) -> u32
     requires { ⌜ at + 12 ≤ length (now k) ⌝ }
     ensures { λ r. ⌜ r ≡ fOver (now (s .entry)) (now (w .entry)) (bytes4 x) (part at 12 (now (k .entry))) ⌝ }
 {
-    let t = first(s, x, k, at);
+    let t = first(s, w, x, k, at);
     let p = second(s, w, t, x, k, at);
     third(s, w, p, x, k, at)
 }

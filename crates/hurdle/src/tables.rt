@@ -331,10 +331,3 @@ pub(crate) fn entry(s: &[u8; 256], x: u8) -> u8
 {
     s[x as usize]
 }
-
-// An entry of SPREAD.
-pub(crate) fn spread(w: &[u32; 256], x: u8) -> u32
-    ensures { λ r. ⌜ r ≡ now (w .entry) ! x ⌝ }
-{
-    w[x as usize]
-}
