@@ -35,13 +35,21 @@ fn core_input(direction: Direction, ring: &RingBytes, rec: &[u8]) -> CoreInput
     }
 }
 
+// Record i of a book, a part of it.
+pub(crate) fn record_at(direction: Direction, book: &[u8], i: usize) -> &[u8]
+    requires { ⌜ sizeOf direction * i + sizeOf direction ≤ length (now book) ⌝ }
+    ensures { λ r. ⌜ now r ≡ recordAt (sizeOf direction) (now (book .entry)) i ⌝ }
+{
+    let size = direction.size() as usize;
+    let a = size * i;
+    &book[a..a + size]
+}
+
 fn core_input_at(direction: Direction, ring: &RingBytes, book: &[u8], i: usize) -> CoreInput
     requires { ⌜ sizeOf direction * i + sizeOf direction ≤ length (now book) ⌝ }
     ensures { λ c. ⌜ c ≡ inputAt (now (ring .entry)) direction (now (book .entry)) i ⌝ }
 {
-    let size = direction.size() as usize;
-    let a = size * i;
-    core_input(direction, ring, &book[a..a + size])
+    core_input(direction, ring, record_at(direction, book, i))
 }
 
 fn core(direction: Direction, c: CoreInput) -> CoreOutput15
@@ -84,15 +92,13 @@ fn write_at(
         ≡ replaceAt (outputSizeOf direction) i (madeOf direction «identity_strings» (recordAt (sizeOf direction) (now (book .entry)) i) (o .output))
         (now (out .entry)) ⌝ }
 {
-    let size = direction.size() as usize;
     let output_size = direction.output_size() as usize;
-    let a = size * i;
     let b = output_size * i;
     let output = o.output;
     write_record(
         direction,
         identity_strings,
-        &book[a..a + size],
+        record_at(direction, book, i),
         output,
         &mut out[b..b + output_size],
     );

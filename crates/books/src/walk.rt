@@ -2,6 +2,7 @@
 // that writes leaves that to `convert`, for one record or for four.
 use crate::convert::convert_one;
 use crate::convert::convert_x4;
+use crate::convert::record_at;
 use crate::direction::Direction;
 use records::Inspection;
 use records::identity_strings_of;
@@ -41,9 +42,7 @@ fn inspect_at(direction: Direction, ring: &RingBytes, book: &[u8], i: usize) -> 
     requires { ⌜ sizeOf direction * i + sizeOf direction ≤ length (now book) ⌝ }
     ensures { λ l. ⌜ (l .refusal ≡ faultAt (now (ring .entry)) direction (now (book .entry)) i) × (l .runs ≡ inspectionAt direction (now (book .entry)) i) ⌝ }
 {
-    let size = direction.size() as usize;
-    let a = size * i;
-    inspect(direction, ring, &book[a..a + size])
+    inspect(direction, ring, record_at(direction, book, i))
 }
 
 pub(crate) fn scan(direction: Direction, ring: &RingBytes, book: &[u8], n: usize) -> Stop
@@ -89,15 +88,16 @@ fn write_with(
 {
     let mut runs = 0;
     let mut i = 0;
-    while n - i >= 4 {
-        let four = convert_x4(direction, ring, identity_strings, book, i, out);
-        runs += four;
-        i += 4;
-    }
     while i < n {
-        let one = convert_one(direction, ring, identity_strings, book, i, out);
-        runs += one;
-        i += 1;
+        if n - i >= 4 {
+            let four = convert_x4(direction, ring, identity_strings, book, i, out);
+            runs += four;
+            i += 4;
+        } else {
+            let one = convert_one(direction, ring, identity_strings, book, i, out);
+            runs += one;
+            i += 1;
+        }
     }
     runs
 }

@@ -142,13 +142,14 @@ fn write(
         ++ drop (authenticationSize * n) (now (out .entry)) ⌝ }
 {
     let mut i = 0;
-    while n - i >= 4 {
-        write_x4(keys, challenges, response_mask, key_mask, i, out);
-        i += 4;
-    }
     while i < n {
-        write_one(keys, challenges, response_mask, key_mask, i, out);
-        i += 1;
+        if n - i >= 4 {
+            write_x4(keys, challenges, response_mask, key_mask, i, out);
+            i += 4;
+        } else {
+            write_one(keys, challenges, response_mask, key_mask, i, out);
+            i += 1;
+        }
     }
 }
 

@@ -24,30 +24,19 @@ pub record IsFirst (n : ℕ) (g : ℕ → ℕ) (f : ℕ) : Type 0 where
 
 pub first-fault : (n : ℕ) (g : ℕ → ℕ) → IsFirst n g (firstFault n g)
 first-fault zero g = record { within = omega arith; below = λ j h. omega arith; stop = λ h e. omega arith }
-first-fault (suc n) g = go (first-fault n g) (ltb (firstFault n g) n) refl (eqb (g n) 0) refl
+first-fault (suc n) g = go (first-fault n (λ i. g (suc i))) (eqb (g 0) 0) refl
   where
-    f : ℕ
-    f = firstFault n g
+    below : (f : ℕ) → g 0 ≡ 0 → ((j : ℕ) → j < f → g (suc j) ≡ 0) → (j : ℕ) → j < suc f → g j ≡ 0
+    below f e h zero k = e
+    below f e h (suc j) k = h j (le-of-suc-le-suc k)
 
-    go : IsFirst n g f → (s : Bool) → ltb f n ≡ s → (u : Bool) → eqb (g n) 0 ≡ u → IsFirst (suc n) g (choose s f (choose u (suc n) n))
-    go p true es u eu = record { within = omega arith; below = p .below; stop = λ h e. p .stop (ltb-true f n es) e }
-    go p false es true eu = record {
-      within = omega arith;
-      below = λ j h. before j (eq-or-lt-of-le (le-of-suc-le-suc h));
-      stop = λ h e. omega arith;
+    go : {f : ℕ} → IsFirst n (λ i. g (suc i)) f → (t : Bool) → eqb (g 0) 0 ≡ t → IsFirst (suc n) g (choose t (suc f) 0)
+    go {f} p true e = record {
+      within = omega (arith, p .within);
+      below = below f (eqb-true (g 0) 0 e) (p .below);
+      stop = λ h z. p .stop (le-of-suc-le-suc h) z;
     }
-      where
-        whole : f ≡ n
-        whole = omega (arith, ltb-false f n es)
-
-        before : (j : ℕ) → (j ≡ n) ⊎ (j < n) → g j ≡ 0
-        before j (inl e) = ap g e ∙ eqb-true (g n) 0 eu
-        before j (inr h) = p .below j (omega (arith, whole))
-    go p false es false eu = record {
-      within = omega arith;
-      below = λ j h. p .below j (omega (arith, ltb-false f n es));
-      stop = λ h e. eqb-false (g n) 0 eu e;
-    }
+    go p false e = record { within = omega arith; below = λ j h. omega arith; stop = λ h z. eqb-false (g 0) 0 e z }
 
 -- there is one only: what a loop finds is it
 pub first-one : {n : ℕ} {g : ℕ → ℕ} {a b : ℕ} → IsFirst n g a → IsFirst n g b → a ≡ b

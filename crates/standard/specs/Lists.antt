@@ -3,7 +3,7 @@
 use mathlib.Core.Bool.{Bool}
 use mathlib.Core.List.{List, [], _∷_, _++_}
 use Prim.Native.Nat.{ℕ, zero, suc, _*_, _/_, _%_}
-use lib.Dec.{eqb, leb, ltb}
+use lib.Dec.{eqb, leb}
 use lib.ListN.{length, drop}
 use Rattle.standard.specs.Bytes.{part, choose}
 use Rattle.standard.specs.Refusals.{bookTooLong, bookNotWhole, outputShort, first}
@@ -38,7 +38,7 @@ listTests w v size room = lengthTests w size ++ (leb (v * (size / w)) room, outp
 -- the first i below n at which the fault is not 0; n if there is none
 abbrev pub firstFault : ℕ → (ℕ → ℕ) → ℕ
 firstFault zero g = zero
-firstFault (suc n) g = choose (ltb (firstFault n g) n) (firstFault n g) (choose (eqb (g n) 0) (suc n) n)
+firstFault (suc n) g = choose (eqb (g 0) 0) (suc (firstFault n (λ i. g (suc i)))) 0
 
 abbrev pub refused : ℕ → ℕ → BookAnswer
 refused k i = record { refusal = k; index = i; written = 0 }
