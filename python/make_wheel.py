@@ -1,8 +1,8 @@
 """Makes one wheel of the module and the desk, for pip, with the standard library alone.
 
-The engine's shared object goes along, and is made first where it is missing; so
-does program printtables, where it has been made. An editable wheel names the
-repository's folders instead.
+The engine's shared object goes along, and is made first where it is missing or not made
+from the sources as they are; so does program printtables, where it has been made once. An
+editable wheel names the repository's folders instead.
 """
 
 from __future__ import annotations
@@ -96,6 +96,7 @@ def packages() -> dict[str, bytes]:
     found[f"taa1/{library.NAME}"] = Path(library.find()).read_bytes()
     printtables = ROOT / "target" / "bin" / "printtables"
     if printtables.is_file():
+        library.build(ROOT, "printtables")
         found[PRINTTABLES] = printtables.read_bytes()
     return found
 

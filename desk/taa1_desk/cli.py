@@ -19,7 +19,7 @@ from urllib.parse import quote
 
 from taa1 import MOST_RECORDS, LibraryError, Refused, Sitting, __version__
 from taa1.calls import CALLS, Call, Parameter
-from taa1.library import repository
+from taa1.library import build, repository
 
 from . import candidates, draw, files, handins, keysheet, names, pages, paper, scheme, texts
 from .argue import argument_sheet
@@ -453,11 +453,12 @@ def run_schedule(args: argparse.Namespace) -> int:
 
 def run_tables(args: argparse.Namespace) -> int:
     """The tables that program printtables prints."""
-    root = repository()
-    places = [PRINTTABLES] + ([root / "target/bin/printtables"] if root else [])
-    program = next((place for place in places if place.is_file()), None)
-    if program is None:
-        raise Problem(f"{places[-1]}: not there; rt check printtables makes it")
+    program, root = PRINTTABLES, repository()
+    if root and not program.is_file():
+        build(root, "printtables")
+        program = root / "target/bin/printtables"
+    if not program.is_file():
+        raise Problem(f"{program}: not there; run ./build printtables in the repository, and install again")
     try:
         done = subprocess.run(
             [str(program)], stdin=subprocess.DEVNULL, capture_output=True, check=False, timeout=60

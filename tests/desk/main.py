@@ -34,9 +34,6 @@ def one(name: str) -> str:
 
 def run_all() -> int:
     """The same of every file, as many at a time as there are processors."""
-    from taa1_desk.desk import Desk
-
-    Desk()  # makes the library, if it is older than its sources, before several want it
     names = sorted(path.stem for path in HERE.glob("test_*.py"))
     passed = failed = 0
     with ThreadPoolExecutor(os.cpu_count()) as pool:

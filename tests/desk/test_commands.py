@@ -120,10 +120,6 @@ class Good(Case):
         self.fails(1, said, "schedule", "00")
 
     def test_tables(self) -> None:
-        program = ROOT / "target" / "bin" / "printtables"
-        if not program.exists():
-            self.fails(2, f"{program}: not there; rt check printtables makes it", "tables")
-            return
         lines = self.accepted("tables").decode().splitlines()
         self.assertEqual(len(lines), 17)
         self.assertEqual(lines[16], "05 0a 0f 04 07 0e 03 08 0d 02 09 0c 01 06 0b 00")
@@ -441,8 +437,6 @@ class Bad(Case):
                 own = self.accepted("help", name).decode()
                 self.assertEqual(self.accepted(name, "--help").decode(), own)
                 self.assertIn(f"example: {EXAMPLES[name]}\n", own)
-                if name == "tables" and not (ROOT / "target" / "bin" / "printtables").exists():
-                    continue
                 done = taa1(*shlex.split(EXAMPLES[name])[1:], cwd=self.folder)
                 strange = name == "mark"  # the sitting was drawn, so ann's book is another's
                 self.assertEqual(done.status, 1 if strange else 0, done.error)

@@ -5,18 +5,15 @@ from __future__ import annotations
 import array
 import ctypes
 import email
-import io
 import mmap
 import os
 import shutil
 import subprocess
 import sys
-import time
 import types
 import unittest
 import venv
 import zipfile
-from contextlib import redirect_stderr
 from unittest import mock
 
 import make_wheel
@@ -71,118 +68,202 @@ class Finding(Case):
 
 
 class Making(Case):
-    """In a small repository of its own, with stand-ins for rt and cc that say they ran."""
+    """./build in a small repository of its own, with stand-ins for rt and cc that say they ran."""
 
-    RT = "#!/bin/sh\necho rt $* >>ran\necho archive >>target/staticlib/libengine.a\n"
-    CC = '#!/bin/sh\necho cc >>ran\n/bin/cp target/staticlib/libengine.a "$3"\n'
+    # No two archives are the same.
+    RT = """#!/bin/sh
+flock -n crates.txt echo "without the lock" >>ran
+echo "rt $*" >>ran
+mkdir -p target/staticlib
+cat crates/engine/src/*.rt /proc/sys/kernel/random/uuid >target/staticlib/libengine.a
+"""
+    CC = '#!/bin/sh\necho cc >>ran\ncp target/staticlib/libengine.a "$3"\n'
+    TOOLS = (
+        "bash", "cat", "chmod", "cp", "dirname", "env", "find", "flock", "mkdir", "mv", "rm", "sh", "sha256sum", "sort",
+    )  # fmt: skip
+    OLD = "target/staticlib/libengine.a is missing, or not made from these sources"
+    MADE = ["rt staticlib engine", "cc"], f"{OLD}: proving and compiling, half a minute to some minutes\n"
+    NOTHING: tuple[list[str], str] = [], ""
 
     def setUp(self) -> None:
-        """Sources of a minute ago, and no engine yet."""
+        """Sources, and no engine yet."""
         super().setUp()
-        self.target = self.folder / "target"
-        (self.target / "staticlib").mkdir(parents=True)
         self.commands = self.folder / "bin"
-        self.commands.mkdir()
-        self.put("rt", self.RT)
-        self.put("cc", self.CC)
         self.source = self.folder / "crates" / "engine" / "src" / "lib.rt"
         self.edit = self.folder / "crates" / "engine" / "must-fail" / "one.edit"
-        for path in (self.source, self.edit):
+        for path in (self.commands / "none", self.source, self.edit):
             path.parent.mkdir(parents=True)
-            path.touch()
-        (self.folder / "crates.txt").touch()
-        before = time.time() - 60
-        for folder, _, names in os.walk(self.folder / "crates"):
-            for name in (".", *names):
-                os.utime(os.path.join(folder, name), (before, before))
-        os.utime(self.folder / "crates.txt", (before, before))
+        for name in self.TOOLS:
+            (self.commands / name).symlink_to(shutil.which(name) or name)
+        self.put("rt", self.RT)
+        self.put("cc", self.CC)
+        for name in ("build", "locked"):
+            shutil.copy(ROOT / name, self.folder)
+        self.list = self.file("crates.txt", "engine:\n")
+        self.source.write_text("first\n")
+        self.edit.write_text("first\n")
+        self.archive = self.folder / "target" / "staticlib" / "libengine.a"
+        self.library = self.folder / "target" / library.NAME
 
     def put(self, name: str, text: str) -> None:
         """A command."""
         self.commands.joinpath(name).write_text(text)
         self.commands.joinpath(name).chmod(0o755)
 
-    def made(self) -> tuple[list[str], str]:
+    def made(self, status: int = 0) -> tuple[list[str], str]:
         """What ran, and what was said."""
-        ran = self.folder / "ran"
-        ran.write_text("")
-        with mock.patch.object(library, "repository", lambda: self.folder), mock.patch.dict(
-            os.environ, {"PATH": str(self.commands), library.VARIABLE: ""}
-        ), mock.patch.object(library, "PACKAGE", self.folder / "package"):
-            with redirect_stderr(io.StringIO()) as said:
-                library.make()
-        return ran.read_text().splitlines(), said.getvalue()
+        ran = self.file("ran", "")
+        done = subprocess.run(
+            [self.folder / "build", "library"], capture_output=True, check=False, text=True,
+            env={"PATH": str(self.commands)},
+        )  # fmt: skip
+        self.assertEqual((done.returncode, done.stdout), (status, ""), done.stderr)
+        return ran.read_text().splitlines(), done.stderr
+
+    def anew(self) -> None:
+        """All is made, and then stays."""
+        self.assertEqual(self.made(), self.MADE)
+        self.assertEqual(self.library.read_bytes(), self.archive.read_bytes())
+        self.assertEqual(self.made(), self.NOTHING)
 
     def test_first(self) -> None:
-        ran, said = self.made()
-        self.assertEqual(ran, ["rt staticlib engine", "cc"])
-        self.assertEqual(said, "proving and compiling the engine, some minutes\n")
-        self.assertEqual((self.target / library.NAME).read_text(), "archive\n")
-        self.assertEqual(self.made(), ([], ""))
+        self.anew()
 
     def test_changed_source(self) -> None:
-        """A source that is changed, added or removed, or the list of crates; but no edit."""
-        self.made()
-        for change in (
-            self.source.touch,
-            (self.source.parent / "other.rt").touch,
-            (self.source.parent / "other.rt").unlink,
-            (self.folder / "crates.txt").touch,
-        ):
-            with self.subTest(change):
-                time.sleep(0.05)
+        """A source that is changed, added or removed, or the list of crates; but no edit.
+        The files' times say nothing, as after a copy that keeps them."""
+        self.anew()
+        other = self.source.with_name("other.rt")
+        paths = (self.source, self.source.parent, self.edit, self.list, other)
+        for moment in (None, 0):
+            for change in (
+                lambda: self.source.write_text(f"changed {moment}\n"),
+                lambda: other.write_text("added\n"),
+                lambda: other.replace(self.source),
+                lambda: self.list.write_text(f"engine: {moment}\n"),
+            ):
                 change()
-                ran, said = self.made()
-                self.assertEqual(ran, ["rt staticlib engine", "cc"])
-                self.assertTrue(said.startswith("its sources have changed: proving"))
-                self.assertEqual(self.made(), ([], ""))
-        time.sleep(0.05)
-        self.edit.touch()
-        self.assertEqual(self.made(), ([], ""))
+                if moment is not None:
+                    for path in filter(os.path.exists, paths):
+                        os.utime(path, (moment, moment))
+                self.anew()
+        self.edit.write_text("changed\n")
+        for path in filter(os.path.exists, paths):
+            path.touch()
+        self.assertEqual(self.made(), self.NOTHING)
 
     def test_changed_meanwhile(self) -> None:
-        # Files' moments may lag behind the clock by some thousandths of a second.
-        self.put("rt", self.RT + "/bin/sleep 0.05\n: >crates/engine/src/lib.rt\n")
+        self.put("rt", self.RT + "echo more >>crates/engine/src/lib.rt\n")
         self.made()
         self.put("rt", self.RT)
-        self.assertEqual(self.made()[0], ["rt staticlib engine", "cc"])
-        self.assertEqual(self.made(), ([], ""))
+        self.anew()
 
-    def test_made_elsewhere(self) -> None:
-        """An archive younger than its sources only wants to be linked."""
-        self.made()
-        time.sleep(0.05)
-        self.source.touch()
-        time.sleep(0.05)
-        (self.target / "staticlib" / "libengine.a").write_text("other\n")
-        self.assertEqual(self.made(), (["cc"], ""))
-        self.assertEqual((self.target / library.NAME).read_text(), "other\n")
-        self.assertEqual(self.made(), ([], ""))
+    def test_other_files(self) -> None:
+        """A library is linked anew if it or its digests are others, or gone; an archive that
+        another hand made is not linked."""
+        self.anew()
+        digests = self.library.with_name(f"{library.NAME}.sha256")
+        for spoiled, content in ((self.library, "other\n"), (digests, "other\n"), (self.library, ""), (digests, "")):
+            spoiled.unlink()
+            if content:
+                spoiled.write_text(content)
+            self.assertEqual(self.made(), (["cc"], ""))
+            self.assertEqual(self.made(), self.NOTHING)
+        self.library.unlink()
+        self.archive.write_text("other\n")
+        self.anew()
 
     def test_without_rt(self) -> None:
-        """The old engine goes on, and a line says so, each time; without one, a line says what is missing."""
-        self.made()
-        time.sleep(0.05)
-        self.source.touch()
+        """What was made from other sources is refused, each time; what fits goes on."""
+        said = f'build: {self.OLD}, and rt, which makes it, is not on the PATH: see "The Rattle kit" in README.md\n'
         (self.commands / "rt").unlink()
-        old = "taa1: the engine is older than its sources, and rt, which makes it, is not on the PATH\n"
-        self.assertEqual(self.made(), ([], old))
-        self.assertEqual(self.made(), ([], old))
-        (self.target / library.NAME).unlink()
-        (self.target / "staticlib" / "libengine.a").unlink()
-        with self.assertRaisesRegex(taa1.LibraryError, "not made: rt is not on the PATH"):
-            self.made()
+        self.assertEqual(self.made(1), ([], said))
+        self.put("rt", self.RT)
+        self.anew()
+        (self.commands / "rt").unlink()
+        self.assertEqual(self.made(), self.NOTHING)
+        self.source.write_text("other\n")
+        os.utime(self.source, (0, 0))
+        for _ in range(2):
+            self.assertEqual(self.made(1), ([], said))
+        self.source.write_text("first\n")
+        self.assertEqual(self.made(), self.NOTHING)
 
     def test_not_proved(self) -> None:
-        """Where rt fails, no engine is used, and the shared object stays as it was."""
-        self.made()
-        time.sleep(0.05)
-        self.source.touch()
+        """Where rt fails, the library stays as it was, and is not taken for the new one."""
+        self.anew()
+        before = self.library.read_bytes()
+        self.source.write_text("other\n")
         self.put("rt", "#!/bin/sh\nexit 1\n")
         for _ in range(2):
-            with self.assertRaisesRegex(taa1.LibraryError, "not made: rt staticlib engine failed"):
-                self.made()
-        self.assertEqual((self.target / library.NAME).read_text(), "archive\n")
+            said = self.made(1)[1].splitlines()
+            self.assertEqual(said[1:], ["build: target/staticlib/libengine.a is not made: rt staticlib engine failed"])
+        self.assertEqual(self.library.read_bytes(), before)
+
+    def test_not_linked(self) -> None:
+        self.put("cc", "#!/bin/sh\nexit 1\n")
+        self.assertEqual(self.made(1)[1].splitlines()[1:], ["build: cc could not link target/libtaa1.so"])
+        (self.commands / "cc").unlink()
+        said = "build: cc, which links target/libtaa1.so, is not on the PATH: install a C compiler\n"
+        self.assertEqual(self.made(1), ([], said))
+        self.assertFalse(self.library.exists())
+        self.assertEqual(list(self.folder.glob("target/.*")), [])
+
+    def test_at_once(self) -> None:
+        """Of several, one makes it, and the others say that they wait."""
+        os.mkfifo(self.folder / "go")
+        self.put("rt", self.RT + "cat go\n")
+        waits = "rt: waiting for another rt in this repository, which holds the lock on crates.txt\n"
+        self.file("ran", "")
+        runs = []
+        for said in (self.MADE[1], waits, waits):
+            run = subprocess.Popen(
+                [str(self.folder / "build"), "library"], stderr=subprocess.PIPE, text=True,
+                env={"PATH": str(self.commands)},
+            )  # fmt: skip
+            self.addCleanup(run.kill)
+            assert run.stderr
+            self.assertEqual(run.stderr.readline(), said)
+            runs.append(run)
+        (self.folder / "go").write_text("")
+        self.assertEqual([(run.communicate()[1], run.returncode) for run in runs], [("", 0)] * 3)
+        self.assertEqual((self.folder / "ran").read_text().splitlines(), self.MADE[0])
+
+    def test_use(self) -> None:
+        """`./build` alone makes the archive; programs are made by name, and nothing else is."""
+        for words, status, ran in (
+            ("", 0, "rt staticlib engine\n"), ("archive", 0, ""), ("--help", 0, ""),
+            ("printtables makering", 1, "rt check printtables makering\n"), ("all", 2, ""),
+        ):  # fmt: skip
+            with self.subTest(words):
+                self.file("ran", "")
+                command, path = [str(self.folder / "build"), *words.split()], {"PATH": str(self.commands)}
+                done = subprocess.run(command, capture_output=True, env=path, check=False)
+                self.assertEqual((done.returncode, (self.folder / "ran").read_text()), (status, ran), done.stderr)
+
+    def test_desk(self) -> None:
+        """The desk has it made, once in a process, unless another library is used."""
+        package = self.folder / "package"
+        package.mkdir()
+        with mock.patch.object(library, "PACKAGE", package), mock.patch.object(library, "build") as build:
+            for root, named, beside, calls in (
+                (self.folder, "", False, 1), (self.folder, "other.so", False, 0),
+                (self.folder, "", True, 0), (None, "", False, 0),
+            ):  # fmt: skip
+                build.reset_mock()
+                library.make.cache_clear()
+                if beside:
+                    (package / library.NAME).touch()
+                with mock.patch.object(library, "repository", lambda root=root: root), mock.patch.dict(
+                    os.environ, {library.VARIABLE: named}
+                ):
+                    library.make()
+                    library.make()
+                self.assertEqual(build.call_args_list, [mock.call(self.folder, "library")] * calls)
+        self.put("build", "#!/bin/sh\nexit 1\n")
+        with self.assertRaisesRegex(taa1.LibraryError, r"/bin/build library failed, and has said why$"):
+            library.build(self.commands, "library")
+        library.make.cache_clear()
 
 
 class Values(unittest.TestCase):
