@@ -29,6 +29,7 @@ SCREEN, PHONE = 1280, 390  # widths of a window
 HIGH = {SCREEN: 900, PHONE: 844}
 POINTS = {"A4": (595.3, 841.9), "letter": (612.0, 792.0)}
 MARGIN = 15 / 25.4 * 72  # of a printed page's sides, in points
+DPI = 96  # of a sheet's picture: a letter's strokes are then as dark as they are
 
 # What is wrong with a page: text beyond the edges, over other text, or with a word broken in
 # two, but at a hyphen; or the line around a bold text, through another. It looks at each
@@ -217,9 +218,9 @@ def poppler(program: str, pdf: bytes, *options: str) -> bytes:
 def printed(browser: Browser, page: Path, paper: str) -> Printed:
     """The page that the browser shows, printed on A4 or letter.
 
-    Wrong are words that are lost or beyond the margins, a sheet that is blank or ends in
-    a heading (at its top lines to write on may follow), and colours, which black and white
-    would lose.
+    Wrong are words that are lost or beyond the margins, a sheet that has no words, shows
+    nothing dark above its foot, or ends in a heading (at its top lines to write on may
+    follow), and colours, which black and white would lose.
     """
     # A word that may be broken is one word.
     words = Words(page.read_text().replace("<wbr>", ""))
@@ -249,7 +250,10 @@ def printed(browser: Browser, page: Path, paper: str) -> Printed:
             wrong.append(f"sheet {number} is blank")
         elif body[-1] in headings and low > high / 4:
             wrong.append(f"sheet {number} ends in the heading {body[-1]!r}")
-    if not all(map(_grey, pictures(poppler("pdftoppm", pdf, "-r", "20")))):
+    shots = pictures(poppler("pdftoppm", pdf, "-r", str(DPI)))
+    foot = round((high - MARGIN) / 72 * DPI)
+    wrong += [f"sheet {number} shows nothing" for number, shot in enumerate(shots, 1) if not _dark(shot, foot)]
+    if not all(map(_grey, shots)):
         wrong.append("colours")
     return Printed(sheets, wrong)
 
@@ -274,9 +278,14 @@ def pictures(data: bytes) -> list[Picture]:
 
 
 def _grey(picture: Picture) -> bool:
-    """Whether a picture in colours has grey points alone, and dark ones."""
+    """Whether no point of a picture in colours is coloured."""
     red, green, blue = (picture.points[at::3] for at in range(3))
-    return red == green == blue and min(red) < 128
+    return red == green == blue
+
+
+def _dark(picture: Picture, rows: int) -> bool:
+    """Whether the first rows of a picture in colours have a dark point."""
+    return min(picture.points[: rows * picture.wide * 3]) < 128
 
 
 def main() -> None:

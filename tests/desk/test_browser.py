@@ -9,7 +9,7 @@ from itertools import combinations
 from pathlib import Path
 from typing import ClassVar
 
-from browser import MARGIN, MISSING, PHONE, POINTS, SCREEN, Browser, pictures, poppler, printed
+from browser import DPI, MARGIN, MISSING, PHONE, POINTS, SCREEN, Browser, pictures, poppler, printed
 from common import CLASS, DESK, RING, SITTING, seal, taa1
 from taa1_desk.page import page, tag, text
 from taa1_desk.pictures import FILLINGS, HEIGHT, STYLE, Part, bar, fillings
@@ -119,7 +119,7 @@ class Looking(unittest.TestCase):
         self.assertLess(max(lines), 30)
 
     def test_paper(self) -> None:
-        """On A4 and Letter nothing is lost, no sheet ends in a heading, and all is grey."""
+        """On A4 and Letter nothing is lost, no sheet is empty or ends in a heading, and all is grey."""
         for name, most in PAGES.items():
             path = self.folder / f"{name}.html"
             self.browser.open(path)
@@ -135,9 +135,9 @@ class Looking(unittest.TestCase):
         style = "header { display: none; } svg { width: 60px; }"
         self.show(fillings(), *bars, style=STYLE + style)
         pdf = self.browser.print("A4")
-        (picture,) = pictures(poppler("pdftoppm", pdf, "-gray", "-r", "96"))
+        (picture,) = pictures(poppler("pdftoppm", pdf, "-gray", "-r", str(DPI)))
         rows = [picture.points[at : at + picture.wide] for at in range(0, len(picture.points), picture.wide)]
-        left = round(MARGIN / 72 * 96)
+        left = round(MARGIN / 72 * DPI)
         top = next(at for at, row in enumerate(rows) if min(row) < 128)
         cuts = [
             b"".join(row[left + 3 : left + 51] for row in rows[top + HEIGHT * at + 2 :][: HEIGHT - 4])
@@ -167,5 +167,8 @@ class Looking(unittest.TestCase):
             self.assertEqual(printed(self.browser, path, "letter").wrong, wrong)
         path = self.show(text("p", "hidden", style="position: absolute; left: 400mm"), text("p", "here"))
         self.assertNotEqual(printed(self.browser, path, "A4").wrong, [])
-        path = self.show(text("p", "red " * 300, style="color: #c00"))
-        self.assertEqual(printed(self.browser, path, "A4").wrong, ["colours"])
+        for style in ("color: #c00", "border: 1px solid #eef"):
+            path = self.show(text("p", "some words", style=style))
+            self.assertEqual(printed(self.browser, path, "A4").wrong, ["colours"])
+        path = self.show(text("p", "high", style="height: 260mm"), text("p", "pale", style="opacity: 0.2"))
+        self.assertEqual(printed(self.browser, path, "A4").wrong, ["sheet 2 shows nothing"])
