@@ -58,7 +58,19 @@ def wait_for(run: subprocess.Popen[bytes], which: str, number: int) -> None:
         time.sleep(0.01)
 
 
-class Lines(Case):
+class Hearing(Case):
+    """A test that hears signals, and whose children do: what starts it may ignore them, as a
+    shell does for a job in the background."""
+
+    def setUp(self) -> None:
+        """Sets them as for a command in the foreground."""
+        super().setUp()
+        for number in files.SIGNALS:
+            usual: Any = signal.default_int_handler if number == signal.SIGINT else signal.SIG_DFL
+            self.addCleanup(signal.signal, number, signal.signal(number, usual))
+
+
+class Lines(Hearing):
     """A signal at every line of the module that writes files."""
 
     def interrupted(self, at: int, work: Callable[[], None], number: int) -> Optional[bool]:
@@ -127,7 +139,7 @@ class Lines(Case):
         self.every_line(lambda: files.write_file(name, b"new", True, True), {}, {"a.html": b"new"})
 
 
-class Command(Case):
+class Command(Hearing):
     """The command, interrupted."""
 
     def test_importing(self) -> None:
