@@ -46,16 +46,18 @@ sys.addaudithook(count)
 """
 
 
-def wait_for(run: subprocess.Popen[bytes], which: str, number: int) -> None:
-    """Waits until a process catches (SigCgt) or ignores (SigIgn) a signal, or has ended:
-    before that the interpreter starts, which may take long on a busy machine."""
+def wait_for(
+    run: subprocess.Popen[bytes], which: str, number: int, wanted: int = 1, pause: float = 0.01
+) -> None:
+    """Waits until a process catches (SigCgt) or ignores (SigIgn) a signal, or no longer does
+    (wanted 0), or has ended: the interpreter's start may take long on a busy machine."""
     end = time.monotonic() + 60
     while run.poll() is None and time.monotonic() < end:
         with open(f"/proc/{run.pid}/status", encoding="ascii") as status:
-            mask = next(line.split()[1] for line in status if line.startswith(which))
-        if int(mask, 16) >> number - 1 & 1:
+            mask = next((line.split()[1] for line in status if line.startswith(which)), "0")
+        if int(mask, 16) >> number - 1 & 1 == wanted:
             return
-        time.sleep(0.01)
+        time.sleep(pause)
 
 
 class Hearing(Case):
@@ -165,8 +167,27 @@ class Command(Hearing):
                 said = {-signal.SIGINT: b"", 130: b"taa1: interrupted\n", 0: b""}
                 self.assertEqual(done.stderr, said.get(status, b"another status"))
             silent += status == -signal.SIGINT
-            moment += 1 if moment < 20 else 50
-        self.assertGreater(silent, 20)
+            moment += 1 if moment < 60 else 50
+        self.assertGreater(silent, 60)
+
+    def test_package_from_outside(self) -> None:
+        """The same by the clock, from when our first line has taken Python's handler away.
+        What comes before that is Python's alone (docs/DECISIONS.md)."""
+        environment = {**os.environ, "PYTHONPATH": str(ROOT / "python")}
+        command = [sys.executable, "-W", "error", "-m", "taa1", "scheme"]
+        seen = set()
+        for moment in range(40):
+            run = subprocess.Popen(command, env=environment, stdout=subprocess.DEVNULL, stderr=subprocess.PIPE)
+            wait_for(run, "SigCgt", signal.SIGINT, pause=0)
+            wait_for(run, "SigCgt", signal.SIGINT, wanted=0, pause=0)
+            time.sleep(moment / 1000)
+            run.send_signal(signal.SIGINT)
+            error = run.communicate(timeout=60)[1]
+            with self.subTest(moment):
+                said = {-signal.SIGINT: b"", 130: b"taa1: interrupted\n", 0: b""}
+                self.assertEqual(error, said.get(run.returncode, b"another status"))
+            seen.add(run.returncode)
+        self.assertIn(-signal.SIGINT, seen)
 
     def test_hosts(self) -> None:
         """A host's signals are left alone, also of one that is run as a package."""
