@@ -1,4 +1,5 @@
 # For the scripts that run checks: they end with `counts`.
+# shellcheck shell=bash disable=SC2034 # the numbers are for those scripts
 passed=0
 failed=0
 

@@ -98,7 +98,7 @@ fn plain(path: &Path) -> Option<PathBuf> {
 /// The guides, by their paths in the repository.
 fn guides(root: &Path) -> Vec<PathBuf> {
     let mut found = Vec::new();
-    for folder in ["", "docs", "docs/changes"] {
+    for folder in ["", "docs", "docs/changes", "bench", "tests"] {
         let entries = fs::read_dir(root.join(folder)).expect("a folder of guides");
         for entry in entries {
             let name = entry.expect("an entry of a folder").file_name();
