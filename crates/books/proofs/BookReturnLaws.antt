@@ -1,13 +1,12 @@
 -- The cases of a book call, as its code comes to them.
 -- Assumes nothing.
-use Rattle.standard.proofs.Prelude.{_≡_, refl, sym, ap₂, _∙_, List, _++_, ℕ, _+_, _*_, _/_, _≤_, _<_, arith, length, drop, eq-eqb, ne-eqb, leb-true}
+use Rattle.standard.proofs.Prelude.{_≡_, sym, ap, ap₂, _∙_, Bool, List, _∷_, _++_, ℕ, _+_, _*_, _/_, _<_, arith, length, drop, eq-eqb, ne-eqb}
 use Rattle.lists.proofs.ListReturnLaws.{call-refused, call-stopped, call-done}
 use Rattle.lists.specs.Walks.{Clean, Stopped}
 use Rattle.standard.proofs.AnswerLaws.{no-fault}
-use Rattle.standard.proofs.FirstLaws.{all-pass}
 use Rattle.standard.specs.Books.{counted, bookCall}
 use Rattle.standard.specs.Lists.{each, listTests, refused}
-use Rattle.standard.specs.Refusals.{wrongLength, first}
+use Rattle.standard.specs.Refusals.{wrongLength, hasLength, first}
 use Rattle.standard.specs.Runs.{firstPass, secondPass, callRuns}
 use Rattle.standard.specs.Sizes.{ringSize}
 use Rattle.books.specs.BothDirections.{sizeOf, outputSizeOf, recordOf, conversionOf, faultAt, inspectionAt}
@@ -28,7 +27,7 @@ module _ (head n : ℕ) (g l : ℕ → ℕ) where
   runs-done : head ≡ 0 → Clean g n → firstPass n g l + secondPass n ≡ callRuns head n g l
   runs-done z none = rw (z, eq-eqb _ _ (no-fault n g none))
 
--- ---- the answer, the output and the runs
+-- ---- the answer, the output and the runs: the tests are the ring's length, and then those of the lengths
 
 module _ (r : List ℕ) (w : Direction) (xs out : List ℕ) where
   abbrev n : ℕ
@@ -40,37 +39,40 @@ module _ (r : List ℕ) (w : Direction) (xs out : List ℕ) where
   abbrev made : List ℕ
   made = each n (sizeOf w) (recordOf r w) xs
 
-  pub ring-refused : (length r ≡ ringSize → ⊥) → counted (refused wrongLength 0, out) 0 ≡ bookCall (conversionOf r w) r xs out
-  unfolding bookCall
-  ring-refused h =
-      rw (ne-eqb _ _ h)
-      (ap₂ counted (call-refused wrongLength n (faultAt r w xs) bytes made out (λ e. omega arith))
-      (runs-refused wrongLength n (faultAt r w xs) (inspectionAt w xs) (λ e. omega arith)))
+  abbrev lengths : List (Bool × ℕ)
+  lengths = listTests (sizeOf w) (outputSizeOf w) (length xs) (length out)
 
-  module _ (h : length r ≡ ringSize) (refusal : ℕ) (e : refusal ≡ first (listTests (sizeOf w) (outputSizeOf w) (length xs) (length out))) where
+  abbrev tests : List (Bool × ℕ)
+  tests = (hasLength ringSize r, wrongLength) ∷ lengths
+
+  head-refused : {head : ℕ} → head ≡ first tests → (head ≡ 0 → ⊥) → counted (refused head 0, out) 0 ≡ bookCall (conversionOf r w) r xs out
+  unfolding bookCall
+  head-refused {head} e z =
+      ap₂ counted (call-refused tests e n (faultAt r w xs) (outputSizeOf w) made out z)
+      (runs-refused head n (faultAt r w xs) (inspectionAt w xs) z ∙ ap (λ (k : ℕ). callRuns k n (faultAt r w xs) (inspectionAt w xs)) e)
+
+  pub ring-refused : (length r ≡ ringSize → ⊥) → counted (refused wrongLength 0, out) 0 ≡ bookCall (conversionOf r w) r xs out
+  ring-refused h = head-refused (rw (ne-eqb _ _ h)) (λ e. omega arith)
+
+  module _ (h : length r ≡ ringSize) (refusal : ℕ) (e : refusal ≡ first lengths) where
+    head : refusal ≡ first tests
+    head = rw (eq-eqb _ _ h) e
+
     pub lengths-refused : (refusal ≡ 0 → ⊥) → counted (refused refusal 0, out) 0 ≡ bookCall (conversionOf r w) r xs out
-    unfolding bookCall
-    lengths-refused z =
-        rw (eq-eqb _ _ h, ← e)
-        (ap₂ counted (call-refused refusal n (faultAt r w xs) bytes made out z) (runs-refused refusal n (faultAt r w xs) (inspectionAt w xs) z))
+    lengths-refused z = head-refused head z
 
     module _ (z : refusal ≡ 0) where
       pub record-refused : (k i runs : ℕ) → Stopped n (faultAt r w xs) k i → runs ≡ firstPass n (faultAt r w xs) (inspectionAt w xs) → (k ≡ 0 → ⊥)
           → counted (refused k i, out) runs ≡ bookCall (conversionOf r w) r xs out
       unfolding bookCall
       record-refused k i runs s p f =
-          rw (eq-eqb _ _ h, ← e)
-          (ap₂ counted (call-stopped refusal n (faultAt r w xs) bytes made out z k i s f)
-          (p ∙ runs-stopped refusal n (faultAt r w xs) (inspectionAt w xs) z k i s f))
+          ap₂ counted (call-stopped tests head n (faultAt r w xs) (outputSizeOf w) made out z k i s f)
+          (p ∙ runs-stopped (first tests) n (faultAt r w xs) (inspectionAt w xs) (sym head ∙ z) k i s f)
 
       pub all-written : Clean (faultAt r w xs) n → (exit : List ℕ) → exit ≡ made ++ drop bytes out
           → (inspections writes : ℕ) → inspections ≡ firstPass n (faultAt r w xs) (inspectionAt w xs) → writes ≡ secondPass n
           → (record { refusal = 0; index = n; written = bytes; runs = inspections + writes }, exit) ≡ bookCall (conversionOf r w) r xs out
       unfolding bookCall
       all-written none exit k inspections writes p q =
-          rw (eq-eqb _ _ h, ← e)
-          (ap₂ counted (call-done refusal n (faultAt r w xs) bytes made out z none exit k)
-          (ap₂ _+_ p q ∙ runs-done refusal n (faultAt r w xs) (inspectionAt w xs) z none))
-
-      pub room : bytes ≤ length out
-      room = leb-true _ _ (all-pass (listTests (sizeOf w) (outputSizeOf w) (length xs) (length out)) refl (sym e ∙ z) 2)
+          ap₂ counted (call-done tests head n (faultAt r w xs) (outputSizeOf w) made out z none exit k)
+          (ap₂ _+_ p q ∙ runs-done (first tests) n (faultAt r w xs) (inspectionAt w xs) (sym head ∙ z) none)

@@ -5,7 +5,7 @@ use Rattle.standard.proofs.Prelude.{eqb, length, eqb-true, eqb-false, eq-eqb, n
 use mathlib.Core.Logic.{Iff·rfl}
 use Rattle.standard.specs.Bytes.{_!_, part, zeros, same, choose, Bytes}
 use Rattle.standard.specs.Expansions.{grouped, inserted, expected, exp3Groups, exp3, shr2}
-use Rattle.standard.specs.Seals.{form51, checks, failed, key16, opened, unseal, fails, ta52Call}
+use Rattle.standard.specs.Seals.{form51, checks, failed, key16, opened, unseal, fails, unsealCall, ta52Call}
 use Rattle.standard.specs.declared.UnsealedNumbered.{UnsealedNumbered}
 use Rattle.standard.specs.declared.Version.{Version}
 use Rattle.standard.proofs.BytesLaws.{spell, bytes-append, bytes-one, bytes-part, same-eq, same-refl}
@@ -106,7 +106,7 @@ module _ (s : List ℕ) (v : Version) (hs : length s ≡ 16) where
 
   module _ (t : List ℕ) (h : Bytes 15 t) where
     answered : ta52Call t s v ≡ answer (part 0 10 (shr2 (unsealCore coreKey t))) (shr2 (unsealCore coreKey t) ! 10 % 32) (failed form51 (unsealCore coreKey t))
-    unfolding ta52Call unseal fails opened unsealCore
+    unfolding ta52Call unsealCall unseal fails opened unsealCore
     answered = rw (eq-eqb _ _ (h .len), eq-eqb _ _ hs)
 
     answered-without : ta52WithoutBits t s v

@@ -3,8 +3,7 @@
 use Rattle.standard.proofs.Prelude.{_≡_, refl, ap, _∙_, List, ℕ, _+_, _*_, _/_, _%_, _^_, _<_, arith, length, le-leb}
 use mathlib.Core.Logic.{Iff·rfl, Iff·symm}
 use Rattle.standard.specs.Bytes.{_!_, part, bytesOf, number, Bytes}
-use Rattle.standard.specs.Facts.{sealingSize}
-use Rattle.standard.specs.Seals.{formOf, body31, body51, seal, unseal}
+use Rattle.standard.specs.Seals.{sealingSize, formOf, bodyOf, seal, unseal}
 use Rattle.standard.specs.declared.Algorithm.{Algorithm}
 use Rattle.standard.specs.declared.Algorithm.the-variants.{Ta31, Ta51, Ta81, Ta91}
 use Rattle.standard.specs.declared.Version.{Version}
@@ -20,7 +19,7 @@ use Rattle.claims.proofs.TermLaws.{pair, legal-body, opens-clear}
 -- ---- legal bodies
 
 -- kind 1: a key, and zero bytes after it
-keys : Inverse (Bytes 10) (Legal Ta31) body31 (part 0 10)
+keys : Inverse (Bytes 10) (Legal Ta31) (λ k. bodyOf Ta31 k 0) (part 0 10)
 keys = record {
   to = λ k h. record { bytes = bytes-append (bytes-part 0 10 h) (bytes-cons (omega arith) bytes-zero); accepted = refl };
   from = λ b h. bytes-part 0 10 (h .bytes);
@@ -29,7 +28,7 @@ keys = record {
 }
 
 -- kinds 2 and 5: the number is counted faster than the key
-keys-and-numbers : Inverse (λ i. i < 32 * 256 ^ 10) (Legal Ta51) (λ i. body51 (bytesOf 10 (i / 32)) (i % 32)) (λ b. number (part 0 10 b) * 32 + b ! 11)
+keys-and-numbers : Inverse (λ i. i < 32 * 256 ^ 10) (Legal Ta51) (λ i. bodyOf Ta51 (bytesOf 10 (i / 32)) (i % 32)) (λ b. number (part 0 10 b) * 32 + b ! 11)
 keys-and-numbers = record {
   to = λ i h. record {
     bytes = bytes-append (bytes-part 0 10 (bytes-of 10 (i / 32))) (bytes-cons (omega arith) (bytes-one (omega arith)));
@@ -42,7 +41,7 @@ keys-and-numbers = record {
       let k = number (part 0 10 b) in
       let q : (k * 32 + b ! 11) / 32 ≡ k = omega (arith, n .1) in
       let r : (k * 32 + b ! 11) % 32 ≡ b ! 11 = omega (arith, n .1) in
-      let e = ap (λ (x : List ℕ). body51 x (b ! 11)) (numbered 10 .forth (part 0 10 b) (bytes-part 0 10 (h .bytes))) in
+      let e = ap (λ (x : List ℕ). bodyOf Ta51 x (b ! 11)) (numbered 10 .forth (part 0 10 b) (bytes-part 0 10 (h .bytes))) in
       rw (q, r) (e ∙ cc (spell (h .bytes), n .0));
 }
 

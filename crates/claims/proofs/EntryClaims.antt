@@ -6,38 +6,40 @@ use mathlib.Core.Logic.{Iff·symm}
 use Rattle.standard.specs.Books.{plainFault, sealRecord, openFault, openRecord, bookCall, openBook}
 use Rattle.standard.specs.Bytes.{part, same, Bytes, Passed}
 use Rattle.standard.specs.Demand3.{IsSealedForm}
-use Rattle.standard.specs.Facts.{sealingSize}
-use Rattle.standard.specs.Lists.{answer, written}
-use Rattle.standard.specs.Seals.{formOf, failed, seal}
+use Rattle.standard.specs.Facts.{sealBody}
+use Rattle.standard.specs.Lists.{answer, recordsCall}
+use Rattle.standard.specs.Seals.{sealingSize, formOf, failed, seal, unsealCall}
 use Rattle.standard.specs.Sizes.{ringSize, plainSize, sealedSize}
 use Rattle.standard.specs.declared.Algorithm.{Algorithm}
 use Rattle.standard.specs.declared.Bytes15.{Bytes15}
+use Rattle.standard.specs.declared.UnsealedBody.{UnsealedBody}
 use Rattle.standard.specs.declared.Version.{Version}
 use Rattle.standard.proofs.BytesLaws.{spelled, spell, part-left}
+use Rattle.standard.proofs.CallPairLaws.{sealed-by, unsealed-by}
 use Rattle.standard.proofs.CheckLaws.{clear-same}
 use Rattle.standard.proofs.Demand3Laws.{demand3}
 use Rattle.standard.proofs.RecordLaws.{Plain, Sealed, record-law}
 use Rattle.standard.proofs.SealLaws.{Body, form-law, sealing}
-use Rattle.claims.specs.Entries.{OfOne, Legal, sealCall, Unsealing, unsealCall, Opens}
+use Rattle.claims.specs.Entries.{OfOne, Legal, Opens}
 use Rattle.claims.specs.TrueClaims.{ChecksExactly, OneText, OneRecord, OneBook, RecordAlone}
 use Rattle.claims.proofs.OnlyLaws.{of-image, of-one-same}
-use Rattle.claims.proofs.TermLaws.{pair, legal-body, sealing-size, sealed-by, unsealing-size, unsealed-by, opens-clear}
+use Rattle.claims.proofs.TermLaws.{pair, legal-body, sealing-size, unsealing-size, opens-clear}
 
 -- ---- texts
 
 seals-to : (a : Algorithm) (s : List ℕ) (v : Version) (t : List ℕ) → length s ≡ sealingSize a → (b : List ℕ)
-    → (Body (formOf a) b × (seal (formOf a) s (pair v) b ≡ t)) ↔ (Legal a b × (sealCall a b v s ≡ record { refusal = 0; bytes = t }))
+    → (Body (formOf a) b × (seal (formOf a) s (pair v) b ≡ t)) ↔ (Legal a b × (sealBody a b v s ≡ record { refusal = 0; bytes = t }))
 seals-to a s v t hs b = (
-  λ h. let l = legal-body a b .1 (h .0) in (l, sealed-by a s v b hs l ∙ ap (λ (x : List ℕ). record { refusal = 0; bytes = x }) (h .1)),
-  λ h. (legal-body a b .0 (h .0), ap (λ (x : Bytes15). x .bytes) (sym (sealed-by a s v b hs (h .0)) ∙ h .1)),
+  λ h. let l = legal-body a b .1 (h .0) in (l, sealed-by a s v hs b (h .0) ∙ ap (λ (x : List ℕ). record { refusal = 0; bytes = x }) (h .1)),
+  λ h. (legal-body a b .0 (h .0), ap (λ (x : Bytes15). x .bytes) (sym (sealed-by a s v hs b (legal-body a b .0 (h .0))) ∙ h .1)),
 )
 
 -- under a sealing key of the length that the calls take
 taken : (a : Algorithm) (s : List ℕ) (v : Version) (t : List ℕ) → length s ≡ sealingSize a
-    → OfOne (Opens a s v t) (λ b. Legal a b × (sealCall a b v s ≡ record { refusal = 0; bytes = t })) (unsealCall a t s v .body)
+    → OfOne (Opens a s v t) (λ b. Legal a b × (sealBody a b v s ≡ record { refusal = 0; bytes = t })) (unsealCall a t s v .body)
 taken a s v t hs =
     of-one-same (Iff·symm (opens-clear a s v t hs)) (seals-to a s v t hs)
-    (λ o. ap (λ (u : Unsealing). u .body) (sym (unsealed-by a s v t hs (o .bytes)))) (of-image (sealing a s (pair v)) t)
+    (λ o. ap (λ (u : UnsealedBody). u .body) (sym (unsealed-by a s v hs t (o .bytes .len)))) (of-image (sealing a s (pair v)) t)
 
 pub one-text : OneText
 one-text a s v t = record {
@@ -95,7 +97,7 @@ one-book r s out hr bs room =
 -- a record is a book of one
 alone : (r t out : List ℕ) → length r ≡ ringSize → length t ≡ sealedSize → plainSize ≤ length out → (z : Bool) → eqb (openFault r t) 0 ≡ z
     → (openBook r t out .0 .refusal ≡ openFault r t) × (openFault r t ≡ 0 → openBook r t out .1 ≡ openRecord r t ++ drop plainSize out)
-unfolding openBook bookCall written answer
+unfolding openBook bookCall recordsCall answer
 alone r t out hr ht room true e =
     rw (ht, eq-eqb _ _ hr, le-leb _ _ room, spelled sealedSize t ht, e) (sym (eqb-true _ 0 e), λ z. refl)
 alone r t out hr ht room false e =

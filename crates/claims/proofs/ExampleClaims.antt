@@ -4,7 +4,8 @@ use Rattle.standard.proofs.Prelude.{_≡_, refl, ap, _∙_, List, [], _∷_, _+
 use Rattle.standard.specs.Bytes.{bit, part}
 use Rattle.standard.specs.Expansions.{grouped, x16Groups}
 use Rattle.standard.specs.Hurdle.{S, D, a, Q, laid, schedule}
-use Rattle.standard.specs.Seals.{form81, failed, number2, key16, with8, opened, unseal, fails, ta82Call}
+use Rattle.standard.specs.Seals.{form81, failed, key16, with8, opened, unseal, fails, bodyNumber, unsealCall, ta82Call}
+use Rattle.standard.specs.declared.Algorithm.the-variants.{Ta81}
 use Rattle.standard.specs.declared.Version.{Version}
 use Rattle.claims.specs.Entries.{upward, version7}
 use Rattle.claims.specs.FalseClaims.{version5075, text, otherO, text′, ofSecond, TwoRings, TwoVersions, OneBit}
@@ -22,8 +23,8 @@ opened-text k t = bl2-chained k (with8 t)
 -- what TA82 answers to a text that BL2 takes to u
 answered : (t s : List ℕ) (v : Version) (u : List ℕ) → length t ≡ 15 → length s ≡ 16 → openedText (key16 s (pair v)) t ≡ u
     → ta82Call t s v
-    ≡ record { refusal = 0; key = part 0 10 (form81 .shrink u); number = number2 (form81 .shrink u); «failed_checks» = failed form81 u }
-unfolding ta82Call unseal fails
+    ≡ record { refusal = 0; key = part 0 10 (form81 .shrink u); number = bodyNumber Ta81 (form81 .shrink u); «failed_checks» = failed form81 u }
+unfolding ta82Call unsealCall unseal fails
 answered t s v u ht hs e = rw (eq-eqb _ _ ht, eq-eqb _ _ hs, opened-text (key16 s (pair v)) t, e)
 
 -- the expansion of twelve bytes

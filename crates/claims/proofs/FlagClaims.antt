@@ -5,23 +5,24 @@ use Rattle.standard.proofs.Prelude.{xor-self, xor-zero-r, ltb, length, eqb-true
 use Rattle.standard.specs.Bytes.{_!_, _⊕_, part, xors, Bytes}
 use Rattle.standard.specs.Cores.{bl2}
 use Rattle.standard.specs.Expansions.{xorOf, exp1Groups, exp3Groups, x16Groups, shr2}
-use Rattle.standard.specs.Facts.{sealingSize}
 use Rattle.standard.specs.Hurdle.{decrypt}
-use Rattle.standard.specs.Seals.{formOf, failed, seal, unseal, fails, opened}
+use Rattle.standard.specs.Seals.{sealingSize, unsealCall, formOf, failed, seal, unseal, fails, opened}
 use Rattle.standard.specs.declared.Algorithm.{Algorithm}
 use Rattle.standard.specs.declared.Algorithm.the-variants.{Ta31, Ta51, Ta81, Ta91}
 use Rattle.standard.specs.declared.Bytes15.{Bytes15}
+use Rattle.standard.specs.declared.UnsealedBody.{UnsealedBody}
 use Rattle.standard.specs.declared.Version.{Version}
 use Rattle.standard.proofs.BytesLaws.{table-same, same-eq, bytes-append, bytes-cons, bytes-part, bytes-one, bytes-zero}
+use Rattle.standard.proofs.CallPairLaws.{sealed-by, unsealed-by}
 use Rattle.standard.proofs.CheckLaws.{clear-same}
 use Rattle.standard.proofs.CoreLaws.{sealCore, unsealCore, core}
 use Rattle.standard.proofs.ExpansionLaws.{bytes-ungrouped}
 use Rattle.standard.proofs.SealLaws.{form-law, sealing}
 use Rattle.standard.proofs.XorLaws.{xor-cancel-l, xor-byte}
-use Rattle.claims.specs.Entries.{Legal, Unsealing, unsealCall}
+use Rattle.claims.specs.Entries.{Legal}
 use Rattle.claims.specs.TrueClaims.{Another, UnsealsAllTheSame, changed, Carried, Noticed, noticedFrom}
 use Rattle.claims.proofs.ChangeLaws.{changed-elsewhere, changed-xors, xor-changed}
-use Rattle.claims.proofs.TermLaws.{pair, legal-body, sealed-by, unsealing-size, opened-bytes, unsealed-by, failed-by}
+use Rattle.claims.proofs.TermLaws.{pair, legal-body, unsealing-size, opened-bytes, failed-by}
 
 -- ---- the last inserted byte changed
 
@@ -69,19 +70,19 @@ another a s v b hs h =
     let t = sealCore k u in
     let tb = core k .to u ub in
     let e : unsealCore k t ≡ u = core k .back u ub in
-    let c = unsealed-by a s v t hs tb in
-    let set : unsealCall a t s v .failed ≡ 0 → ⊥ =
-    λ z. spoilt-fails a k b h (ap (failed (formOf a)) (sym e) ∙ sym (ap (λ (x : Unsealing). x .failed) c) ∙ z) in (
+    let c = unsealed-by a s v hs t (tb .len) in
+    let set : unsealCall a t s v .«failed_checks» ≡ 0 → ⊥ =
+    λ z. spoilt-fails a k b h (ap (failed (formOf a)) (sym e) ∙ sym (ap (λ (x : UnsealedBody). x .«failed_checks») c) ∙ z) in (
       t,
       record {
         bytes = tb;
-        accepted = ap (λ (x : Unsealing). x .refusal) c;
-        same = ap (λ (x : Unsealing). x .body) c ∙ ap (formOf a .shrink) e ∙ spoilt-body a k b h;
+        accepted = ap (λ (x : UnsealedBody). x .refusal) c;
+        same = ap (λ (x : UnsealedBody). x .body) c ∙ ap (formOf a .shrink) e ∙ spoilt-body a k b h;
         set = set;
         other = λ z.
-            let y : seal (formOf a) s (pair v) b ≡ t = ap (λ (x : Bytes15). x .bytes) (sym (sealed-by a s v b hs h)) ∙ z in
+            let y : seal (formOf a) s (pair v) b ≡ t = ap (λ (x : Bytes15). x .bytes) (sym (sealed-by a s v hs b (legal-body a b .0 h))) ∙ z in
             let p = sealing a s (pair v) .to b (legal-body a b .0 h) .passed in
-            set (ap (λ (x : Unsealing). x .failed) c ∙ ap (fails (formOf a) s (pair v)) (sym y) ∙ eqb-true _ 0 p);
+            set (ap (λ (x : UnsealedBody). x .«failed_checks») c ∙ ap (fails (formOf a) s (pair v)) (sym y) ∙ eqb-true _ 0 p);
       },
     )
 
@@ -101,9 +102,9 @@ pub unseals-all-the-same : UnsealsAllTheSame
 unfolding unseal
 unseals-all-the-same = record {
   every = λ a s v t hs h.
-      let e = unsealed-by a s v t hs h in (
-        ap (λ (x : Unsealing). x .refusal) e,
-        rw (ap (λ (x : Unsealing). x .body) e) (shrunk-legal a (opened (formOf a .key s (pair v)) t) (opened-bytes (formOf a .key s (pair v)) t h)),
+      let e = unsealed-by a s v hs t (h .len) in (
+        ap (λ (x : UnsealedBody). x .refusal) e,
+        rw (ap (λ (x : UnsealedBody). x .body) e) (shrunk-legal a (opened (formOf a .key s (pair v)) t) (opened-bytes (formOf a .key s (pair v)) t h)),
       );
   other = another;
 }

@@ -2,14 +2,13 @@
 -- Assumes nothing.
 use Rattle.standard.proofs.Prelude.{_≡_, refl, sym, ap, _∙_, List, ℕ, arith, xor-comm, xor-self, length, eq-eqb}
 use Rattle.standard.specs.Bytes.{_!_, _⊕_}
-use Rattle.standard.specs.Facts.{sealingSize}
+use Rattle.standard.specs.Facts.{sealBody}
 use Rattle.standard.specs.Seals.{formOf, failed, key10, key16, sealed, opened, seal, unseal, fails}
-use Rattle.standard.specs.Seals.{ta31Call, ta32Call, ta51Call, ta52Call, ta81Call, ta82Call, ta91Call, ta92Call}
+use Rattle.standard.specs.Seals.{sealingSize, sealCall, unsealCall}
 use Rattle.standard.specs.declared.Algorithm.{Algorithm}
 use Rattle.standard.specs.declared.Algorithm.the-variants.{Ta31, Ta51, Ta81, Ta91}
 use Rattle.standard.specs.declared.Version.{Version}
 use Rattle.standard.proofs.XorLaws.{xor-assoc, xor-cancel-l, xor-cancel-r}
-use Rattle.claims.specs.Entries.{sealCall, unsealCall}
 use Rattle.claims.specs.FalseClaims.{otherKey, KeyAndVersion}
 use Rattle.claims.proofs.TermLaws.{pair}
 
@@ -41,8 +40,8 @@ module _ (a : Algorithm) (s : List ℕ) (v w : Version) where
   same-fails t = ap (λ (k : List ℕ). failed (formOf a) (opened k t)) (same-key a s v w)
 
 same-sealing : (a : Algorithm) (s : List ℕ) (v w : Version) → length s ≡ sealingSize a → (b : List ℕ)
-    → sealCall a b w (otherKey (sealingSize a) s v w) ≡ sealCall a b v s
-unfolding ta31Call ta51Call ta81Call ta91Call
+    → sealBody a b w (otherKey (sealingSize a) s v w) ≡ sealBody a b v s
+unfolding sealCall
 same-sealing Ta31 s v w hs b = rw (eq-eqb _ _ hs, same-seal Ta31 s v w)
 same-sealing Ta51 s v w hs b = rw (eq-eqb _ _ hs, same-seal Ta51 s v w)
 same-sealing Ta81 s v w hs b = rw (eq-eqb _ _ hs, same-seal Ta81 s v w)
@@ -50,7 +49,7 @@ same-sealing Ta91 s v w hs b = rw (eq-eqb _ _ hs, same-seal Ta91 s v w)
 
 same-unsealing : (a : Algorithm) (s : List ℕ) (v w : Version) → length s ≡ sealingSize a → (t : List ℕ)
     → unsealCall a t (otherKey (sealingSize a) s v w) w ≡ unsealCall a t s v
-unfolding ta32Call ta52Call ta82Call ta92Call
+unfolding unsealCall
 same-unsealing Ta31 s v w hs t = rw (eq-eqb _ _ hs, same-unseal Ta31 s v w, same-fails Ta31 s v w)
 same-unsealing Ta51 s v w hs t = rw (eq-eqb _ _ hs, same-unseal Ta51 s v w, same-fails Ta51 s v w)
 same-unsealing Ta81 s v w hs t = rw (eq-eqb _ _ hs, same-unseal Ta81 s v w, same-fails Ta81 s v w)

@@ -1,16 +1,12 @@
--- The terms in which the claims stand: exactly one, exactly so many, the body of an entry, a text that opens, and the single calls over
--- the algorithm. Kind 1 is TA31's, kinds 2 and 5 are TA51's, kinds 3 and 6 are TA81's, and kind 4 is TA91's.
+-- The terms in which the claims stand: exactly one, exactly so many, the body of an entry, and a text that opens. Kind 1 is TA31's, kinds 2 and 5 are TA51's, kinds 3 and 6 are TA81's, and kind 4 is TA91's.
 -- Assumes nothing.
 use mathlib.Core.List.{List}
 use mathlib.Core.Logic.{_↔_}
 use mathlib.Core.Path.{_≡_}
 use Prim.Native.Nat.{ℕ, _+_, _<_}
-use Rattle.standard.specs.Bytes.{_!_, part, table, Bytes}
-use Rattle.standard.specs.Seals.{formOf, body31, body51, body81, body91, number2}
-use Rattle.standard.specs.Seals.{ta31Call, ta32Call, ta51Call, ta52Call, ta81Call, ta82Call, ta91Call, ta92Call}
+use Rattle.standard.specs.Bytes.{table, Bytes}
+use Rattle.standard.specs.Seals.{formOf, unsealCall}
 use Rattle.standard.specs.declared.Algorithm.{Algorithm}
-use Rattle.standard.specs.declared.Algorithm.the-variants.{Ta31, Ta51, Ta81, Ta91}
-use Rattle.standard.specs.declared.Bytes15.{Bytes15}
 use Rattle.standard.specs.declared.Version.{Version}
 
 -- ---- how many
@@ -45,36 +41,11 @@ pub record Legal (a : Algorithm) (b : List ℕ) : Type 0 where
   pub bytes : Bytes 12 b
   pub accepted : formOf a .fault b ≡ 0
 
--- ---- the single calls, over the algorithm
-
--- sealing: the key, and the number where there is one, are taken out of the body
-abbrev pub sealCall : Algorithm → (b : List ℕ) → Version → (s : List ℕ) → Bytes15
-sealCall Ta31 b v s = ta31Call (part 0 10 b) v s
-sealCall Ta51 b v s = ta51Call (part 0 10 b) v s (record { 0 = b ! 11 })
-sealCall Ta81 b v s = ta81Call (part 0 10 b) v s (record { 0 = number2 b })
-sealCall Ta91 b v s = ta91Call (part 0 12 b) v s
-
--- what an unsealing call answers, the key and the number put into a body
-pub record Unsealing : Type 0 where
-  pub refusal : ℕ
-  pub body : List ℕ
-  pub failed : ℕ
-
-abbrev pub unsealCall : Algorithm → (t s : List ℕ) → Version → Unsealing
-unsealCall Ta31 t s v =
-    record { refusal = ta32Call t s v .refusal; body = body31 (ta32Call t s v .key); failed = ta32Call t s v .«failed_checks» }
-unsealCall Ta51 t s v =
-    record { refusal = ta52Call t s v .refusal; body = body51 (ta52Call t s v .key) (ta52Call t s v .number); failed = ta52Call t s v .«failed_checks» }
-unsealCall Ta81 t s v =
-    record { refusal = ta82Call t s v .refusal; body = body81 (ta82Call t s v .key) (ta82Call t s v .number); failed = ta82Call t s v .«failed_checks» }
-unsealCall Ta91 t s v =
-    record { refusal = ta92Call t s v .refusal; body = body91 (ta92Call t s v .key); failed = ta92Call t s v .«failed_checks» }
-
 -- a text that opens: 15 bytes that the unsealing call takes, and it finds no check failed
 pub record Opens (a : Algorithm) (s : List ℕ) (v : Version) (t : List ℕ) : Type 0 where
   pub bytes : Bytes 15 t
   pub accepted : unsealCall a t s v .refusal ≡ 0
-  pub clear : unsealCall a t s v .failed ≡ 0
+  pub clear : unsealCall a t s v .«failed_checks» ≡ 0
 
 -- ---- what examples share
 

@@ -8,23 +8,26 @@ use lib.ListN.{length}
 use Rattle.standard.specs.Books.{ringKey, commonKey, WellFormed, sealedForm, openFault, openRecord}
 use Rattle.standard.specs.Bytes.{_!_, part, xors, zeros, bytesOf, Bytes}
 use Rattle.standard.specs.Demand3.{IsSealedForm}
-use Rattle.standard.specs.Facts.{sealingSize}
+use Rattle.standard.specs.Facts.{sealBody}
 use Rattle.standard.specs.Hurdle.{f}
 use Rattle.standard.specs.Lists.{recordAt, each}
-use Rattle.standard.specs.Seals.{repeated, ta52Call, ta82Call, ta92Call}
+use Rattle.standard.specs.Seals.{sealingSize, repeated, bodyOf, unsealCall, ta52Call, ta82Call, ta92Call}
 use Rattle.standard.specs.Sizes.{ringSize, plainSize, sealedSize}
 use Rattle.standard.specs.declared.Algorithm.{Algorithm}
-use Rattle.standard.specs.declared.Algorithm.the-variants.{Ta81, Ta91}
+use Rattle.standard.specs.declared.Algorithm.the-variants.{Ta81}
 use Rattle.standard.specs.declared.RingKey.the-variants.{D, O, G}
+use Rattle.standard.specs.declared.UnsealedNumbered.{UnsealedNumbered}
 use Rattle.standard.specs.declared.Version.{Version}
-use Rattle.claims.specs.Entries.{sealCall, unsealCall, upward, version7}
+use Rattle.claims.specs.Entries.{upward, version7}
 
 -- ---- kinds
 
 -- 8a: "A text opens as one kind only." Kinds 3 and 4 open the same texts to the same twelve bytes, under every key and version. The text
 -- has to consist of bytes, so that TA82's number has two
 abbrev pub ThreeAndFour : Type 0
-ThreeAndFour = (t s : List ℕ) (v : Version) → Bytes 15 t → unsealCall Ta81 t s v ≡ unsealCall Ta91 t s v
+ThreeAndFour = (t s : List ℕ) (v : Version) → Bytes 15 t
+    → let a : UnsealedNumbered = ta82Call t s v in
+    ta92Call t s v ≡ record { refusal = a .refusal; key = bodyOf Ta81 (a .key) (a .number); «failed_checks» = a .«failed_checks» }
 
 -- 8b: "Apart from kinds 3 and 4, a text opens as one kind only." Under every sealing key of its length, and every version, there is a text
 -- that opens as kinds 2, 3 and 4, as three different entries
@@ -65,7 +68,7 @@ abbrev pub otherKey : ℕ → List ℕ → Version → Version → List ℕ
 otherKey n s v w = xors n s (xors n (repeated n (bytesOf 2 (v .0))) (repeated n (bytesOf 2 (w .0))))
 
 pub record OtherKey (a : Algorithm) (s : List ℕ) (v w : Version) (s′ : List ℕ) : Type 0 where
-  pub seals : (b : List ℕ) → sealCall a b w s′ ≡ sealCall a b v s
+  pub seals : (b : List ℕ) → sealBody a b w s′ ≡ sealBody a b v s
   pub unseals : (t : List ℕ) → unsealCall a t s′ w ≡ unsealCall a t s v
   pub another : v .0 < 2 ^ 16 → w .0 < 2 ^ 16 → (v .0 ≡ w .0 → ⊥) → s′ ≡ s → ⊥
 

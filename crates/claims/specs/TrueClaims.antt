@@ -11,15 +11,15 @@ use Rattle.standard.specs.Books.{plainFault, sealRecord, openFault, openRecord,
 use Rattle.standard.specs.Bytes.{_!_, _⊕_, part, table, choose, Bytes}
 use Rattle.standard.specs.Cores.{bl1}
 use Rattle.standard.specs.Demand3.{IsSealedForm}
-use Rattle.standard.specs.Facts.{sealingSize}
+use Rattle.standard.specs.Facts.{sealBody}
 use Rattle.standard.specs.Hurdle.{encryptCall, decryptCall}
-use Rattle.standard.specs.Seals.{formOf, failed, without8, opened, ta51Call, ta52Call}
+use Rattle.standard.specs.Seals.{sealingSize, formOf, failed, without8, opened, unsealCall, ta51Call, ta52Call}
 use Rattle.standard.specs.Sizes.{ringSize, plainSize, sealedSize}
 use Rattle.standard.specs.declared.Algorithm.{Algorithm}
 use Rattle.standard.specs.declared.Algorithm.the-variants.{Ta31, Ta51, Ta81, Ta91}
 use Rattle.standard.specs.declared.KeyNumber.{KeyNumber}
 use Rattle.standard.specs.declared.Version.{Version}
-use Rattle.claims.specs.Entries.{Only, OfOne, ExactlyOne, Count, Legal, sealCall, unsealCall, Opens}
+use Rattle.claims.specs.Entries.{Only, OfOne, ExactlyOne, Count, Legal, Opens}
 use Rattle.claims.specs.Variants.{ta52WithoutBits}
 
 -- 1: "Decryption undoes encryption." And encryption undoes decryption. The lengths are those that the calls take; others are refused
@@ -49,7 +49,7 @@ ChecksExactly = (a : Algorithm) (u : List ℕ) → Bytes 15 u
 -- what unsealing gives. Whatever the sealing key and the text: where a length is wrong, neither call takes them
 abbrev pub OneText : Type 0
 OneText = (a : Algorithm) (s : List ℕ) (v : Version) (t : List ℕ)
-    → OfOne (Opens a s v t) (λ b. Legal a b × (sealCall a b v s ≡ record { refusal = 0; bytes = t })) (unsealCall a t s v .body)
+    → OfOne (Opens a s v t) (λ b. Legal a b × (sealBody a b v s ≡ record { refusal = 0; bytes = t })) (unsealCall a t s v .body)
 
 -- 4b: "A sealed record opens exactly if it is the sealed form of a plain record, of one and no other, its identity included." Here the
 -- ring has to consist of bytes, since those of C go into the identity, and so has the record, whose identity else comes from no other
@@ -89,8 +89,8 @@ pub record Another (a : Algorithm) (s : List ℕ) (v : Version) (b t : List ℕ)
   pub bytes : Bytes 15 t
   pub accepted : unsealCall a t s v .refusal ≡ 0
   pub same : unsealCall a t s v .body ≡ b
-  pub set : unsealCall a t s v .failed ≡ 0 → ⊥
-  pub other : sealCall a b v s .bytes ≡ t → ⊥
+  pub set : unsealCall a t s v .«failed_checks» ≡ 0 → ⊥
+  pub other : sealBody a b v s .bytes ≡ t → ⊥
 
 pub record UnsealsAllTheSame : Type 0 where
   pub every : (a : Algorithm) (s : List ℕ) (v : Version) (t : List ℕ) → length s ≡ sealingSize a → Bytes 15 t
@@ -133,4 +133,4 @@ noticedFrom Ta91 = 2
 
 abbrev pub Noticed : Type 0
 Noticed = (a : Algorithm) (s : List ℕ) (v : Version) (t : List ℕ) (i d : ℕ) → Opens a s v t
-    → noticedFrom a ≤ i → i < 7 → (d ≡ 0 → ⊥) → unsealCall a (changed 15 i d t) s v .failed ≡ 0 → ⊥
+    → noticedFrom a ≤ i → i < 7 → (d ≡ 0 → ⊥) → unsealCall a (changed 15 i d t) s v .«failed_checks» ≡ 0 → ⊥

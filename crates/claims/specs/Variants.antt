@@ -13,9 +13,10 @@ use Rattle.standard.specs.Demand3.{Demand3}
 use Rattle.standard.specs.Derivation.{half, ring, ta22Call, ta12Call, ta41Call}
 use Rattle.standard.specs.Expansions.{inserted, expected, exp3Groups, xorOf, exp1, exp2}
 use Rattle.standard.specs.Mixing.{tb4, tb7}
-use Rattle.standard.specs.Refusals.{wrongLength, hasLength, first, unsealedNumbered, answer16}
-use Rattle.standard.specs.Seals.{Form, form51, form81, failed, number2, unseal, fails, ta51Call, ta52Call, ta81Call, ta82Call}
+use Rattle.standard.specs.Refusals.{wrongLength, hasLength, first, unsealedBody, answer16}
+use Rattle.standard.specs.Seals.{Form, form51, form81, failed, unseal, fails, numberAnswer, ta51Call, ta52Call, ta81Call, ta82Call}
 use Rattle.standard.specs.Sizes.{plainSize, sealedSize}
+use Rattle.standard.specs.declared.Algorithm.the-variants.{Ta51, Ta81}
 use Rattle.standard.specs.declared.Authentication.{Authentication}
 use Rattle.standard.specs.declared.Bytes16.{Bytes16}
 use Rattle.standard.specs.declared.KeyNumber.{KeyNumber}
@@ -36,8 +37,7 @@ openedAtEnd k t = bl2 k (withZeroAtEnd t)
 unfoldable pub ta82AtEnd : List ℕ → List ℕ → Version → UnsealedNumbered
 ta82AtEnd t s v =
     let u : List ℕ = openedAtEnd (form81 .key s (bytesOf 2 (v .0))) t in
-    unsealedNumbered (first ((hasLength 15 t && hasLength 16 s, wrongLength) ∷ []))
-    (part 0 10 (form81 .shrink u)) (number2 (form81 .shrink u)) (failed form81 u)
+    numberAnswer Ta81 (unsealedBody (first ((hasLength 15 t && hasLength 16 s, wrongLength) ∷ [])) (form81 .shrink u) (failed form81 u))
 
 -- 14a: "The zero byte can as well be put back at the end." A sealed text would no longer open: here all three checks of it fail
 abbrev pub sealedText : List ℕ
@@ -77,9 +77,9 @@ formWithoutBits = record {
 -- TA52 with it
 unfoldable pub ta52WithoutBits : List ℕ → List ℕ → Version → UnsealedNumbered
 ta52WithoutBits t s v =
-    unsealedNumbered (first ((hasLength 15 t && hasLength 16 s, wrongLength) ∷ []))
-    (part 0 10 (unseal formWithoutBits s (bytesOf 2 (v .0)) t)) (unseal formWithoutBits s (bytesOf 2 (v .0)) t ! 11)
-    (fails formWithoutBits s (bytesOf 2 (v .0)) t)
+    numberAnswer Ta51
+    (unsealedBody (first ((hasLength 15 t && hasLength 16 s, wrongLength) ∷ []))
+    (unseal formWithoutBits s (bytesOf 2 (v .0)) t) (fails formWithoutBits s (bytesOf 2 (v .0)) t))
 
 -- 14c: "The number byte's three top bits need no check." Under every sealing key of its length, and every version, a text would open that
 -- is the sealed text of no entry; how many, 6c says

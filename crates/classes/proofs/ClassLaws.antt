@@ -1,24 +1,23 @@
--- A class's records are those of single calls, and the ways in which the call returns.
+-- A class's records are those of single calls, and its tests as code makes them one after the other.
 -- Assumes nothing.
-use Rattle.standard.proofs.Prelude.{_≡_, refl, sym, ap, ap₂, _∙_, Bool, List, _++_, ℕ, _+_, _-_, _*_, _/_, _^_, _≤_, _<_, arith, length, take, drop}
-use Rattle.standard.proofs.Prelude.{length-append, length-drop, eq-eqb, ne-eqb, leb-true}
+use Rattle.standard.proofs.Prelude.{_≡_, refl, sym, ap, ap₂, _∙_, Bool, List, _∷_, _++_, ℕ, _+_, _-_, _^_, _<_, arith, length, take, drop}
+use Rattle.standard.proofs.Prelude.{length-append, length-drop, eq-eqb, ne-eqb}
 use lib.Count.{ones}
 use borrow.Rule.Slice.PartMut.{midOf, putMid}
 use Rattle.arrays.proofs.CopyLaws.{over-front, two-copied}
 use Rattle.keys.proofs.MaskLaws.{front-filled}
 use Rattle.keys.specs.Masks.{Counted}
-use Rattle.lists.proofs.ListReturnLaws.{call-refused, call-done}
 use Rattle.standard.proofs.BookLaws.{each-same}
 use Rattle.standard.proofs.BytesLaws.{spelled}
 use Rattle.standard.proofs.DerivationLaws.{length-chosen}
-use Rattle.standard.proofs.FirstLaws.{all-pass, first-append}
-use Rattle.standard.specs.Classes.{classRecord, ta12ClassCall}
+use Rattle.standard.proofs.FirstLaws.{first-append}
+use Rattle.standard.specs.Classes.{classRecord}
 use Rattle.standard.specs.Cores.{bl1With, bl1}
 use Rattle.standard.specs.Derivation.{chosen, ta12Call}
 use Rattle.standard.specs.Expansions.{exp2}
 use Rattle.standard.specs.Hurdle.{schedule}
-use Rattle.standard.specs.Lists.{recordAt, each, listTests, refused}
-use Rattle.standard.specs.Refusals.{wrongLength, maskTests, first}
+use Rattle.standard.specs.Lists.{recordAt, each, listTests}
+use Rattle.standard.specs.Refusals.{wrongLength, hasLength, maskTests, first}
 use Rattle.standard.specs.Sizes.{challengeSize, authenticationSize}
 use Rattle.classes.specs.ClassRecords.{recordFrom, recordWith}
 
@@ -67,45 +66,21 @@ module _ (ks xs : List ℕ) (rm km : ℕ) (h : length ks ≡ 16) (m : first (mas
       each-same n challengeSize challengeSize (recordWith (schedule ks) rm km) (classRecord ks rm km) xs xs
       (λ i k. same-record (recordAt challengeSize xs i) refl)
 
--- ---- the ways in which the call returns
+-- ---- the ways in which the call returns: its tests are the key's length, those of the lengths, and those of the masks
 
 module _ (ks xs : List ℕ) (rm km : ℕ) (out : List ℕ) where
-  abbrev n : ℕ
-  n = length xs / challengeSize
+  abbrev lengths : List (Bool × ℕ)
+  lengths = listTests challengeSize authenticationSize (length xs) (length out)
 
-  abbrev bytes : ℕ
-  bytes = authenticationSize * n
+  abbrev tests : List (Bool × ℕ)
+  tests = (hasLength 16 ks, wrongLength) ∷ lengths ++ maskTests rm km
 
-  abbrev made : List ℕ
-  made = each n challengeSize (classRecord ks rm km) xs
+  pub key-first : (length ks ≡ 16 → ⊥) → wrongLength ≡ first tests
+  key-first h = rw (ne-eqb _ _ h)
 
-  pub key-refused : (length ks ≡ 16 → ⊥) → (refused wrongLength 0, out) ≡ ta12ClassCall ks xs rm km out
-  unfolding ta12ClassCall
-  key-refused h = rw (ne-eqb _ _ h) (call-refused wrongLength n (λ i. 0) bytes made out (λ e. omega arith))
+  module _ (h : length ks ≡ 16) {refusal : ℕ} (e : refusal ≡ first lengths) where
+    pub lengths-next : (refusal ≡ 0 → ⊥) → refusal ≡ first tests
+    lengths-next z = rw (eq-eqb _ _ h, first-append lengths (maskTests rm km) refl, ← e, ne-eqb refusal 0 z)
 
-  abbrev lengthsTests : List (Bool × ℕ)
-  lengthsTests = listTests challengeSize authenticationSize (length xs) (length out)
-
-  module _ (h : length ks ≡ 16) (refusal : ℕ) (e : refusal ≡ first lengthsTests) where
-    pub lengths-refused : (refusal ≡ 0 → ⊥) → (refused refusal 0, out) ≡ ta12ClassCall ks xs rm km out
-    unfolding ta12ClassCall
-    lengths-refused z =
-        rw (eq-eqb _ _ h, first-append lengthsTests (maskTests rm km) refl, ← e, ne-eqb refusal 0 z) (call-refused refusal n (λ i. 0) bytes made out z)
-
-    module _ (z : refusal ≡ 0) where
-      -- the masks go after the lengths
-      masks-after-lengths : first (lengthsTests ++ maskTests rm km) ≡ first (maskTests rm km)
-      masks-after-lengths = first-append lengthsTests (maskTests rm km) refl ∙ rw (← e, z)
-
-      pub room : bytes ≤ length out
-      room = leb-true _ _ (all-pass lengthsTests refl (sym e ∙ z) 2)
-
-      module _ (m : ℕ) (em : m ≡ first (maskTests rm km)) where
-        pub masks-refused : (m ≡ 0 → ⊥) → (refused m 0, out) ≡ ta12ClassCall ks xs rm km out
-        unfolding ta12ClassCall
-        masks-refused f = rw (eq-eqb _ _ h, masks-after-lengths, ← em) (call-refused m n (λ i. 0) bytes made out f)
-
-        pub all-written : m ≡ 0 → (exit : List ℕ) → exit ≡ made ++ drop bytes out
-            → (record { refusal = 0; index = n; written = bytes }, exit) ≡ ta12ClassCall ks xs rm km out
-        unfolding ta12ClassCall
-        all-written k exit w = rw (eq-eqb _ _ h, masks-after-lengths, ← em) (call-done m n (λ i. 0) bytes made out k (λ j l. refl) exit w)
+    pub masks-last : refusal ≡ 0 → first (maskTests rm km) ≡ first tests
+    masks-last z = rw (eq-eqb _ _ h, first-append lengths (maskTests rm km) refl, ← e, z)

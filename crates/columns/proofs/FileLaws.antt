@@ -1,14 +1,9 @@
--- A transposition by code, column by column, and the ways in which the call returns.
+-- A transposition by code, column by column.
 -- Assumes nothing.
-use Rattle.standard.proofs.Prelude.{_≡_, refl, sym, ap, _∙_, List, _++_, ℕ, _+_, _-_, _*_, _/_, _≤_, _<_, mul-comm, arith, length, take, drop}
-use Rattle.standard.proofs.Prelude.{leb-true}
-use Rattle.lists.proofs.ListReturnLaws.{call-refused, call-done}
+use Rattle.standard.proofs.Prelude.{_≡_, ap, _∙_, List, _++_, ℕ, _+_, _-_, _*_, _≤_, _<_, mul-comm, arith, length, take, drop}
 use Rattle.lists.proofs.WalkLaws.{ends, PrefixWritten, prefix-none, own-length, prefix-next}
 use Rattle.standard.proofs.ColumnsLaws.{column-length}
-use Rattle.standard.proofs.FirstLaws.{all-pass}
-use Rattle.standard.specs.Columns.{column, columnsCall}
-use Rattle.standard.specs.Lists.{listTests, refused}
-use Rattle.standard.specs.Refusals.{first}
+use Rattle.standard.specs.Columns.{column}
 
 -- byte j of row i stands within the rows
 pub in-rows : (width n i j : ℕ) → i < n → j < width → width * i + j < width * n
@@ -39,22 +34,3 @@ module _ (n width : ℕ) (rows out₀ : List ℕ) where
     filed-more exit e =
         prefix-next n (column n width rows) (column-length n width rows) out₀ j out h room exit
         (e ∙ ap (λ (k : ℕ). column k width rows j) own-rows)
-
--- ---- the call
-
-module _ (w : ℕ) (f : ℕ → ℕ → List ℕ → List ℕ) (xs out : List ℕ) (refusal : ℕ) (e : refusal ≡ first (listTests w w (length xs) (length out))) where
-  abbrev n : ℕ
-  n = length xs / w
-
-  pub lengths-refused : (refusal ≡ 0 → ⊥) → (refused refusal 0, out) ≡ columnsCall w f xs out
-  unfolding columnsCall
-  lengths-refused z = rw (← e) (call-refused refusal n (λ i. 0) (w * n) (f w n xs) out z)
-
-  module _ (z : refusal ≡ 0) where
-    pub room : w * n ≤ length out
-    room = leb-true _ _ (all-pass (listTests w w (length xs) (length out)) refl (sym e ∙ z) 2)
-
-    pub all-written : (exit : List ℕ) → exit ≡ f w n xs ++ drop (w * n) out
-        → (record { refusal = 0; index = n; written = w * n }, exit) ≡ columnsCall w f xs out
-    unfolding columnsCall
-    all-written exit made = rw (← e) (call-done refusal n (λ i. 0) (w * n) (f w n xs) out z (λ j l. refl) exit made)

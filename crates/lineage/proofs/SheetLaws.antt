@@ -1,18 +1,16 @@
--- A sheet's records and values as code comes to them, and the ways in which the call returns.
+-- A sheet's records and values as code comes to them.
 -- Assumes nothing.
 use Rattle.standard.proofs.Prelude.{_≡_, refl, sym, ap, ap₂, _∙_, Bool, true, false, _&&_, List, _++_, ℕ, _-_, _*_, _/_, _≤_, _<_, eqb, ltb, length}
-use Rattle.standard.proofs.Prelude.{_⊎_, inl, inr, drop, eq-eqb, ne-eqb, leb-true, ltb-true}
-use Rattle.lists.proofs.ListReturnLaws.{call-refused, call-stopped, call-done}
+use Rattle.standard.proofs.Prelude.{_⊎_, inl, inr, eq-eqb, ne-eqb, ltb-true}
 use Rattle.lists.proofs.WalkLaws.{PrefixWritten, prefix-at}
-use Rattle.lists.specs.Walks.{Clean, Stopped}
+use Rattle.lists.specs.Walks.{Clean}
 use Rattle.standard.proofs.BytesLaws.{spelled, and-split}
-use Rattle.standard.proofs.FirstLaws.{all-pass}
 use Rattle.standard.proofs.LineageLaws.{from-same, value-length, parents-before, value-step}
 use Rattle.standard.specs.Bytes.{_!_, table, part, choose}
 use Rattle.standard.specs.Derivation.{core, ta71}
 use Rattle.standard.specs.Lineage.{operation, parent1, parent2, derivedLength, keyLength, filled, parentTests, lineageFault}
-use Rattle.standard.specs.Lineage.{derived, valueFrom, valueOf, lineageCall}
-use Rattle.standard.specs.Lists.{recordAt, joined, listTests, refused}
+use Rattle.standard.specs.Lineage.{derived, valueFrom, valueOf}
+use Rattle.standard.specs.Lists.{recordAt}
 use Rattle.standard.specs.Mixing.{tb4}
 use Rattle.standard.specs.Refusals.{wrongFilling, wrongParent, parentLength, first}
 use Rattle.standard.specs.Sizes.{sheetSize, valueSize}
@@ -109,29 +107,3 @@ module _ (s values : List ℕ) (i : ℕ) where
         prefix-at valueSize (valueOf s) (value-length s) out₀ i values prefix _ (q .1),
       ))
       ∙ sym (value-step s n clean i h)
-
--- ---- the ways in which the call returns
-
-module _ (s out : List ℕ) (refusal : ℕ) (e : refusal ≡ first (listTests sheetSize valueSize (length s) (length out))) where
-  abbrev n : ℕ
-  n = length s / sheetSize
-
-  abbrev made : List ℕ
-  made = joined n (valueOf s)
-
-  pub lengths-refused : (refusal ≡ 0 → ⊥) → (refused refusal 0, out) ≡ lineageCall s out
-  unfolding lineageCall
-  lengths-refused z = rw (← e) (call-refused refusal n (lineageFault s) (valueSize * n) made out z)
-
-  module _ (z : refusal ≡ 0) where
-    pub record-refused : (k i : ℕ) → Stopped n (lineageFault s) k i → (k ≡ 0 → ⊥) → (refused k i, out) ≡ lineageCall s out
-    unfolding lineageCall
-    record-refused k i t f = rw (← e) (call-stopped refusal n (lineageFault s) (valueSize * n) made out z k i t f)
-
-    pub all-written : Clean (lineageFault s) n → (exit : List ℕ) → exit ≡ made ++ drop (valueSize * n) out
-        → (record { refusal = 0; index = n; written = valueSize * n }, exit) ≡ lineageCall s out
-    unfolding lineageCall
-    all-written none exit w = rw (← e) (call-done refusal n (lineageFault s) (valueSize * n) made out z none exit w)
-
-    pub room : valueSize * n ≤ length out
-    room = leb-true _ _ (all-pass (listTests sheetSize valueSize (length s) (length out)) refl (sym e ∙ z) 2)

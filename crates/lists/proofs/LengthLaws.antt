@@ -29,3 +29,7 @@ module _ (w size : ℕ) where
 
     pub output-tested : refusal ≡ 0 → first ((leb (v * (size / w)) room, outputShort) ∷ []) ≡ first (listTests w v size room)
     output-tested h = sym (first-append (lengthTests w size) ((leb (v * (size / w)) room, outputShort) ∷ []) refl ∙ rw (← e, h))
+
+  -- the output has a record of v bytes for each, once 12 is passed too
+  pub output-enough : (v room : ℕ) {refusal : ℕ} → refusal ≡ first (listTests w v size room) → refusal ≡ 0 → v * (size / w) ≤ room
+  output-enough v room e z = leb-true _ _ (all-pass (listTests w v size room) refl (sym e ∙ z) 2)

@@ -1,1 +1,1 @@
-pub mod UnsealedBodyLaws
+pub mod KeyPartLaws

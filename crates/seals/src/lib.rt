@@ -10,6 +10,7 @@ use standard::Bytes15;
 use standard::KeyNumber;
 use standard::Kind;
 use standard::Unsealed;
+use standard::UnsealedBody;
 use standard::UnsealedGroup;
 use standard::UnsealedNumbered;
 use standard::Version;
@@ -20,25 +21,26 @@ use texts::key10;
 use texts::key16;
 use texts::open_text;
 use texts::seal_body;
+ghost use mathlib.Core.Bool.{_&&_};
 ghost use mathlib.Core.List.{[], _∷_};
 ghost use mathlib.Core.Path.{_≡_};
-ghost use Rattle.standard.specs.Bytes.{_!_};
-ghost use Rattle.seals.specs.UnsealedBodies.{unsealedBody, opened16};
-ghost use Rattle.standard.specs.Refusals.{wrongLength, first, answer15};
-ghost use Rattle.standard.specs.Seals.{formOf, sealed as sealedOf, opened as openedOf, number2 as number2Of};
+ghost use Rattle.standard.specs.Bytes.{bytesOf};
+ghost use Rattle.standard.specs.Refusals.{wrongLength, hasLength, first, answer15, unsealedBody};
+ghost use Rattle.standard.specs.Seals.{formOf, failed, key16 as key16Of, sealed as sealedOf, opened as openedOf, bodyNumber};
 ghost use Rattle.standard.specs.Seals.{ta31Call, ta32Call, ta51Call, ta52Call, ta81Call, ta82Call, ta91Call, ta92Call};
+ghost use Rattle.standard.specs.declared.Algorithm.the-variants.{Ta51, Ta81};
 
 // A sealed text's bytes.
 const TEXT: usize = 15;
 
 fn number51(b: [u8; 12]) -> u16
-    ensures { λ r. ⌜ r ≡ b ! 11 ⌝ }
+    ensures { λ r. ⌜ r ≡ bodyNumber Ta51 b ⌝ }
 {
     pair(0, b[11])
 }
 
 fn number81(b: [u8; 12]) -> u16
-    ensures { λ r. ⌜ r ≡ number2Of b ⌝ }
+    ensures { λ r. ⌜ r ≡ bodyNumber Ta81 b ⌝ }
 {
     pair(b[10], b[11])
 }
@@ -56,16 +58,9 @@ fn seal_if(right_lengths: bool, algorithm: Algorithm, key: [u8; 16], body: [u8; 
     }
 }
 
-// What an unseal answers, before key and number are taken out of the body.
-struct UnsealedBody {
-    refusal: u32,
-    body: [u8; 12],
-    failed_checks: u16,
-}
-
 // The body of a text and its checks that fail, if the strings that it came from had their lengths.
 fn open_if(right_lengths: bool, algorithm: Algorithm, key: [u8; 16], text: [u8; 15]) -> UnsealedBody
-    ensures { λ r. ⌜ r ≡ unsealedBody «right_lengths» (formOf algorithm) (openedOf key text) ⌝ }
+    ensures { λ r. ⌜ r ≡ unsealedBody (first ((«right_lengths», wrongLength) ∷ [])) (formOf algorithm .shrink (openedOf key text)) (failed (formOf algorithm) (openedOf key text)) ⌝ }
 {
     if !right_lengths {
         return UnsealedBody {
@@ -85,7 +80,7 @@ fn open_if(right_lengths: bool, algorithm: Algorithm, key: [u8; 16], text: [u8; 
 
 // The same under a sealing key of kinds 2 to 6, from strings of any length.
 fn open16(algorithm: Algorithm, text: &[u8], sealing_key: &[u8], version: Version) -> UnsealedBody
-    ensures { λ r. ⌜ r ≡ opened16 (formOf algorithm) (now (text .entry)) (now («sealing_key» .entry)) version ⌝ }
+    ensures { λ r. ⌜ r ≡ unsealedBody (first ((hasLength 15 (now (text .entry)) && hasLength 16 (now («sealing_key» .entry)), wrongLength) ∷ [])) (formOf algorithm .shrink (openedOf (key16Of (now («sealing_key» .entry)) (bytesOf 2 (version .0))) (now (text .entry)))) (failed (formOf algorithm) (openedOf (key16Of (now («sealing_key» .entry)) (bytesOf 2 (version .0))) (now (text .entry)))) ⌝ }
 {
     let right_lengths = have_lengths(text, TEXT, sealing_key, Kind::SEALING_KEY);
     let key = key16(part16(sealing_key, 0), version);

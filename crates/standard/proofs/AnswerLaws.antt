@@ -7,7 +7,7 @@ use Rattle.standard.proofs.Prelude.{ltb-true, ltb-false}
 use native.Mathlib.Nat.{div-add-mod, mul-mod-right, div-le-of-le-mul}
 use Rattle.standard.specs.Books.{Conversion, bookCall}
 use Rattle.standard.specs.Bytes.{_!_, choose}
-use Rattle.standard.specs.Lists.{recordAt, each, firstFault, refused, answer, lengthTests, listTests, written}
+use Rattle.standard.specs.Lists.{recordAt, each, firstFault, refused, answer, lengthTests, listTests, recordsCall}
 use Rattle.standard.specs.Refusals.{wrongLength, hasLength, first}
 use Rattle.standard.specs.Runs.{firstPass, secondPass, acceptedRuns}
 use Rattle.standard.specs.Sizes.{ringSize, mostRecords}
@@ -185,7 +185,7 @@ module _ (C : Conversion) (r xs out : List ℕ) where
 
   -- an accepted call had no test that failed, and no record with a fault
   pub call-tests : bookCall C r xs out .0 .refusal ≡ 0 → ((i : ℕ) → testAt tests i ≡ true) × ((i : ℕ) → i < n → g i ≡ 0)
-  unfolding bookCall written
+  unfolding bookCall recordsCall
   call-tests e = let a = is-accepted (first tests) n g (C .outputSize * n) e in (all-pass tests refl (a .0), a .1)
 
   pub call-lengths : bookCall C r xs out .0 .refusal ≡ 0 → (length r ≡ ringSize) × (C .outputSize * n ≤ length out)
@@ -193,13 +193,13 @@ module _ (C : Conversion) (r xs out : List ℕ) where
 
   -- what is written fits the output
   pub written-fits : bookCall C r xs out .0 .refusal ≡ 0 → bookCall C r xs out .0 .written ≤ length out
-  unfolding bookCall written
+  unfolding bookCall recordsCall
   written-fits e =
       let a = is-accepted (first tests) n g (C .outputSize * n) e in
       rw (accepted (first tests) n g (C .outputSize * n) (a .0) (a .1)) (call-lengths e .1)
 
   pub call-refuses : (bookCall C r xs out .0 .refusal ≡ 0 → ⊥) → (bookCall C r xs out .0 .written ≡ 0) × (bookCall C r xs out .1 ≡ out)
-  unfolding bookCall written
+  unfolding bookCall recordsCall
   call-refuses e = (refusal-writes _ _ _ _ e, rw (ne-eqb _ 0 e))
 
   module _ (b : (i : ℕ) → xs ! i < 256) where
@@ -218,7 +218,7 @@ module _ (C : Conversion) (r xs out : List ℕ) where
           record { refusal = 0; index = n; written = C .outputSize * n; runs = acceptedRuns (c + 2) n },
           each n (C .size) (C .convert) xs ++ drop (C .outputSize * n) out,
         )
-    unfolding bookCall written
+    unfolding bookCall recordsCall
     call-accepts c inspection hr room k =
         let head : first tests ≡ 0 =
         rw (eq-eqb _ _ hr, le-leb _ _ (few-of (C .size) (C .fault) xs k), eq-eqb _ _ (whole-of (C .size) (C .fault) xs k), le-leb _ _ room) in

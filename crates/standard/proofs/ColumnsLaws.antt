@@ -5,7 +5,7 @@ use Rattle.standard.proofs.Prelude.{mul-div-cancel-left, length, drop, 
 use native.Mathlib.Nat.{mul-mod-right}
 use Rattle.standard.specs.Bytes.{_!_}
 use Rattle.standard.specs.Columns.{column, transposed, toColumns, fromColumns, columnsCall, Undoes, ColumnsLaw}
-use Rattle.standard.specs.Lists.{recordAt, listTests, written}
+use Rattle.standard.specs.Lists.{recordAt, listTests, recordsCall}
 use Rattle.standard.specs.Refusals.{first}
 use Rattle.standard.specs.Sizes.{mostRecords}
 use Rattle.standard.proofs.AnswerLaws.{accepted}
@@ -41,7 +41,7 @@ module _ (rows width : ℕ) (xs : List ℕ) where
 -- a book of at most 1,024 records is taken where the output has room for it
 call-accepts : (f : ℕ → ℕ → List ℕ → List ℕ) (w n : ℕ) → 0 < w → n ≤ mostRecords → (xs out : List ℕ) → length xs ≡ w * n → w * n ≤ length out
     → columnsCall w f xs out ≡ (record { refusal = 0; index = n; written = w * n }, f w n xs ++ drop (w * n) out)
-unfolding columnsCall written
+unfolding columnsCall recordsCall
 call-accepts f w n hw few xs out e room =
     let count : w * n / w ≡ n = mul-div-cancel-left n hw in
     let head : first (listTests w w (length xs) (length out)) ≡ 0 =

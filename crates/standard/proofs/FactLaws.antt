@@ -11,12 +11,12 @@ use Rattle.standard.specs.Cores.{bl1With, bl1}
 use Rattle.standard.specs.Derivation.{core, ta11, ta21, ta41, chosen, ta12Call, sidesTest, ring, haveLengths, ringCall}
 use Rattle.standard.specs.Expansions.{inserted, expected, exp3Groups}
 use Rattle.standard.specs.Facts.{BothSides, OneSide, IdleChallenge, SingleCalls, SameBooks, SameChecks}
-use Rattle.standard.specs.Facts.{groupsOf, checkCount, sealingSize, failedChecks, openedBy, flagClear, flagFault}
+use Rattle.standard.specs.Facts.{groupsOf, checkCount, openedBy, flagClear, flagFault}
 use Rattle.standard.specs.Facts.{OrIsFlag, ChecksBits, FailedChecks, FlagIsNonzero, OrIsZero}
-use Rattle.standard.specs.Lists.{recordAt, each, lengthTests, listTests, written}
+use Rattle.standard.specs.Lists.{recordAt, each, lengthTests, listTests, recordsCall}
 use Rattle.standard.specs.Mixing.{tb4, tb7}
 use Rattle.standard.specs.Refusals.{wrongLength, hasLength, maskTests, first, ringMade}
-use Rattle.standard.specs.Seals.{checks, failed, clear, formOf, form, opened, fails, ta32Call, ta52Call, ta82Call, ta92Call}
+use Rattle.standard.specs.Seals.{checks, failed, clear, sealingSize, formOf, form, opened, fails, unsealCall, ta52Call}
 use Rattle.standard.specs.Sizes.{plainSize, sealedSize, challengeSize, authenticationSize}
 use Rattle.standard.specs.declared.Algorithm.{Algorithm}
 use Rattle.standard.specs.declared.Algorithm.the-variants.{Ta31, Ta51, Ta81, Ta91}
@@ -120,14 +120,14 @@ module _ (ks xs : List ℕ) (rm km : ℕ) (out : List ℕ) (z : ta12ClassCall ks
   tests = (hasLength 16 ks, wrongLength) ∷ listTests challengeSize authenticationSize (length xs) (length out) ++ maskTests rm km
 
   none-refuses : first tests ≡ 0
-  unfolding ta12ClassCall written
+  unfolding ta12ClassCall recordsCall
   none-refuses = is-accepted (first tests) n (λ i. 0) (authenticationSize * n) z .0
 
   class-masks : first (maskTests rm km) ≡ 0
   class-masks = none-fails (maskTests rm km) (λ i. all-pass tests refl none-refuses (suc (suc (suc (suc i)))))
 
   all-written : ta12ClassCall ks xs rm km out .1 ≡ each n challengeSize (classRecord ks rm km) xs ++ drop (authenticationSize * n) out
-  unfolding ta12ClassCall written
+  unfolding ta12ClassCall recordsCall
   all-written = rw (accepted (first tests) n (λ i. 0) (authenticationSize * n) none-refuses (λ i h. refl))
 
   class-record : (i : ℕ) → i < n → recordAt authenticationSize (ta12ClassCall ks xs rm km out .1) i ≡ classRecord ks rm km (recordAt challengeSize xs i)
@@ -208,21 +208,15 @@ fails-below a s v t =
     let u = opened (formOf a .key s v) t in
     subst (λ (k : ℕ). failed (formOf a) u < 2 ^ k) (check-count a u) (failed-below (checks (formOf a) u))
 
-no-other : (a : Algorithm) (t s : List ℕ) (v : Version) → failedChecks a t s v < 2 ^ checkCount a
-unfolding ta32Call ta52Call ta82Call ta92Call
-no-other Ta31 t s v = below-both (passes Ta31 t s) _ 5 (fails-below Ta31 s (bytesOf 2 (v .0)) t)
-no-other Ta51 t s v = below-both (passes Ta51 t s) _ 5 (fails-below Ta51 s (bytesOf 2 (v .0)) t)
-no-other Ta81 t s v = below-both (passes Ta81 t s) _ 3 (fails-below Ta81 s (bytesOf 2 (v .0)) t)
-no-other Ta91 t s v = below-both (passes Ta91 t s) _ 3 (fails-below Ta91 s (bytesOf 2 (v .0)) t)
+no-other : (a : Algorithm) (t s : List ℕ) (v : Version) → unsealCall a t s v .«failed_checks» < 2 ^ checkCount a
+unfolding unsealCall
+no-other a t s v = below-both (passes a t s) _ (checkCount a) (fails-below a s (bytesOf 2 (v .0)) t)
 
 -- where the lengths pass, a call answers the number of its form
 failed-by : (a : Algorithm) (t s : List ℕ) (v : Version) → length t ≡ 15 → length s ≡ sealingSize a
-    → failedChecks a t s v ≡ failed (formOf a) (openedBy a t s v)
-unfolding ta32Call ta52Call ta82Call ta92Call fails
-failed-by Ta31 t s v ht hs = rw (eq-eqb _ _ ht, eq-eqb _ _ hs)
-failed-by Ta51 t s v ht hs = rw (eq-eqb _ _ ht, eq-eqb _ _ hs)
-failed-by Ta81 t s v ht hs = rw (eq-eqb _ _ ht, eq-eqb _ _ hs)
-failed-by Ta91 t s v ht hs = rw (eq-eqb _ _ ht, eq-eqb _ _ hs)
+    → unsealCall a t s v .«failed_checks» ≡ failed (formOf a) (openedBy a t s v)
+unfolding unsealCall fails
+failed-by a t s v ht hs = rw (eq-eqb _ _ ht, eq-eqb _ _ hs)
 
 -- the inserted bytes are the first that a form looks at, each against the ⊕ of its group
 pub record Looks (a : Algorithm) (u : List ℕ) (i : ℕ) : Type 0 where
@@ -243,12 +237,13 @@ looks-inserted Ta91 u i h = record { within = h; found = refl; wanted = refl }
 -- bit i of a call's number, by what its form finds and wants
 bit-of : (a : Algorithm) (t s : List ℕ) (v : Version) → length t ≡ 15 → length s ≡ sealingSize a → (i : ℕ)
     → let u = openedBy a t s v in
-    i < length (formOf a .found u) → (bit i (failedChecks a t s v) ≡ 1) ↔ (formOf a .found u ! i ≡ formOf a .wanted u ! i → ⊥)
+    i < length (formOf a .found u) → (bit i (unsealCall a t s v .«failed_checks») ≡ 1) ↔ (formOf a .found u ! i ≡ formOf a .wanted u ! i → ⊥)
 bit-of a t s v ht hs i h =
     let u = openedBy a t s v in
     one-where _ _ _ (ap (bit i) (failed-by a t s v ht hs) ∙ failed-at (formOf a .found u) (formOf a .wanted u) (as-many a u) i h)
 
 pub failed-checks : FailedChecks
+unfolding ta52Call
 failed-checks = record {
   many = check-count;
   no-other = no-other;
@@ -290,7 +285,7 @@ same-books r s out =
 -- ---- plainlist's checks (01)
 
 pub same-checks : SameChecks
-unfolding sealBook bookCall checkPlain written
+unfolding sealBook bookCall checkPlain recordsCall
 same-checks r p out hr room =
     rw (eq-eqb _ _ hr, le-leb _ _ room)
     (answer-alike (first (lengthTests plainSize (length p))) (length p / plainSize) (λ i. plainFault (recordAt plainSize p i)) _ 0)

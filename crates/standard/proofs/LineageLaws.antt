@@ -6,7 +6,7 @@ use Rattle.standard.specs.Bytes.{part, choose}
 use Rattle.standard.specs.Lineage.{operation, parent1, parent2, derivedFilled, parentTests, lineageFault}
 use Rattle.standard.specs.Lineage.{derived, valueFrom, valueWithin, valueOf, lineageCall}
 use Rattle.standard.specs.Lineage.{WithParents, LineageLaw, Ancestor, itself, by-first, by-second, AncestorLaw, LineageSound}
-use Rattle.standard.specs.Lists.{recordAt, joined, listTests, written}
+use Rattle.standard.specs.Lists.{recordAt, joined, listTests, recordsCall}
 use Rattle.standard.specs.Refusals.{wrongFilling, first}
 use Rattle.standard.specs.Sizes.{sheetSize, valueSize}
 use Rattle.standard.proofs.AnswerLaws.{is-accepted, accepted}
@@ -92,11 +92,11 @@ module _ (s out : List ℕ) (z : lineageCall s out .0 .refusal ≡ 0) where
   head = first (listTests sheetSize valueSize (length s) (length out))
 
   tested : (head ≡ 0) × ((i : ℕ) → i < n → lineageFault s i ≡ 0)
-  unfolding lineageCall written
+  unfolding lineageCall recordsCall
   tested = is-accepted head n (lineageFault s) (valueSize * n) z
 
   all-written : lineageCall s out .1 ≡ joined n (valueOf s) ++ drop (valueSize * n) out
-  unfolding lineageCall written
+  unfolding lineageCall recordsCall
   all-written = rw (accepted head n (lineageFault s) (valueSize * n) (tested .0) (tested .1))
 
   -- what is written for a record is its value

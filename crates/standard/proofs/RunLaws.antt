@@ -4,7 +4,7 @@ use Rattle.standard.proofs.Prelude.{_≡_, refl, sym, ap, _∙_, Bool, 
 use Rattle.standard.proofs.Prelude.{arith, eqb, eqb-true, eqb-false}
 use Rattle.standard.specs.Books.{Conversion, sealing, opening, sealingKey, isKnown, recordKind, openFault, inspectionRuns, bookCall, sealBook, openBook}
 use Rattle.standard.specs.Bytes.{_!_, part, choose}
-use Rattle.standard.specs.Lists.{recordAt, firstFault, refused, answer, written}
+use Rattle.standard.specs.Lists.{recordAt, firstFault, refused, answer, recordsCall}
 use Rattle.standard.specs.Refusals.{wrongKind, flagSet, first}
 use Rattle.standard.specs.RunFacts.{SealRuns, OpenRuns, RefusedRuns}
 use Rattle.standard.specs.Runs.{textRuns, firstPass, secondPass, callRuns, acceptedRuns}
@@ -109,7 +109,7 @@ module _ (C : Conversion) (r xs out : List ℕ) where
       ⊎ (Stopped (n C r xs out) (g C r xs out) (l C r xs out) refusalOf indexOf runsOf ⊎ Done (n C r xs out) (g C r xs out) (l C r xs out) refusalOf runsOf)
 
   call-ends : CallEnds
-  unfolding bookCall written
+  unfolding bookCall recordsCall
   call-ends = ends (first (tests C r xs out)) (n C r xs out) (g C r xs out) (l C r xs out) (C .outputSize * n C r xs out)
 
   -- where an inspection of a record without a fault takes c runs
@@ -129,7 +129,7 @@ module _ (C : Conversion) (r xs out : List ℕ) where
 
   -- where no inspection takes more than c
   most-runs : (c : ℕ) → ((x : List ℕ) → C .inspection x ≤ c) → runsOf ≤ 1 + (c + 2) * n C r xs out
-  unfolding bookCall written
+  unfolding bookCall recordsCall
   most-runs c inspection = go (eqb (first (tests C r xs out)) 0) (eqb (firstFault (n C r xs out) (g C r xs out)) (n C r xs out)) (eqb (n C r xs out) 0)
     where
       first-most : firstPass (n C r xs out) (g C r xs out) (l C r xs out) ≤ c * n C r xs out

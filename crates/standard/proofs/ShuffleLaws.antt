@@ -7,7 +7,7 @@ use native.Mathlib.Nat.{mul-add}
 use lib.Seq.{getD-append-add}
 use Rattle.standard.specs.Books.{sealRecord, openRecord, WellFormed, sealedForm, Conversion, sealing, opening, bookCall, sealBook, openBook}
 use Rattle.standard.specs.Bytes.{_!_, Bytes}
-use Rattle.standard.specs.Lists.{recordAt, each, answer, written}
+use Rattle.standard.specs.Lists.{recordAt, each, answer, recordsCall}
 use Rattle.standard.specs.Refusals.{bookTooLong}
 use Rattle.standard.specs.Runs.{acceptedRuns}
 use Rattle.standard.specs.Shuffles.{Reordering, reordered, Shuffled, Joined, NoReordering, TooManyJoined}
@@ -197,7 +197,7 @@ no-reordering = record {
 
 too-long : (C : Conversion) (r xs out : List ℕ) → length r ≡ ringSize → C .size * mostRecords < length xs
     → bookCall C r xs out ≡ (record { refusal = bookTooLong; index = 0; written = 0; runs = 0 }, out)
-unfolding bookCall written answer
+unfolding bookCall recordsCall answer
 too-long C r xs out hr h = rw (eq-eqb _ _ hr, lt-leb _ _ h)
 
 -- longer than so many records of w bytes

@@ -7,7 +7,7 @@ use Prim.Native.Nat.{ℕ, _*_, _/_, _%_, _<_, _≤_}
 use lib.ListN.{length}
 use Rattle.standard.specs.Bytes.{_!_, part, choose}
 use Rattle.standard.specs.Identity.{ta61, ta61⁻¹}
-use Rattle.standard.specs.Lists.{recordAt, each, lengthTests, listTests, answer, written}
+use Rattle.standard.specs.Lists.{recordAt, each, lengthTests, listTests, answer, recordsCall}
 use Rattle.standard.specs.Refusals.{wrongKind, flagSet, wrongLength, hasLength, first}
 use Rattle.standard.specs.Runs.{textRuns, callRuns}
 use Rattle.standard.specs.Seals.{kindOf, form, seal, unseal, clears}
@@ -113,11 +113,11 @@ counted a runs = (record { refusal = a .0 .refusal; index = a .0 .index; written
 unfoldable pub bookCall : Conversion → List ℕ → List ℕ → List ℕ → CountedAnswer × List ℕ
 bookCall conversion r xs out =
     let n = length xs / conversion .size in
-    let head = first ((hasLength ringSize r, wrongLength) ∷ listTests (conversion .size) (conversion .outputSize) (length xs) (length out)) in
+    let tests : List (Bool × ℕ) = (hasLength ringSize r, wrongLength) ∷ listTests (conversion .size) (conversion .outputSize) (length xs) (length out) in
     let fault : ℕ → ℕ = λ i. conversion .fault (recordAt (conversion .size) xs i) in
     let inspection : ℕ → ℕ = λ i. conversion .inspection (recordAt (conversion .size) xs i) in
-    counted (written (answer head n fault (conversion .outputSize * n)) (each n (conversion .size) (conversion .convert) xs) out)
-    (callRuns head n fault inspection)
+    counted (recordsCall tests n fault (conversion .outputSize) (each n (conversion .size) (conversion .convert) xs) out)
+    (callRuns (first tests) n fault inspection)
 
 -- ---- the calls
 

@@ -1,12 +1,12 @@
 -- A whole class of challenges under one session key (02, 2).
 -- Assumes nothing.
 use mathlib.Core.List.{List, [], _∷_, _++_}
-use Prim.Native.Nat.{ℕ, _*_, _/_}
+use Prim.Native.Nat.{ℕ, _/_}
 use lib.ListN.{length}
 use Rattle.standard.specs.Bytes.{part}
 use Rattle.standard.specs.Derivation.{ta12Call}
-use Rattle.standard.specs.Lists.{each, listTests, answer, written}
-use Rattle.standard.specs.Refusals.{wrongLength, hasLength, maskTests, first}
+use Rattle.standard.specs.Lists.{each, listTests, recordsCall}
+use Rattle.standard.specs.Refusals.{wrongLength, hasLength, maskTests}
 use Rattle.standard.specs.Sizes.{challengeSize, authenticationSize}
 use Rattle.standard.specs.declared.BookAnswer.{BookAnswer}
 
@@ -18,8 +18,5 @@ classRecord ks rm km x = part 0 4 (ta12Call ks x rm km .response) ++ part 0 10 (
 unfoldable pub ta12ClassCall : (ks xs : List ℕ) (rm km : ℕ) (out : List ℕ) → BookAnswer × List ℕ
 ta12ClassCall ks xs rm km out =
     let n = length xs / challengeSize in
-    written
-    (answer
-    (first ((hasLength 16 ks, wrongLength) ∷ listTests challengeSize authenticationSize (length xs) (length out) ++ maskTests rm km))
-    n (λ i. 0) (authenticationSize * n))
-    (each n challengeSize (classRecord ks rm km) xs) out
+    recordsCall ((hasLength 16 ks, wrongLength) ∷ listTests challengeSize authenticationSize (length xs) (length out) ++ maskTests rm km)
+    n (λ i. 0) authenticationSize (each n challengeSize (classRecord ks rm km) xs) out

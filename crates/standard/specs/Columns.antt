@@ -5,8 +5,7 @@ use mathlib.Core.Path.{_≡_}
 use Prim.Native.Nat.{ℕ, _+_, _*_, _/_, _<_, _≤_}
 use lib.ListN.{length, take, drop}
 use Rattle.standard.specs.Bytes.{_!_, table}
-use Rattle.standard.specs.Lists.{joined, listTests, answer, written}
-use Rattle.standard.specs.Refusals.{first}
+use Rattle.standard.specs.Lists.{joined, listTests, recordsCall}
 use Rattle.standard.specs.Sizes.{mostRecords}
 use Rattle.standard.specs.declared.BookAnswer.{BookAnswer}
 
@@ -32,7 +31,7 @@ fromColumns w n xs = transposed w n xs
 unfoldable pub columnsCall : ℕ → (ℕ → ℕ → List ℕ → List ℕ) → (xs out : List ℕ) → BookAnswer × List ℕ
 columnsCall w f xs out =
     let n = length xs / w in
-    written (answer (first (listTests w w (length xs) (length out))) n (λ i. 0) (w * n)) (f w n xs) out
+    recordsCall (listTests w w (length xs) (length out)) n (λ i. 0) w (f w n xs) out
 
 -- ---- what is proved of them
 

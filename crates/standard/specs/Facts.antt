@@ -15,11 +15,12 @@ use Rattle.standard.specs.Expansions.{inserted, expected, exp1Groups, ex
 use Rattle.standard.specs.Lists.{recordAt}
 use Rattle.standard.specs.Mixing.{tb4, tb7}
 use Rattle.standard.specs.Refusals.{wrongKind, flagSet, wrongLength, maskTests, first, ringMade}
-use Rattle.standard.specs.Seals.{kindOf, checks, failed, orOf, formOf, form, opened, fails, ta32Call, ta52Call, ta82Call, ta92Call}
+use Rattle.standard.specs.Seals.{kindOf, checks, failed, orOf, sealingSize, formOf, form, opened, fails, bodyKey, bodyNumber, sealCall, unsealCall, ta52Call}
 use Rattle.standard.specs.Sizes.{ringSize, plainSize, sealedSize, challengeSize, authenticationSize}
 use Rattle.standard.specs.declared.Algorithm.{Algorithm}
 use Rattle.standard.specs.declared.Algorithm.the-variants.{Ta31, Ta51, Ta81, Ta91}
 use Rattle.standard.specs.declared.Authentication.{Authentication}
+use Rattle.standard.specs.declared.Bytes15.{Bytes15}
 use Rattle.standard.specs.declared.Kind.{Kind}
 use Rattle.standard.specs.declared.Version.{Version}
 
@@ -70,6 +71,12 @@ pub record SingleCalls : Type 0 where
       → let a : Authentication = ta12Call ks (recordAt challengeSize xs i) rm km in
       recordAt authenticationSize (ta12ClassCall ks xs rm km out .1) i ≡ a .response ++ a .key
 
+-- ---- the calls over the algorithm
+
+-- sealing a body: its key, and its number where it has one
+abbrev pub sealBody : Algorithm → List ℕ → Version → List ℕ → Bytes15
+sealBody a b v s = sealCall a (bodyKey a b) v s (record { 0 = bodyNumber a b })
+
 -- ---- the flag without branches (02, 3)
 
 -- 01's flag is clear: each inserted byte is the ⊕ of its group, and the number byte that TA52 finds is below 32
@@ -105,20 +112,6 @@ checkCount Ta51 = 5
 checkCount Ta81 = 3
 checkCount Ta91 = 3
 
--- the bytes of an algorithm's sealing key: D's, or O's and G's
-abbrev pub sealingSize : Algorithm → ℕ
-sealingSize Ta31 = 10
-sealingSize Ta51 = 16
-sealingSize Ta81 = 16
-sealingSize Ta91 = 16
-
--- what the unsealing call of an algorithm answers in place of the flag
-abbrev pub failedChecks : Algorithm → (t s : List ℕ) → Version → ℕ
-failedChecks Ta31 t s v = ta32Call t s v .«failed_checks»
-failedChecks Ta51 t s v = ta52Call t s v .«failed_checks»
-failedChecks Ta81 t s v = ta82Call t s v .«failed_checks»
-failedChecks Ta91 t s v = ta92Call t s v .«failed_checks»
-
 -- the 15 bytes that BL2 gives for a text, in which the inserted bytes stand
 abbrev pub openedBy : Algorithm → (t s : List ℕ) → Version → List ℕ
 openedBy a t s v = opened (formOf a .key s (bytesOf 2 (v .0))) t
@@ -128,11 +121,11 @@ pub record FailedChecks : Type 0 where
   -- there are 5 checks for TA32, 5 for TA52, 3 for TA82 and 3 for TA92 ..
   pub many : (a : Algorithm) (u : List ℕ) → length (checks (formOf a) u) ≡ checkCount a
   -- .. and no bit is set but theirs, whatever the inputs
-  pub no-other : (a : Algorithm) (t s : List ℕ) (v : Version) → failedChecks a t s v < 2 ^ checkCount a
+  pub no-other : (a : Algorithm) (t s : List ℕ) (v : Version) → unsealCall a t s v .«failed_checks» < 2 ^ checkCount a
   -- bit i, from 0 at the leftmost inserted byte, is set exactly if inserted byte i is not the ⊕ of its group
   pub inserted-bit : (a : Algorithm) (t s : List ℕ) (v : Version) → length t ≡ 15 → length s ≡ sealingSize a → (i : ℕ) → i < length (groupsOf a)
       → let u = openedBy a t s v in
-      (bit i (failedChecks a t s v) ≡ 1) ↔ (inserted (groupsOf a) 0 u ! i ≡ expected (groupsOf a) 0 u ! i → ⊥)
+      (bit i (unsealCall a t s v .«failed_checks») ≡ 1) ↔ (inserted (groupsOf a) 0 u ! i ≡ expected (groupsOf a) 0 u ! i → ⊥)
   -- bit 4 of TA52 is set exactly if the top three bits of the number byte, which stands before the last inserted one, are not zero
   pub number-bit : (t s : List ℕ) (v : Version) → length t ≡ 15 → length s ≡ 16
       → (bit 4 (ta52Call t s v .«failed_checks») ≡ 1) ↔ (openedBy Ta51 t s v ! 13 / 32 ≡ 0 → ⊥)

@@ -8,7 +8,7 @@ use lib.Dec.{eqb, leb, ltb}
 use lib.ListN.{length}
 use Rattle.standard.specs.Bytes.{_!_, part, zeros, same, choose}
 use Rattle.standard.specs.Derivation.{ta11, ta21, ta41, ta71}
-use Rattle.standard.specs.Lists.{recordAt, joined, listTests, answer, written}
+use Rattle.standard.specs.Lists.{recordAt, joined, listTests, recordsCall}
 use Rattle.standard.specs.Mixing.{tb4}
 use Rattle.standard.specs.Refusals.{wrongFilling, wrongParent, parentLength, first}
 use Rattle.standard.specs.Sizes.{sheetSize, valueSize}
@@ -90,9 +90,7 @@ valueOf s i = valueWithin (suc i) s i
 unfoldable pub lineageCall : (s out : List ℕ) → BookAnswer × List ℕ
 lineageCall s out =
     let n = length s / sheetSize in
-    written
-    (answer (first (listTests sheetSize valueSize (length s) (length out))) n (lineageFault s) (valueSize * n))
-    (joined n (valueOf s)) out
+    recordsCall (listTests sheetSize valueSize (length s) (length out)) n (lineageFault s) valueSize (joined n (valueOf s)) out
 
 -- ---- facts
 

@@ -51,6 +51,11 @@ answer head n g written =
     (choose (eqb (firstFault n g) n) (record { refusal = 0; index = n; written = written }) (refused (g (firstFault n g)) (firstFault n g)))
     (refused head 0)
 
--- the answer and the output at exit: what was made and then the output's own rest, or the output as it was
-unfoldable pub written : BookAnswer → (made out : List ℕ) → BookAnswer × List ℕ
-written a made out = (a, choose (eqb (a .refusal) 0) (made ++ drop (a .written) out) out)
+-- ---- a call that writes v bytes for each of n records
+
+-- by its tests, then by the fault g of each record. The answer, and the output at exit: what was made of the records and then the output's
+-- own rest, or the output as it was
+unfoldable pub recordsCall : (tests : List (Bool × ℕ)) (n : ℕ) (g : ℕ → ℕ) (v : ℕ) (made out : List ℕ) → BookAnswer × List ℕ
+recordsCall tests n g v made out =
+    let a = answer (first tests) n g (v * n) in
+    (a, choose (eqb (a .refusal) 0) (made ++ drop (a .written) out) out)

@@ -22,9 +22,7 @@ use Rattle.standard.specs.declared.CarrierIdentity.{CarrierIdentity}
 use Rattle.standard.specs.declared.Cell.{Cell}
 use Rattle.standard.specs.declared.Identity.{Identity}
 use Rattle.standard.specs.declared.RingMade.{RingMade}
-use Rattle.standard.specs.declared.Unsealed.{Unsealed}
-use Rattle.standard.specs.declared.UnsealedGroup.{UnsealedGroup}
-use Rattle.standard.specs.declared.UnsealedNumbered.{UnsealedNumbered}
+use Rattle.standard.specs.declared.UnsealedBody.{UnsealedBody}
 use Rattle.standard.specs.declared.Value.{Value}
 
 -- ---- the candidate's
@@ -152,16 +150,9 @@ authentication r s k = record { refusal = r; response = choose (eqb r 0) s (zero
 abbrev pub identity : ℕ → ℕ → Identity
 identity r n = record { refusal = r; identity = choose (eqb r 0) n 0 }
 
--- (02, 6) f has a bit for each check of the text that fails
-abbrev pub unsealed : ℕ → List ℕ → ℕ → Unsealed
-unsealed r k f = record { refusal = r; key = choose (eqb r 0) k (zeros 10); «failed_checks» = choose (eqb r 0) f 0 }
-
-abbrev pub unsealedNumbered : ℕ → List ℕ → ℕ → ℕ → UnsealedNumbered
-unsealedNumbered r k n f =
-    record { refusal = r; key = choose (eqb r 0) k (zeros 10); number = choose (eqb r 0) n 0; «failed_checks» = choose (eqb r 0) f 0 }
-
-abbrev pub unsealedGroup : ℕ → List ℕ → ℕ → UnsealedGroup
-unsealedGroup r k f = record { refusal = r; key = choose (eqb r 0) k (zeros 12); «failed_checks» = choose (eqb r 0) f 0 }
+-- before key and number are taken out of the body; f has a bit for each check of the text that fails (02, 6)
+abbrev pub unsealedBody : ℕ → List ℕ → ℕ → UnsealedBody
+unsealedBody r b f = record { refusal = r; body = choose (eqb r 0) b (zeros 12); «failed_checks» = choose (eqb r 0) f 0 }
 
 abbrev pub ringMade : ℕ → List ℕ → List ℕ → List ℕ → RingMade
 ringMade r k s t =

@@ -10,7 +10,7 @@ use lib.Dec.{eqb, leb}
 use Rattle.standard.specs.Bytes.{_!_, _⊕_, table, part, xors, zeros, bytesOf, choose}
 use Rattle.standard.specs.Cores.{bl1, bl2}
 use Rattle.standard.specs.Expansions.{ungrouped, inserted, expected, exp1Groups, exp3Groups, x16Groups, exp1, exp3, exp4, x16, shr1, shr2}
-use Rattle.standard.specs.Refusals.{wrongLength, wrongNumber, notZero, hasLength, first, answer15, unsealed, unsealedNumbered, unsealedGroup}
+use Rattle.standard.specs.Refusals.{wrongLength, wrongNumber, notZero, hasLength, first, answer15, unsealedBody}
 use Rattle.standard.specs.declared.Algorithm.{Algorithm}
 use Rattle.standard.specs.declared.Algorithm.the-variants.{Ta31, Ta51, Ta81, Ta91}
 use Rattle.standard.specs.declared.Bytes15.{Bytes15}
@@ -21,6 +21,7 @@ use Rattle.standard.specs.declared.Named.the-variants.{Known, Unknown}
 use Rattle.standard.specs.declared.RingKey.{RingKey}
 use Rattle.standard.specs.declared.RingKey.the-variants.{D, O, G}
 use Rattle.standard.specs.declared.Unsealed.{Unsealed}
+use Rattle.standard.specs.declared.UnsealedBody.{UnsealedBody}
 use Rattle.standard.specs.declared.UnsealedGroup.{UnsealedGroup}
 use Rattle.standard.specs.declared.UnsealedNumbered.{UnsealedNumbered}
 use Rattle.standard.specs.declared.Version.{Version}
@@ -43,6 +44,13 @@ keyLength Ta31 = 10
 keyLength Ta51 = 10
 keyLength Ta81 = 10
 keyLength Ta91 = 12
+
+-- the bytes of a sealing key: D's, or O's and G's
+abbrev pub sealingSize : Algorithm → ℕ
+sealingSize Ta31 = 10
+sealingSize Ta51 = 16
+sealingSize Ta81 = 16
+sealingSize Ta91 = 16
 
 abbrev pub highestNumber : Algorithm → ℕ
 highestNumber Ta31 = 0
@@ -179,59 +187,83 @@ fails F s v t = failed F (opened (F .key s v) t)
 abbrev pub clears : Form → List ℕ → List ℕ → List ℕ → Bool
 clears F s v t = eqb (fails F s v t) 0
 
--- ---- the bodies of single keys
+-- ---- bodies
 
-abbrev pub body31 : List ℕ → List ℕ
-body31 ck = part 0 10 ck ++ zeros 2
+-- the body of a key, and of a number where the algorithm has one
+abbrev pub bodyOf : Algorithm → List ℕ → ℕ → List ℕ
+bodyOf Ta31 k n = part 0 10 k ++ zeros 2
+bodyOf Ta51 k n = part 0 10 k ++ 0 ∷ n ∷ []
+bodyOf Ta81 k n = part 0 10 k ++ bytesOf 2 n
+bodyOf Ta91 k n = part 0 12 k
 
-abbrev pub body51 : List ℕ → ℕ → List ℕ
-body51 ck n = part 0 10 ck ++ 0 ∷ n ∷ []
+-- the key of a body, and its number, or 0
+abbrev pub bodyKey : Algorithm → List ℕ → List ℕ
+bodyKey a b = part 0 (keyLength a) b
 
-abbrev pub body81 : List ℕ → ℕ → List ℕ
-body81 ck n = part 0 10 ck ++ bytesOf 2 n
+abbrev pub bodyNumber : Algorithm → List ℕ → ℕ
+bodyNumber Ta31 b = 0
+bodyNumber Ta51 b = b ! 11
+bodyNumber Ta81 b = 256 * b ! 10 + b ! 11
+bodyNumber Ta91 b = 0
 
-abbrev pub body91 : List ℕ → List ℕ
-body91 gk = part 0 12 gk
+-- ---- the calls over the algorithm
 
--- the 16-bit number of a body
-abbrev pub number2 : List ℕ → ℕ
-number2 b = 256 * b ! 10 + b ! 11
+-- 5, of TA51's number; TA81's may be any of sixteen bits, and the others take none
+abbrev pub numberTests : Algorithm → ℕ → List (Bool × ℕ)
+numberTests Ta31 n = []
+numberTests Ta51 n = (leb n (highestNumber Ta51), wrongNumber) ∷ []
+numberTests Ta81 n = []
+numberTests Ta91 n = []
 
--- ---- the calls
+-- of a key, a version, a sealing key and a number: 11, then 5; or the sealed text
+unfoldable pub sealCall : Algorithm → List ℕ → Version → List ℕ → KeyNumber → Bytes15
+sealCall a k v s n =
+    answer15 (first ((hasLength (keyLength a) k && hasLength (sealingSize a) s, wrongLength) ∷ numberTests a (n .0)))
+    (seal (formOf a) s (bytesOf 2 (v .0)) (bodyOf a k (n .0)))
+
+-- of a text, a sealing key and a version: 11; or the body, and a bit for each check that fails
+unfoldable pub unsealCall : Algorithm → List ℕ → List ℕ → Version → UnsealedBody
+unsealCall a t s v =
+    unsealedBody (first ((hasLength 15 t && hasLength (sealingSize a) s, wrongLength) ∷ []))
+    (unseal (formOf a) s (bytesOf 2 (v .0)) t) (fails (formOf a) s (bytesOf 2 (v .0)) t)
+
+-- ---- the calls: kind 1 (5.8, 5.9), kinds 2 and 5 (5.10, 5.11), kinds 3 and 6 (5.14, 5.15), kind 4 (5.16, 5.17)
+
+-- where a call takes no number
+abbrev pub noNumber : KeyNumber
+noNumber = record { 0 = 0 }
 
 unfoldable pub ta31Call : List ℕ → Version → List ℕ → Bytes15
-ta31Call ck v s = answer15 (first ((hasLength 10 ck && hasLength 10 s, wrongLength) ∷ [])) (seal form31 s (bytesOf 2 (v .0)) (body31 ck))
-
-unfoldable pub ta32Call : List ℕ → List ℕ → Version → Unsealed
-ta32Call t s v =
-    unsealed (first ((hasLength 15 t && hasLength 10 s, wrongLength) ∷ []))
-    (part 0 10 (unseal form31 s (bytesOf 2 (v .0)) t)) (fails form31 s (bytesOf 2 (v .0)) t)
+ta31Call ck v s = sealCall Ta31 ck v s noNumber
 
 unfoldable pub ta51Call : List ℕ → Version → List ℕ → KeyNumber → Bytes15
-ta51Call ck v s n =
-    answer15 (first ((hasLength 10 ck && hasLength 16 s, wrongLength) ∷ (leb (n .0) (highestNumber Ta51), wrongNumber) ∷ []))
-    (seal form51 s (bytesOf 2 (v .0)) (body51 ck (n .0)))
-
-unfoldable pub ta52Call : List ℕ → List ℕ → Version → UnsealedNumbered
-ta52Call t s v =
-    unsealedNumbered (first ((hasLength 15 t && hasLength 16 s, wrongLength) ∷ []))
-    (part 0 10 (unseal form51 s (bytesOf 2 (v .0)) t)) (unseal form51 s (bytesOf 2 (v .0)) t ! 11)
-    (fails form51 s (bytesOf 2 (v .0)) t)
+ta51Call ck v s n = sealCall Ta51 ck v s n
 
 unfoldable pub ta81Call : List ℕ → Version → List ℕ → KeyNumber → Bytes15
-ta81Call ck v s n =
-    answer15 (first ((hasLength 10 ck && hasLength 16 s, wrongLength) ∷ [])) (seal form81 s (bytesOf 2 (v .0)) (body81 ck (n .0)))
-
-unfoldable pub ta82Call : List ℕ → List ℕ → Version → UnsealedNumbered
-ta82Call t s v =
-    unsealedNumbered (first ((hasLength 15 t && hasLength 16 s, wrongLength) ∷ []))
-    (part 0 10 (unseal form81 s (bytesOf 2 (v .0)) t)) (number2 (unseal form81 s (bytesOf 2 (v .0)) t))
-    (fails form81 s (bytesOf 2 (v .0)) t)
+ta81Call ck v s n = sealCall Ta81 ck v s n
 
 unfoldable pub ta91Call : List ℕ → Version → List ℕ → Bytes15
-ta91Call gk v s = answer15 (first ((hasLength 12 gk && hasLength 16 s, wrongLength) ∷ [])) (seal form81 s (bytesOf 2 (v .0)) (body91 gk))
+ta91Call gk v s = sealCall Ta91 gk v s noNumber
+
+-- unsealing answers the key that the body has; its key and its number; or the whole body, a group key
+abbrev pub keyAnswer : Algorithm → UnsealedBody → Unsealed
+keyAnswer a u = record { refusal = u .refusal; key = bodyKey a (u .body); «failed_checks» = u .«failed_checks» }
+
+abbrev pub numberAnswer : Algorithm → UnsealedBody → UnsealedNumbered
+numberAnswer a u =
+    record { refusal = u .refusal; key = bodyKey a (u .body); number = bodyNumber a (u .body); «failed_checks» = u .«failed_checks» }
+
+abbrev pub groupAnswer : UnsealedBody → UnsealedGroup
+groupAnswer u = record { refusal = u .refusal; key = u .body; «failed_checks» = u .«failed_checks» }
+
+unfoldable pub ta32Call : List ℕ → List ℕ → Version → Unsealed
+ta32Call t s v = keyAnswer Ta31 (unsealCall Ta31 t s v)
+
+unfoldable pub ta52Call : List ℕ → List ℕ → Version → UnsealedNumbered
+ta52Call t s v = numberAnswer Ta51 (unsealCall Ta51 t s v)
+
+unfoldable pub ta82Call : List ℕ → List ℕ → Version → UnsealedNumbered
+ta82Call t s v = numberAnswer Ta81 (unsealCall Ta81 t s v)
 
 unfoldable pub ta92Call : List ℕ → List ℕ → Version → UnsealedGroup
-ta92Call t s v =
-    unsealedGroup (first ((hasLength 15 t && hasLength 16 s, wrongLength) ∷ []))
-    (unseal form81 s (bytesOf 2 (v .0)) t) (fails form81 s (bytesOf 2 (v .0)) t)
+ta92Call t s v = groupAnswer (unsealCall Ta91 t s v)

@@ -192,6 +192,13 @@ impl Identity {
     }
 }
 
+// What an unsealing call answers, before key and number are taken out of the body.
+pub struct UnsealedBody {
+    pub refusal: u32,
+    pub body: [u8; 12],
+    pub failed_checks: u16,
+}
+
 // What TA32 answers.
 #[repr(C)]
 pub struct Unsealed {

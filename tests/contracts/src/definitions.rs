@@ -368,16 +368,11 @@ impl Definitions {
             Some((term, scope)) => self.value(&term, &scope),
             None => Value::Other,
         };
-        let of_argument = |clause: &&(Vec<Node>, Term)| {
-            let [parameter, argument] = [clause.0.first(), arguments.first()];
-            parameter.map(Node::word) == argument.map(Node::word)
-        };
-        match &clauses[..] {
-            [clause] => one(clause),
-            clauses if arguments.len() == 1 => match clauses.iter().find(of_argument) {
-                Some(clause) => one(clause),
-                None => Value::Cases(clauses.iter().map(one).collect()),
-            },
+        match (&clauses[..], of_constructor(clauses, arguments, scope)) {
+            ([clause], _) | (_, Some(clause)) => one(clause),
+            (clauses, None) if arguments.len() == 1 => {
+                Value::Cases(clauses.iter().map(one).collect())
+            }
             _ => Value::Other,
         }
     }
@@ -435,7 +430,7 @@ impl Walk<'_> {
                 }
             }
             ("choose", [test, this, that]) => self.each([test, that, this], scope),
-            ("answer", [head, _, fault, _]) => {
+            ("answer", [head, _, fault, _]) | ("recordsCall", [head, _, fault, _, _, _]) => {
                 self.each([head], scope);
                 let before = mem::replace(&mut self.in_records, true);
                 self.each([fault], scope);
@@ -469,6 +464,10 @@ impl Walk<'_> {
             return self.each(arguments, scope);
         }
         self.unfolding.push(name.to_string());
+        let clauses = match of_constructor(clauses, arguments, scope) {
+            Some(clause) => slice::from_ref(clause),
+            None => clauses,
+        };
         for clause in clauses {
             match unfolded(owner, clause, arguments, scope) {
                 Some((term, scope)) => self.row(&term, &scope),
@@ -622,6 +621,36 @@ fn unfolded(
     let mut inner = Scope::of(owner);
     bind(&mut inner, parameters, &closed(arguments, scope));
     Some((body.clone(), inner))
+}
+
+/// The constructor that a node is, seen through the names that stand for it.
+fn constructor(node: &Node, scope: &Scope) -> Option<String> {
+    let closure = match node {
+        Node::Word(word) => match scope.bound.get(word) {
+            Some(closure) => closure.clone(),
+            None => return word.starts_with(char::is_uppercase).then(|| word.clone()),
+        },
+        Node::Parentheses(term) => scope.closure(term),
+        Node::Closed(closure) => closure.clone(),
+        Node::Braces(_) => return None,
+    };
+    match &closure.term[..] {
+        [node] => constructor(node, &closure.scope),
+        _ => None,
+    }
+}
+
+/// The equation for the constructor that the first argument is.
+fn of_constructor<'a>(
+    clauses: &'a Clauses,
+    arguments: &[Node],
+    scope: &Scope,
+) -> Option<&'a (Vec<Node>, Term)> {
+    let name = constructor(arguments.first()?, scope)?;
+    let is_its = |(parameters, _): &&(Vec<Node>, Term)| {
+        parameters.first().map(Node::word) == Some(name.as_str())
+    };
+    clauses.iter().find(is_its)
 }
 
 #[cfg(test)]

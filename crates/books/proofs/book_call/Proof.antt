@@ -1,8 +1,8 @@
 use Rattle.standard.proofs.Prelude.{_≡_, _∙_, _*_, _/_, _≤_, arith, length, now, needs}
-use Rattle.books.proofs.BookReturnLaws.{ring-refused, lengths-refused, record-refused, all-written, room}
+use Rattle.books.proofs.BookReturnLaws.{ring-refused, lengths-refused, record-refused, all-written}
 use Rattle.books.proofs.DirectionLaws.{sizes, both-fit}
-use Rattle.books.specs.BothDirections.{sizeOf}
-use Rattle.lists.proofs.LengthLaws.{records-within}
+use Rattle.books.specs.BothDirections.{sizeOf, outputSizeOf}
+use Rattle.lists.proofs.LengthLaws.{records-within, output-enough}
 use Rattle.standard.proofs.BytesLaws.{spelled}
 use Rattle.standard.specs.Sizes.{ringSize}
 use Rattle.books.proofs.book_call.Tie as tie
@@ -55,7 +55,7 @@ write-requires c κs =
     let e = rw (size .size .ensures, lens .before .output-size .ensures) at (lens .lengths-and-output .ensures) in
     rw (size .size .ensures) (
       records-within (sizeOf (x .direction)) (length (now (x .book))),
-      room (now (x .ring)) (x .direction) (now (x .book)) (now (x .out)) (size .before .if1 .left) _ e
+      output-enough (sizeOf (x .direction)) (length (now (x .book))) (outputSizeOf (x .direction)) (length (now (x .out))) e
           (c .before .before .before .before .before .before .before .if2 .left),
     )
 
@@ -66,7 +66,7 @@ mul-t14 c =
     let start = size .before .before .before .before .before in
     let x = start .args in
     let e = rw (size .size .ensures, lens .before .output-size .ensures) at (lens .lengths-and-output .ensures) in
-    let r = room (now (x .ring)) (x .direction) (now (x .book)) (now (x .out)) (size .before .if1 .left) _ e
+    let r = output-enough (sizeOf (x .direction)) (length (now (x .book))) (outputSizeOf (x .direction)) (length (now (x .out))) e
     (c .before .before .before .before .before .before .before .before .before .before .if2 .left) in
     let fits : lens .before .output-size .result * (length (now (x .book)) / size .size .result) ≤ length (now (x .out)) =
     rw (lens .before .output-size .ensures, size .size .ensures) r in

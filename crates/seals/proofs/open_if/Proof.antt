@@ -1,13 +1,10 @@
 use Rattle.standard.proofs.Prelude.{needs, not-true, not-false}
-use Rattle.seals.specs.UnsealedBodies.{unsealedBody}
 use Rattle.seals.proofs.open_if.Tie as tie
 
 returns : tie.Need-returns
-unfolding unsealedBody
 returns c = rw (not-true (c .before .args .right-lengths) (c .if1 .taken))
 
 returns-2 : tie.Need-returns-2
-unfolding unsealedBody
 returns-2 c =
     let o = c .before .open-text .ensures in
     rw (o .is, o .told, not-false (c .before .before .before .args .right-lengths) (c .before .before .if1 .left))

@@ -1,9 +1,9 @@
 use Rattle.standard.proofs.Prelude.{needs}
-use Rattle.standard.specs.Seals.{key10, seal, ta31Call}
+use Rattle.standard.specs.Seals.{key10, seal, sealCall, ta31Call}
 use Rattle.seals.proofs.ta31.Tie as tie
 
 returns : tie.Need-returns
-unfolding ta31Call seal key10
+unfolding ta31Call sealCall seal key10
 returns c = rw (
   c .seal-if .ensures,
   c .before .join-10-2 .ensures,

@@ -1,22 +1,24 @@
 use Rattle.standard.proofs.Prelude.{needs}
-use Rattle.seals.proofs.UnsealedBodyLaws.{key10-part, opened-part, key-out}
-use Rattle.standard.specs.Seals.{form31, unseal, fails, ta32Call}
+use Rattle.seals.proofs.KeyPartLaws.{key10-part, opened-part}
+use Rattle.standard.specs.Seals.{unseal, fails, unsealCall, ta32Call}
 use Rattle.seals.proofs.ta32.Tie as tie
 
 returns : tie.Need-returns
-unfolding ta32Call unseal fails
+unfolding ta32Call unsealCall unseal fails
 returns c =
     let o = c .before .before .before in
     let key = o .before .before in
-    rw (c .part102 .ensures)
-    (key-out (o .open-if .result) form31 _ _ (rw (
-      o .before .part15 .ensures,
-      key .key10 .ensures,
-      key .before .part10 .ensures,
-      key .before .before .have-lengths .ensures,
-      key10-part,
-      opened-part,
-    ) at (o .open-if .ensures)))
+    rw (
+      c .part102 .ensures,
+      rw (
+        o .before .part15 .ensures,
+        key .key10 .ensures,
+        key .before .part10 .ensures,
+        key .before .before .have-lengths .ensures,
+        key10-part,
+        opened-part,
+      ) at (o .open-if .ensures),
+    )
 
 pub ta32-spec : {M : Type 1} → Rattle.seals.proofs.ta32.Statement.statement M
 ta32-spec =

@@ -1,9 +1,9 @@
 use Rattle.standard.proofs.Prelude.{div-one, needs}
-use Rattle.standard.specs.Seals.{key16, seal, ta81Call}
+use Rattle.standard.specs.Seals.{key16, seal, sealCall, ta81Call}
 use Rattle.seals.proofs.ta81.Tie as tie
 
 returns : tie.Need-returns
-unfolding ta81Call seal key16
+unfolding ta81Call sealCall seal key16
 returns c =
     let key = c .before .before .before .before .before in
     rw (

@@ -1,9 +1,9 @@
 use Rattle.standard.proofs.Prelude.{needs}
-use Rattle.standard.specs.Seals.{key16, seal, ta91Call}
+use Rattle.standard.specs.Seals.{key16, seal, sealCall, ta91Call}
 use Rattle.seals.proofs.ta91.Tie as tie
 
 returns : tie.Need-returns
-unfolding ta91Call seal key16
+unfolding ta91Call sealCall seal key16
 returns c = rw (
   c .seal-if .ensures,
   c .before .part12 .ensures,
