@@ -4,9 +4,10 @@ use Rattle.standard.proofs.Prelude.{_≡_, refl, sym, ap, _∙_, Bool, true, fa
 use Rattle.standard.proofs.Prelude.{take-at, eqb-true, eqb-false, eq-eqb, le-leb}
 use mathlib.Core.Logic.{Iff·symm}
 use Rattle.standard.specs.Books.{plainFault, sealRecord, openFault, openRecord, bookCall, openBook}
-use Rattle.standard.specs.Bytes.{part, same, Bytes, Passed}
-use Rattle.standard.specs.Demand3.{IsSealedForm}
-use Rattle.standard.specs.Facts.{sealBody}
+use Rattle.standard.specs.Bytes.{part, same, Bytes}
+use Rattle.standard.proofs.BytesLaws.{Passed}
+use Rattle.standard.specs.BooksFacts.{IsSealedForm}
+use Rattle.standard.specs.SealsFacts.{sealBody}
 use Rattle.standard.specs.Lists.{answer, recordsCall}
 use Rattle.standard.specs.Seals.{sealingSize, formOf, failed, seal, unsealCall}
 use Rattle.standard.specs.Sizes.{ringSize, plainSize, sealedSize}

@@ -2,7 +2,7 @@
 -- Assumes nothing.
 use Rattle.standard.proofs.Prelude.{_≡_, refl, sym, ap, _∙_, List, ℕ, arith, xor-comm, xor-self, length, eq-eqb}
 use Rattle.standard.specs.Bytes.{_!_, _⊕_}
-use Rattle.standard.specs.Facts.{sealBody}
+use Rattle.standard.specs.SealsFacts.{sealBody}
 use Rattle.standard.specs.Seals.{formOf, failed, key10, key16, sealed, opened, seal, unseal, fails}
 use Rattle.standard.specs.Seals.{sealingSize, sealCall, unsealCall}
 use Rattle.standard.specs.declared.Algorithm.{Algorithm}

@@ -3,7 +3,7 @@
 use Rattle.standard.proofs.Prelude.{_≡_, refl, sym, ap, _∙_, Bool, true, false, _↔_, List, [], _∷_, ℕ, zero, suc, _<_, arith, ltb, length, eqb-true, eq-eqb}
 use Rattle.standard.proofs.Prelude.{ltb-true}
 use Rattle.standard.specs.Bytes.{_!_, bytesOf, Bytes}
-use Rattle.standard.specs.Facts.{sealBody}
+use Rattle.standard.specs.SealsFacts.{sealBody}
 use Rattle.standard.specs.Refusals.{hasLength, wrongLength, first}
 use Rattle.standard.specs.Seals.{keyLength, sealingSize, formOf, opened, fails, bodyKey, bodyNumber, numberTests, sealCall, unsealCall}
 use Rattle.standard.specs.declared.Algorithm.{Algorithm}

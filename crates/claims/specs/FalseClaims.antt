@@ -7,8 +7,8 @@ use Prim.Native.Nat.{ℕ, _-_, _/_, _^_, _<_}
 use lib.ListN.{length}
 use Rattle.standard.specs.Books.{ringKey, commonKey, WellFormed, sealedForm, openFault, openRecord}
 use Rattle.standard.specs.Bytes.{_!_, part, xors, zeros, bytesOf, Bytes}
-use Rattle.standard.specs.Demand3.{IsSealedForm}
-use Rattle.standard.specs.Facts.{sealBody}
+use Rattle.standard.specs.BooksFacts.{IsSealedForm}
+use Rattle.standard.specs.SealsFacts.{sealBody}
 use Rattle.standard.specs.Hurdle.{f}
 use Rattle.standard.specs.Lists.{recordAt, each}
 use Rattle.standard.specs.Seals.{sealingSize, repeated, bodyOf, unsealCall, ta52Call, ta82Call, ta92Call}

@@ -10,8 +10,8 @@ use lib.ListN.{length, take, drop}
 use Rattle.standard.specs.Books.{plainFault, sealRecord, openFault, openRecord, openBook}
 use Rattle.standard.specs.Bytes.{_!_, _⊕_, part, table, choose, Bytes}
 use Rattle.standard.specs.Cores.{bl1}
-use Rattle.standard.specs.Demand3.{IsSealedForm}
-use Rattle.standard.specs.Facts.{sealBody}
+use Rattle.standard.specs.BooksFacts.{IsSealedForm}
+use Rattle.standard.specs.SealsFacts.{sealBody}
 use Rattle.standard.specs.Hurdle.{encryptCall, decryptCall}
 use Rattle.standard.specs.Seals.{sealingSize, formOf, failed, without8, opened, unsealCall, ta51Call, ta52Call}
 use Rattle.standard.specs.Sizes.{ringSize, plainSize, sealedSize}

@@ -9,7 +9,7 @@ use lib.Dec.{eqb}
 use lib.ListN.{length}
 use Rattle.standard.specs.Bytes.{_!_, _⊕_, table, part, bytesOf, Bytes}
 use Rattle.standard.specs.Cores.{bl1, bl2}
-use Rattle.standard.specs.Demand3.{Demand3}
+use Rattle.standard.specs.BooksFacts.{Demand3}
 use Rattle.standard.specs.Derivation.{half, ring, ta22Call, ta12Call, ta41Call}
 use Rattle.standard.specs.Expansions.{inserted, expected, exp3Groups, xorOf, exp1, exp2}
 use Rattle.standard.specs.Mixing.{tb4, tb7}

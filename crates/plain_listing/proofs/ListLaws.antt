@@ -7,7 +7,8 @@ use Rattle.standard.proofs.BytesLaws.{length-table}
 use Rattle.standard.specs.Books.{recordKind, plainFault, checkPlain}
 use Rattle.standard.specs.Lists.{recordAt}
 use Rattle.standard.specs.Bytes.{_!_, part, choose}
-use Rattle.standard.specs.Listing.{numberText, entryLine, entryLines, entriesLine, refusedLine, listing, listingRoom, listCall, ListingFits}
+use Rattle.standard.specs.Listing.{numberText, entryLine, entryLines, entriesLine, refusedLine, listing, listingRoom, listCall}
+use Rattle.standard.specs.ListingFacts.{ListingFits}
 use Rattle.standard.specs.Seals.{keyLength}
 use Rattle.standard.specs.Sizes.{plainSize}
 use Rattle.standard.specs.Text.{hex}

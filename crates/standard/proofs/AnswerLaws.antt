@@ -9,7 +9,8 @@ use Rattle.standard.specs.Books.{Conversion, bookCall}
 use Rattle.standard.specs.Bytes.{_!_, choose}
 use Rattle.standard.specs.Lists.{recordAt, each, firstFault, refused, answer, lengthTests, listTests, recordsCall}
 use Rattle.standard.specs.Refusals.{wrongLength, hasLength, first}
-use Rattle.standard.specs.Runs.{firstPass, secondPass, acceptedRuns}
+use Rattle.standard.specs.Runs.{firstPass, secondPass}
+use Rattle.standard.specs.RunsFacts.{acceptedRuns}
 use Rattle.standard.specs.Sizes.{ringSize, mostRecords}
 use Rattle.standard.specs.declared.BookAnswer.{BookAnswer}
 use Rattle.standard.proofs.BookLaws.{Book}

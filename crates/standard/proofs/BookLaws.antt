@@ -4,7 +4,8 @@ use Rattle.standard.proofs.Prelude.{_≡_, refl, sym, ap, ap₂, _∙_,
 use Rattle.standard.proofs.Prelude.{_/_, _≤_, _<_, add-zero, add-suc, mul-zero, mul-suc, mul-le-mul-left, mul-div-cancel-left}
 use Rattle.standard.proofs.Prelude.{le-of-suc-le-suc, eq-or-lt-of-le, arith, length, length-append}
 use mathlib.Core.List.{append-assoc}
-use Rattle.standard.specs.Bytes.{_!_, part, table, Bytes, Passed}
+use Rattle.standard.specs.Bytes.{_!_, part, table, Bytes}
+use Rattle.standard.proofs.BytesLaws.{Passed}
 use Rattle.standard.specs.Lists.{recordAt, joined, each}
 use Rattle.standard.specs.Sizes.{mostRecords}
 use Rattle.standard.proofs.InverseLaws.{Inverse, reversed}

@@ -11,6 +11,11 @@ use Rattle.standard.specs.Bytes.{_!_, _⊕_, table, part, xors, bytesOf,
 use Rattle.standard.specs.Refusals.{hasLength}
 use Rattle.standard.proofs.XorLaws.{xor-byte}
 
+-- a string of n bytes that passes a test
+pub record Passed (n : ℕ) (ok : List ℕ → Bool) (xs : List ℕ) : Type 0 where
+  pub bytes : Bytes n xs
+  pub passed : ok xs ≡ true
+
 -- ---- tables
 
 pub length-table : (n : ℕ) (f : ℕ → ℕ) → length (table n f) ≡ n

@@ -3,7 +3,7 @@
 -- Assumes nothing.
 use Rattle.standard.proofs.Prelude.{_≡_, refl, List, ℕ, _+_, _*_, _/_, _%_, _^_, _≤_, _<_, arith, length, eqb-true, eq-eqb, le-leb, lt-ltb}
 use Rattle.standard.specs.Bytes.{_!_, bytesOf, number3, Bytes}
-use Rattle.standard.specs.Facts.{sealBody}
+use Rattle.standard.specs.SealsFacts.{sealBody}
 use Rattle.standard.specs.Identity.{ta61, ta61⁻¹, ta61Call, ta61⁻¹Call}
 use Rattle.standard.specs.Refusals.{first}
 use Rattle.standard.specs.Seals.{keyLength, sealingSize, form31, form51, form81, formOf, seal, unseal, fails}

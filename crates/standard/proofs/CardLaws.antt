@@ -6,7 +6,7 @@ use Rattle.standard.proofs.Prelude.{eq-eqb, ne-eqb}
 use mathlib.Core.Bool.{_||_}
 use Rattle.standard.specs.Bytes.{_!_, bit, _⊕_, part, choose, Bytes}
 use Rattle.standard.specs.Cards.{unreadable, readable, erasuresOn, erasures, atMostOne, agrees, everyGroup, restored, keyOf, restoreCall}
-use Rattle.standard.specs.Cards.{SameReadable, FormOf, OnlyOne, None, Several, CardLaw}
+use Rattle.standard.specs.CardsFacts.{SameReadable, FormOf, OnlyOne, None, Several, CardLaw}
 use Rattle.standard.specs.Mixing.{tb7}
 use Rattle.standard.specs.Refusals.{wrongLength, groupUnreadable, groupDisagrees, hasLength, first}
 use Rattle.standard.proofs.BytesLaws.{table-at, table-same, spell, bytes-append, bytes-cons, bytes-nil, bytes-part, and-split, and-join}

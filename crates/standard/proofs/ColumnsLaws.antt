@@ -4,7 +4,8 @@ use Rattle.standard.proofs.Prelude.{_≡_, refl, sym, ap, _∙_, List, 
 use Rattle.standard.proofs.Prelude.{mul-div-cancel-left, length, drop, take-at, eq-eqb, le-leb}
 use native.Mathlib.Nat.{mul-mod-right}
 use Rattle.standard.specs.Bytes.{_!_}
-use Rattle.standard.specs.Columns.{column, transposed, toColumns, fromColumns, columnsCall, Undoes, ColumnsLaw}
+use Rattle.standard.specs.Columns.{column, transposed, toColumns, fromColumns, columnsCall}
+use Rattle.standard.specs.ColumnsFacts.{Undoes, ColumnsLaw}
 use Rattle.standard.specs.Lists.{recordAt, listTests, recordsCall}
 use Rattle.standard.specs.Refusals.{first}
 use Rattle.standard.specs.Sizes.{mostRecords}

@@ -5,10 +5,10 @@ use Rattle.standard.proofs.Prelude.{eq-eqb, le-leb}
 use Rattle.standard.specs.Books.{plainFault, sealRecord, openFault, openRecord, WellFormed, sealedForm}
 use Rattle.standard.specs.Books.{sealing, opening, sealBook, openBook, checkPlain}
 use Rattle.standard.specs.Bytes.{_!_, Bytes}
-use Rattle.standard.specs.Demand3.{IsSealedForm, Demand3, Demand3Holds}
+use Rattle.standard.specs.BooksFacts.{IsSealedForm, Demand3, Demand3Holds}
 use Rattle.standard.specs.Lists.{each, lengthTests}
 use Rattle.standard.specs.Refusals.{first}
-use Rattle.standard.specs.Runs.{acceptedRuns}
+use Rattle.standard.specs.RunsFacts.{acceptedRuns}
 use Rattle.standard.specs.Sizes.{ringSize, plainSize, sealedSize}
 use Rattle.standard.specs.declared.BookAnswer.{BookAnswer}
 use Rattle.standard.specs.declared.CountedAnswer.{CountedAnswer}

@@ -8,7 +8,8 @@ use native.Mathlib.Nat.{min-eq-right}
 use lib.Arith.{bin-ind}
 use lib.Count.{ones, ones-step, ones-le}
 use Rattle.standard.specs.Bytes.{_!_, _⊕_, table, part, xors, zeros, bytesOf, same, Bytes}
-use Rattle.standard.specs.Diffusion.{flipped, bitsSet, change, recordChanges, total, least, greatest, tally, diffusionCall, Figures, DiffusionHolds}
+use Rattle.standard.specs.Diffusion.{flipped, bitsSet, change, recordChanges, total, least, greatest, tally, diffusionCall}
+use Rattle.standard.specs.DiffusionFacts.{Figures, DiffusionHolds}
 use Rattle.standard.specs.Hurdle.{encrypt, decrypt}
 use Rattle.standard.specs.Lists.{recordAt, each, lengthTests}
 use Rattle.standard.specs.Refusals.{first}

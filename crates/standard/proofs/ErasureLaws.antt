@@ -7,7 +7,7 @@ use Rattle.standard.proofs.Prelude.{drop, take-at, drop-at, eqb-true, e
 use mathlib.Core.Bool.{_||_}
 use borrow.Author.Tests.{leb-false}
 use Rattle.standard.specs.Bytes.{_!_, _⊕_, choose}
-use Rattle.standard.specs.Cards.{OnlyOne, None, Several}
+use Rattle.standard.specs.CardsFacts.{OnlyOne, None, Several}
 use Rattle.standard.proofs.XorLaws.{xor-assoc, xor-cancel-r, xor-byte}
 
 -- ---- a group: for each byte whether it is unreadable, and the byte

@@ -10,17 +10,21 @@ use Rattle.standard.specs.Classes.{classRecord, ta12ClassCall}
 use Rattle.standard.specs.Cores.{bl1With, bl1}
 use Rattle.standard.specs.Derivation.{core, ta11, ta21, ta41, chosen, ta12Call, sidesTest, ring, haveLengths, ringCall}
 use Rattle.standard.specs.Expansions.{inserted, expected, exp3Groups}
-use Rattle.standard.specs.Facts.{BothSides, OneSide, IdleChallenge, SingleCalls, SameBooks, SameChecks}
-use Rattle.standard.specs.Facts.{groupsOf, checkCount, openedBy, flagClear, flagFault}
-use Rattle.standard.specs.Facts.{OrIsFlag, ChecksBits, FailedChecks, FlagIsNonzero, OrIsZero}
+use Rattle.standard.specs.DerivationFacts.{BothSides, OneSide, IdleChallenge}
+use Rattle.standard.specs.ClassesFacts.{SingleCalls}
+use Rattle.standard.specs.BooksFacts.{SameBooks, SameChecks}
+use Rattle.standard.specs.SealsFacts.{groupsOf, checkCount, openedBy, flagClear}
+use Rattle.standard.specs.BooksFacts.{flagFault}
+use Rattle.standard.specs.SealsFacts.{OrIsFlag, FailedChecks, FlagIsNonzero}
 use Rattle.standard.specs.Lists.{recordAt, each, lengthTests, listTests, recordsCall}
 use Rattle.standard.specs.Mixing.{tb4, tb7}
 use Rattle.standard.specs.Refusals.{wrongLength, hasLength, maskTests, first, ringMade}
-use Rattle.standard.specs.Seals.{checks, failed, clear, sealingSize, formOf, form, opened, fails, unsealCall, ta52Call}
+use Rattle.standard.specs.Seals.{checks, failed, clear, orOf, sealingSize, formOf, form, opened, fails, unsealCall, ta52Call}
 use Rattle.standard.specs.Sizes.{plainSize, sealedSize, challengeSize, authenticationSize}
 use Rattle.standard.specs.declared.Algorithm.{Algorithm}
 use Rattle.standard.specs.declared.Algorithm.the-variants.{Ta31, Ta51, Ta81, Ta91}
 use Rattle.standard.specs.declared.Authentication.{Authentication}
+use Rattle.standard.specs.declared.Kind.{Kind}
 use Rattle.standard.specs.declared.Version.{Version}
 use Rattle.standard.proofs.AnswerLaws.{is-accepted, accepted, answer-alike}
 use Rattle.standard.proofs.BookLaws.{joined-front}
@@ -180,6 +184,11 @@ one-where b x y e = go (eqb x y) refl e
     go true z h = (λ o. absurd (suc-ne-zero 0 (sym o ∙ h)), λ n. absurd (n (eqb-true x y z)))
     go false z h = (λ o. eqb-false x y z, λ n. h)
 
+-- of every kind and every output of BL2: bit i is 1 exactly if check i fails, and no other bit is set
+pub record ChecksBits : Type 0 where
+  pub bits : (k : Kind) (u : List ℕ) (i : ℕ) → i < length (checks (form k) u) → (bit i (failed (form k) u) ≡ 1) ↔ (checks (form k) u ! i ≡ 0 → ⊥)
+  pub below : (k : Kind) (u : List ℕ) → failed (form k) u < 2 ^ length (checks (form k) u)
+
 pub checks-bits : ChecksBits
 checks-bits = record {
   bits = λ k u i h. one-where _ (checks (form k) u ! i) 0 (failed-bit (checks (form k) u) i h);
@@ -259,6 +268,10 @@ flag-is-nonzero k s v t =
     let u = opened (form k .key s v) t in
     let e = flag-same (k .algorithm) u in
     (λ z. sym e ∙ eq-eqb _ 0 z, λ c. eqb-true _ 0 (e ∙ c))
+
+-- the or of the checks is 0 exactly if the number is
+abbrev pub OrIsZero : Type 0
+OrIsZero = (k : Kind) (s v t : List ℕ) → (orOf (form k) (opened (form k .key s v) t) ≡ 0) ↔ (fails (form k) s v t ≡ 0)
 
 pub or-is-zero : OrIsZero
 unfolding fails

@@ -8,7 +8,8 @@ use native.Mathlib.Nat.{add-assoc, zero-mul, mul-one, mul-assoc, mod-one}
 use lib.ListN.{replicate}
 use lib.Pow.{shr-shr, split, high, low, mod-pow-add}
 use Rattle.standard.specs.Bytes.{_!_, _⊕_, part, xors, bytesOf, numberOn, number, same}
-use Rattle.standard.specs.Inverses.{field, tb1⁻¹Call, tb3⁻¹Call, tb5⁻¹Call, tb6⁻¹Call, FindsOnly, FindsTb1, FindsTb3, FindsTb5, FindsTb6}
+use Rattle.standard.specs.Inverses.{field, tb1⁻¹Call, tb3⁻¹Call, tb5⁻¹Call, tb6⁻¹Call}
+use Rattle.standard.specs.InversesFacts.{FindsOnly, FindsTb1, FindsTb3, FindsTb5, FindsTb6}
 use Rattle.standard.specs.Mixing.{joinOn, join, tb1, tb3, tb5, tb6}
 use Rattle.standard.specs.Refusals.{noInput, first}
 use Rattle.standard.proofs.BytesLaws.{table-same, table-at, same-eq, same-refl}

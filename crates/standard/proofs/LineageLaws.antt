@@ -5,7 +5,7 @@ use Rattle.standard.proofs.Prelude.{length, drop, eqb-false, ne-eqb, lt
 use Rattle.standard.specs.Bytes.{part, choose}
 use Rattle.standard.specs.Lineage.{operation, parent1, parent2, derivedFilled, parentTests, lineageFault}
 use Rattle.standard.specs.Lineage.{derived, valueFrom, valueWithin, valueOf, lineageCall}
-use Rattle.standard.specs.Lineage.{WithParents, LineageLaw, Ancestor, itself, by-first, by-second, AncestorLaw, LineageSound}
+use Rattle.standard.specs.LineageFacts.{Ancestor, itself, by-first, by-second, AncestorLaw, LineageSound}
 use Rattle.standard.specs.Lists.{recordAt, joined, listTests, recordsCall}
 use Rattle.standard.specs.Refusals.{wrongFilling, first}
 use Rattle.standard.specs.Sizes.{sheetSize, valueSize}
@@ -13,6 +13,11 @@ use Rattle.standard.proofs.AnswerLaws.{is-accepted, accepted}
 use Rattle.standard.proofs.BookLaws.{joined-front}
 use Rattle.standard.proofs.BytesLaws.{and-split}
 use Rattle.standard.proofs.FirstLaws.{all-pass}
+
+-- the set A of indexes has with each record of s its parents, where the record has any
+abbrev pub WithParents : List ℕ → (ℕ → Type 0) → Type 0
+WithParents s A =
+    (i : ℕ) → A i → let p = recordAt sheetSize s i in (operation p ≡ 0 → ⊥) → A (parent1 p) × A (parent2 p)
 
 -- a given key has no parents to look at
 pub from-same : (p a b c d : List ℕ) → ((operation p ≡ 0 → ⊥) → (a ≡ c) × (b ≡ d)) → valueFrom p a b ≡ valueFrom p c d
@@ -114,6 +119,14 @@ module _ (s out : List ℕ) (z : lineageCall s out .0 .refusal ≡ 0) where
       (λ e.
       let q = parents-before s i (tested .1 i h) e in
       (sym (written-value _ (omega (arith, q .0))), sym (written-value _ (omega (arith, q .1)))))
+
+-- a value is defined by the record's ancestry alone: where two accepted sheets agree on a set of records with their parents, each of
+-- these has the same value in both, and both calls write the same bytes for it
+abbrev pub LineageLaw : Type 1
+LineageLaw = (s t out₁ out₂ : List ℕ) → lineageCall s out₁ .0 .refusal ≡ 0 → lineageCall t out₂ .0 .refusal ≡ 0
+    → (A : ℕ → Type 0) → WithParents s A → ((i : ℕ) → A i → recordAt sheetSize s i ≡ recordAt sheetSize t i)
+    → (i : ℕ) → A i → i < length s / sheetSize → i < length t / sheetSize
+    → (valueOf s i ≡ valueOf t i) × (recordAt valueSize (lineageCall s out₁ .1) i ≡ recordAt valueSize (lineageCall t out₂ .1) i)
 
 pub lineage-law : LineageLaw
 lineage-law s t out₁ out₂ y z A closed agree i a h k =

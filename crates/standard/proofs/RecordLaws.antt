@@ -2,7 +2,8 @@
 -- Assumes nothing.
 use Rattle.standard.proofs.Prelude.{_≡_, refl, sym, _∙_, Bool, true, false, _&&_, List, [], _∷_, ℕ, eqb}
 use Rattle.standard.specs.Books.{sealingKey, commonKey, isKnown, recordKind, plainFault, sealRecord, openFault, openRecord}
-use Rattle.standard.specs.Bytes.{_!_, part, choose, Bytes, Passed}
+use Rattle.standard.specs.Bytes.{_!_, part, choose, Bytes}
+use Rattle.standard.proofs.BytesLaws.{Passed}
 use Rattle.standard.specs.Identity.{ta61, ta61⁻¹}
 use Rattle.standard.specs.Refusals.{wrongKind, flagSet, first}
 use Rattle.standard.specs.Seals.{kindOf, form, seal, unseal, clears}

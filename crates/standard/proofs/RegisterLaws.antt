@@ -5,7 +5,7 @@ use Rattle.standard.proofs.Prelude.{add-suc, mod-eq-of-lt, arith, xor-z
 use Rattle.standard.specs.Bytes.{_!_, _⊕_, part, xors, zeros}
 use Rattle.standard.specs.Hurdle.{Halves, round, rounds, crypt, D, a, rotl, Q, schedule, roundKey, encrypt, decrypt}
 use Rattle.standard.specs.Register.{step, stepBack, turned, State, start, onward, backward, encryptRegister, decryptRegister}
-use Rattle.standard.specs.Register.{StepBack, Returns, KeyAgain, BeginsAnew, SameCipher}
+use Rattle.standard.specs.RegisterFacts.{StepBack, Returns, KeyAgain, BeginsAnew, SameCipher}
 use Rattle.standard.specs.Tables.{runningSum, turn}
 use Rattle.standard.proofs.BytesLaws.{table-at, table-same, spelled, every-at}
 use Rattle.standard.proofs.ScheduleLaws.{Q-linear, round-key}

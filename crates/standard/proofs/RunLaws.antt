@@ -6,8 +6,9 @@ use Rattle.standard.specs.Books.{Conversion, sealing, opening, sealingKe
 use Rattle.standard.specs.Bytes.{_!_, part, choose}
 use Rattle.standard.specs.Lists.{recordAt, firstFault, refused, answer, recordsCall}
 use Rattle.standard.specs.Refusals.{wrongKind, flagSet, first}
-use Rattle.standard.specs.RunFacts.{SealRuns, OpenRuns, RefusedRuns}
-use Rattle.standard.specs.Runs.{textRuns, firstPass, secondPass, callRuns, acceptedRuns}
+use Rattle.standard.specs.RunsFacts.{SealRuns, OpenRuns, RefusedRuns}
+use Rattle.standard.specs.Runs.{textRuns, firstPass, secondPass, callRuns}
+use Rattle.standard.specs.RunsFacts.{acceptedRuns}
 use Rattle.standard.specs.Seals.{kindOf, form, clears}
 use Rattle.standard.specs.Sizes.{sealedSize}
 use Rattle.standard.specs.declared.BookAnswer.{BookAnswer}

@@ -3,7 +3,8 @@
 -- Assumes nothing.
 use Rattle.standard.proofs.Prelude.{_≡_, refl, sym, ap, _∙_, Bool, _&&_, List, [], _∷_, _++_, ℕ, _/_, _%_, _≤_, _<_, mod-eq-of-lt, arith, eqb}
 use Rattle.standard.proofs.Prelude.{leb, eqb-true, leb-true, le-leb}
-use Rattle.standard.specs.Bytes.{_!_, part, same, choose, Passed}
+use Rattle.standard.specs.Bytes.{_!_, part, same, choose}
+use Rattle.standard.proofs.BytesLaws.{Passed}
 use Rattle.standard.specs.Cores.{bl1}
 use Rattle.standard.specs.Expansions.{grouped, inserted, expected, exp1Groups, exp3Groups, x16Groups}
 use Rattle.standard.specs.Seals.{Form, clear, form31, form51, form81, formOf, without8, sealed, opened, seal, unseal, fails, clears}

@@ -9,8 +9,8 @@ use Rattle.standard.specs.Books.{sealRecord, openRecord, WellFormed, sea
 use Rattle.standard.specs.Bytes.{_!_, Bytes}
 use Rattle.standard.specs.Lists.{recordAt, each, answer, recordsCall}
 use Rattle.standard.specs.Refusals.{bookTooLong}
-use Rattle.standard.specs.Runs.{acceptedRuns}
-use Rattle.standard.specs.Shuffles.{Reordering, reordered, Shuffled, Joined, NoReordering, TooManyJoined}
+use Rattle.standard.specs.RunsFacts.{acceptedRuns}
+use Rattle.standard.specs.ShufflesFacts.{Reordering, reordered, Shuffled, Joined, NoReordering, TooManyJoined}
 use Rattle.standard.specs.Sizes.{ringSize, plainSize, sealedSize, mostRecords}
 use Rattle.standard.proofs.AnswerLaws.{call-accepts}
 use Rattle.standard.proofs.BookLaws.{Book, joined-same, joined-add, joined-bytes, joined-at, each-at, each-self, mapped-length}

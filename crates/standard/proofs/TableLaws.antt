@@ -6,7 +6,7 @@ use lib.Seq.{getD-set-same, getD-set-other}
 use Rattle.standard.specs.Bytes.{_!_, part}
 use Rattle.standard.specs.Hurdle.{S, S⁻¹, a}
 use Rattle.standard.specs.Tables.{placeOf, inverse, runningSum, rotations, spaced, tableLine, tableLines, tablesText}
-use Rattle.standard.specs.Tables.{InverseMade, Rotations, LastLine}
+use Rattle.standard.specs.TablesFacts.{InverseMade, Rotations, LastLine}
 use Rattle.standard.specs.Text.{hexDigit}
 use Rattle.standard.proofs.BookLaws.{length-each}
 use Rattle.standard.proofs.BytesLaws.{table-same, spelled, and-split, every-at}

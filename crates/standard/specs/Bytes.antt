@@ -84,8 +84,3 @@ choose false a b = b
 pub record Bytes (n : ℕ) (xs : List ℕ) : Type 0 where
   pub len : length xs ≡ n
   pub bound : (i : ℕ) → xs ! i < 256
-
--- a string of n bytes that passes a test
-pub record Passed (n : ℕ) (ok : List ℕ → Bool) (xs : List ℕ) : Type 0 where
-  pub bytes : Bytes n xs
-  pub passed : ok xs ≡ true

@@ -1,12 +1,11 @@
 -- The diffusion tally (02, 12): how many output bits of HURDLE-II change when one bit of the block is flipped.
 -- Assumes nothing.
 use mathlib.Core.List.{List, [], _∷_, foldl}
-use mathlib.Core.Path.{_≡_}
-use Prim.Native.Nat.{ℕ, _+_, _*_, _/_, _^_, _<_, _≤_, min, max}
+use Prim.Native.Nat.{ℕ, _+_, _/_, _^_, min, max}
 use lib.Count.{ones}
 use lib.Dec.{eqb}
 use lib.ListN.{length}
-use Rattle.standard.specs.Bytes.{_!_, table, part, xors, bytesOf, choose}
+use Rattle.standard.specs.Bytes.{table, part, xors, bytesOf, choose}
 use Rattle.standard.specs.Hurdle.{encrypt}
 use Rattle.standard.specs.Lists.{each, lengthTests}
 use Rattle.standard.specs.Refusals.{first}
@@ -56,22 +55,3 @@ tally r cs = record { refusal = r; flips = length cs; total = total cs; least = 
 -- refusals 1 and 2; a refused list has no changes
 unfoldable pub diffusionCall : List ℕ → Tally
 diffusionCall xs = let r = first (lengthTests diffusionSize (length xs)) in tally r (choose (eqb r 0) (changes xs) [])
-
--- ---- what the request asks of the figures, stated. The proofs are in proofs/DiffusionLaws
-
--- of the answer to n records that are accepted
-pub record Figures (n : ℕ) (t : Tally) : Type 0 where
-  pub flips : t .flips ≡ 64 * n
-  pub least-is-one : 1 ≤ n → 1 ≤ t .least
-  pub ordered : t .least ≤ t .greatest
-  pub most : t .greatest ≤ 64
-  pub above : t .flips * t .least ≤ t .total
-  pub below : t .total ≤ t .flips * t .greatest
-
-pub record DiffusionHolds : Type 0 where
-  pub none : diffusionCall [] ≡ record { refusal = 0; flips = 0; total = 0; least = 0; greatest = 0 }
-  pub refused : (xs : List ℕ) → (diffusionCall xs .refusal ≡ 0 → ⊥)
-      → diffusionCall xs ≡ record { refusal = diffusionCall xs .refusal; flips = 0; total = 0; least = 0; greatest = 0 }
-  -- whatever bytes are handed in
-  pub accepted : (xs : List ℕ) → ((i : ℕ) → xs ! i < 256) → diffusionCall xs .refusal ≡ 0
-      → Figures (length xs / diffusionSize) (diffusionCall xs)

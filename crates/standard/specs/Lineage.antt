@@ -2,8 +2,7 @@
 -- Assumes nothing.
 use mathlib.Core.Bool.{Bool, _&&_, _||_}
 use mathlib.Core.List.{List, [], _∷_}
-use mathlib.Core.Path.{_≡_}
-use Prim.Native.Nat.{ℕ, zero, suc, _+_, _*_, _/_, _<_}
+use Prim.Native.Nat.{ℕ, zero, suc, _+_, _*_, _/_}
 use lib.Dec.{eqb, leb, ltb}
 use lib.ListN.{length}
 use Rattle.standard.specs.Bytes.{_!_, part, zeros, same, choose}
@@ -91,38 +90,3 @@ unfoldable pub lineageCall : (s out : List ℕ) → BookAnswer × List ℕ
 lineageCall s out =
     let n = length s / sheetSize in
     recordsCall (listTests sheetSize valueSize (length s) (length out)) n (lineageFault s) valueSize (joined n (valueOf s)) out
-
--- ---- facts
-
--- the set A of indexes has with each record of s its parents, where the record has any
-abbrev pub WithParents : List ℕ → (ℕ → Type 0) → Type 0
-WithParents s A =
-    (i : ℕ) → A i → let p = recordAt sheetSize s i in (operation p ≡ 0 → ⊥) → A (parent1 p) × A (parent2 p)
-
--- a value is defined by the record's ancestry alone: where two accepted sheets agree on a set of records with their parents, each of
--- these has the same value in both, and both calls write the same bytes for it
-abbrev pub LineageLaw : Type 1
-LineageLaw = (s t out₁ out₂ : List ℕ) → lineageCall s out₁ .0 .refusal ≡ 0 → lineageCall t out₂ .0 .refusal ≡ 0
-    → (A : ℕ → Type 0) → WithParents s A → ((i : ℕ) → A i → recordAt sheetSize s i ≡ recordAt sheetSize t i)
-    → (i : ℕ) → A i → i < length s / sheetSize → i < length t / sheetSize
-    → (valueOf s i ≡ valueOf t i) × (recordAt valueSize (lineageCall s out₁ .1) i ≡ recordAt valueSize (lineageCall t out₂ .1) i)
-
--- record i of s and its ancestors: itself, and with each of them that has parents its first and its second
-pub data Ancestor (s : List ℕ) (i : ℕ) : ℕ → Type 0 where
-  itself : Ancestor s i i
-  by-first : (j : ℕ) → Ancestor s i j → (operation (recordAt sheetSize s j) ≡ 0 → ⊥) → Ancestor s i (parent1 (recordAt sheetSize s j))
-  by-second : (j : ℕ) → Ancestor s i j → (operation (recordAt sheetSize s j) ≡ 0 → ⊥) → Ancestor s i (parent2 (recordAt sheetSize s j))
-
--- so where two accepted sheets have the same record i, and the same records at the indexes of its ancestors, both calls write the same value for it
-abbrev pub AncestorLaw : Type 0
-AncestorLaw = (s t out₁ out₂ : List ℕ) → lineageCall s out₁ .0 .refusal ≡ 0 → lineageCall t out₂ .0 .refusal ≡ 0
-    → (i : ℕ) → i < length s / sheetSize → i < length t / sheetSize
-    → ((j : ℕ) → Ancestor s i j → recordAt sheetSize s j ≡ recordAt sheetSize t j)
-    → (valueOf s i ≡ valueOf t i) × (recordAt valueSize (lineageCall s out₁ .1) i ≡ recordAt valueSize (lineageCall t out₂ .1) i)
-
--- in an accepted sheet, what is written for a record is its operation's value of what is written for its parents
-abbrev pub LineageSound : Type 0
-LineageSound = (s out : List ℕ) → lineageCall s out .0 .refusal ≡ 0 → (i : ℕ) → i < length s / sheetSize
-    → let p = recordAt sheetSize s i in
-    let value = recordAt valueSize (lineageCall s out .1) in
-    value i ≡ valueFrom p (value (parent1 p)) (value (parent2 p))

@@ -1,7 +1,7 @@
 -- The listing of a plain book (01, Program plainlist): the bytes that plainlist prints.
 -- Assumes nothing.
 use mathlib.Core.List.{List, _++_}
-use Prim.Native.Nat.{ℕ, _+_, _*_, _/_, _≤_}
+use Prim.Native.Nat.{ℕ, _+_, _*_, _/_}
 use lib.Dec.{eqb}
 use lib.ListN.{length, drop}
 use Rattle.standard.specs.Books.{recordKind, checkPlain}
@@ -56,7 +56,3 @@ listingRoom = 164000
 -- the call, into an output of so many bytes: the listing's length, and the listing over the front of the output
 abbrev pub listCall : List ℕ → List ℕ → ℕ × List ℕ
 listCall p out = (length (listing p), listing p ++ drop (length (listing p)) out)
-
--- no listing is longer, whatever bytes are read as a book; the proof is in crates/plain_listing/proofs/ListLaws
-abbrev pub ListingFits : Type 0
-ListingFits = (p : List ℕ) → length (listing p) ≤ listingRoom

@@ -1,11 +1,9 @@
 -- The key schedule in sixteen bytes (02, 7): one register, which starts as the key and steps from round to round until the key is back.
 -- Assumes nothing.
 use mathlib.Core.List.{List, [], _∷_, _++_}
-use mathlib.Core.Path.{_≡_}
-use Prim.Native.Nat.{ℕ, zero, suc, _-_, _%_, _<_}
-use lib.ListN.{length}
+use Prim.Native.Nat.{ℕ, zero, suc, _-_, _%_}
 use Rattle.standard.specs.Bytes.{_!_, part, xors}
-use Rattle.standard.specs.Hurdle.{Halves, round, D, a, rotl, next, encrypt, decrypt}
+use Rattle.standard.specs.Hurdle.{Halves, round, D, a, rotl, next}
 use Rattle.standard.specs.Refusals.{wrongLength, hasLength, first, answer16}
 use Rattle.standard.specs.declared.Bytes16.{Bytes16}
 
@@ -65,28 +63,3 @@ decryptRegister key b = joined (backward 16 (start key b))
 
 unfoldable pub registerCall : List ℕ → ℕ → Bytes16
 registerCall key n = answer16 (first ((hasLength 16 key, wrongLength) ∷ [])) (turned key n)
-
--- ---- what the request asks for, stated; the proofs are in proofs/RegisterLaws
-
--- each of step and step back undoes the other, in each round
-pub record StepBack : Type 0 where
-  pub undone : (i : ℕ) (q : List ℕ) → i < 16 → length q ≡ 16 → stepBack i (step i q) ≡ q
-  pub redone : (i : ℕ) (q : List ℕ) → i < 16 → length q ≡ 16 → step i (stepBack i q) ≡ q
-
--- sixteen steps lead back to the key
-abbrev pub Returns : Type 0
-Returns = (key : List ℕ) → length key ≡ 16 → turned key 16 ≡ key
-
--- and so does the cipher's own register, after the sixteen rounds of encryption and after those of decryption
-pub record KeyAgain : Type 0 where
-  pub encrypting : (key b : List ℕ) → length key ≡ 16 → onward 16 (start key b) .register ≡ key
-  pub decrypting : (key b : List ℕ) → length key ≡ 16 → backward 16 (start key b) .register ≡ key
-
--- n steps are those of n modulo 16
-abbrev pub BeginsAnew : Type 0
-BeginsAnew = (key : List ℕ) (n : ℕ) → length key ≡ 16 → turned key n ≡ turned key (n % 16)
-
--- either form gives what the other gives, for every block under every key
-pub record SameCipher : Type 0 where
-  pub encrypting : (key b : List ℕ) → encryptRegister key b ≡ encrypt key b
-  pub decrypting : (key b : List ℕ) → length key ≡ 16 → decryptRegister key b ≡ decrypt key b

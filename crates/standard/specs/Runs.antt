@@ -28,7 +28,3 @@ secondPass n = choose (eqb n 0) 0 identityRuns + textRuns * n
 abbrev pub callRuns : (head n : ℕ) (fault inspection : ℕ → ℕ) → ℕ
 callRuns head n fault inspection =
     choose (eqb head 0) (firstPass n fault inspection + choose (eqb (firstFault n fault) n) (secondPass n) 0) 0
-
--- An accepted book of n records that takes k runs for each of them, and one for the identity strings; the empty book takes none.
-abbrev pub acceptedRuns : (k n : ℕ) → ℕ
-acceptedRuns k n = choose (eqb n 0) 0 (1 + k * n)

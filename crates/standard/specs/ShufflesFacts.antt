@@ -1,14 +1,14 @@
 -- Shuffled and joined books (02, 14), stated. The proofs are in proofs/ShuffleLaws.
 -- Assumes nothing.
-use mathlib.Core.List.{List, [], _∷_, _++_}
+use mathlib.Core.List.{List, _++_}
 use mathlib.Core.Path.{_≡_}
-use Prim.Native.Nat.{ℕ, suc, _+_, _*_, _/_, _<_, _≤_}
+use Prim.Native.Nat.{ℕ, _+_, _*_, _/_, _<_, _≤_}
 use lib.ListN.{length, drop}
 use Rattle.standard.specs.Books.{WellFormed, sealedForm, sealBook, openBook}
-use Rattle.standard.specs.Bytes.{table, zeros, Bytes}
+use Rattle.standard.specs.Bytes.{Bytes}
 use Rattle.standard.specs.Lists.{recordAt, joined}
-use Rattle.standard.specs.Refusals.{bookTooLong, flagSet}
-use Rattle.standard.specs.Runs.{acceptedRuns}
+use Rattle.standard.specs.Refusals.{bookTooLong}
+use Rattle.standard.specs.RunsFacts.{acceptedRuns}
 use Rattle.standard.specs.Sizes.{ringSize, plainSize, sealedSize, mostRecords}
 
 -- ---- records in another order
@@ -83,19 +83,3 @@ TooManyJoined = (r : List ℕ) → Bytes ringSize r → (p q : List ℕ) → Wel
     → mostRecords < length p / plainSize + length q / plainSize → (out : List ℕ)
     → (sealBook r (p ++ q) out ≡ (record { refusal = bookTooLong; index = 0; written = 0; runs = 0 }, out))
     × (openBook r (sealedForm r p ++ sealedForm r q) out ≡ (record { refusal = bookTooLong; index = 0; written = 0; runs = 0 }, out))
-
--- a record under one ring and a record under another are no book under the first: an example, with a record of kind 1 under a ring of
--- zeros and under one of other bytes
-abbrev pub oneRecord : List ℕ
-oneRecord = 1 ∷ zeros 17
-
-abbrev pub oneRing : List ℕ
-oneRing = zeros ringSize
-
-abbrev pub otherRing : List ℕ
-otherRing = table ringSize suc
-
-abbrev pub TwoRingsJoined : Type 0
-TwoRingsJoined =
-    openBook oneRing (sealedForm oneRing oneRecord ++ sealedForm otherRing oneRecord) (zeros 36)
-    ≡ (record { refusal = flagSet; index = 1; written = 0; runs = 4 }, zeros 36)

@@ -3,12 +3,17 @@
 use mathlib.Core.List.{List}
 use mathlib.Core.Path.{_≡_}
 use Prim.Native.Nat.{ℕ, _+_, _*_, _/_, _≤_}
+use lib.Dec.{eqb}
 use lib.ListN.{length}
 use Rattle.standard.specs.Books.{sealBook, openBook}
+use Rattle.standard.specs.Bytes.{choose}
 use Rattle.standard.specs.Refusals.{wrongKind, flagSet}
-use Rattle.standard.specs.Runs.{acceptedRuns}
 use Rattle.standard.specs.Sizes.{plainSize, sealedSize}
 use Rattle.standard.specs.declared.CountedAnswer.{CountedAnswer}
+
+-- An accepted book of n records that takes k runs for each of them, and one for the identity strings; the empty book takes none.
+abbrev pub acceptedRuns : (k n : ℕ) → ℕ
+acceptedRuns k n = choose (eqb n 0) 0 (1 + k * n)
 
 -- sealing n records: 1 + 2n if they are accepted, 0 if n is 0 or the book is refused; never more than 1 + 2n
 pub record SealRuns : Type 0 where
