@@ -1,24 +1,24 @@
 -- Sealing and opening, in the terms of the definitions.
 -- Assumes nothing.
-use Rattle.standard.proofs.Prelude.{_≡_, refl, ap, ap₂, _∙_, Bool, true, false, List, ℕ, _+_, _-_, _*_, _≤_, _<_, arith, eqb, length, take, drop}
+use Rattle.standard.proofs.Prelude.{_≡_, refl, Bool, true, false, List, ℕ, _+_, _-_, _*_, _≤_, _<_, add-zero, arith, eqb, length, take, drop}
 use Rattle.cores.specs.CoreOutputs.{counted15}
 use Rattle.cores.specs.declared.CoreOutput15.{CoreOutput15}
+use Rattle.cores_x4.specs.Lanes.{lane15}
+use Rattle.hurdle.specs.Lanes.{lanes, lane, byLane}
 use Rattle.lists.proofs.WalkLaws.{end-fits, first-fit, lent, Wrote, wrote-none, wrote-one, wrote-from}
-use Rattle.lists.specs.Walks.{after, replaceAt, replaceFrom}
-use Rattle.records.specs.RecordForms.{coreKey, plainInput, sealedWith, openedWith}
+use Rattle.lists.specs.Walks.{replaceAt, replaceFrom}
+use Rattle.records.specs.RecordForms.{sealedWith, openedWith}
 use Rattle.standard.proofs.AnswerLaws.{pass-most}
 use Rattle.standard.proofs.RunLaws.{inspection-most}
-use Rattle.standard.specs.Books.{commonKey, sealRecord, openRecord}
+use Rattle.standard.specs.Books.{commonKey, recordKind, sealRecord, openRecord}
 use Rattle.standard.specs.Bytes.{choose}
 use Rattle.standard.specs.Identity.{bc}
 use Rattle.standard.specs.Lists.{recordAt, each}
 use Rattle.standard.specs.Runs.{firstPass, secondPass}
 use Rattle.standard.specs.Seals.{seal, sealed, unseal, opened}
-use Rattle.hurdle.specs.Lanes.{lanes}
-use Rattle.texts.specs.OpenedTexts.{inputLane}
-use Rattle.texts.specs.declared.text_core.CoreInput.{CoreInput}
+use Rattle.standard.specs.declared.Kind.{Kind}
 use Rattle.books.specs.BothDirections.{sizeOf, outputSizeOf, faultAt, inspectionOf, inspectionAt, recordOf}
-use Rattle.books.specs.BothDirections.{inputOf, inputAt, coreOf, madeOf, convertOf, convertAt}
+use Rattle.books.specs.BothDirections.{kindLane, keyOf, inputOf, coreOf, madeOf, convertOf, convertAt}
 use Rattle.books.specs.declared.direction.Direction.{Direction}
 use Rattle.books.specs.declared.direction.Direction.the-variants.{Sealing, Opening}
 
@@ -63,34 +63,29 @@ both-fit r d xs n size h = go (eqb n 0)
     go true = omega (arith, inspections-few r d xs n, runs-fit d n size h)
     go false = omega (arith, inspections-few r d xs n, runs-fit d n size h)
 
-pub made-length : (d : Direction) (b x o : List ℕ) → length (madeOf d b x o) ≡ outputSizeOf d
+pub made-length : (d : Direction) (k : Kind) (b x o : List ℕ) → length (madeOf d k b x o) ≡ outputSizeOf d
 unfolding sealedWith openedWith
-made-length Sealing b x o = refl
-made-length Opening b x o = refl
+made-length Sealing k b x o = refl
+made-length Opening k b x o = refl
 
-pub same-input : {c : CoreInput} {k x : List ℕ} → c .key ≡ k → c .input ≡ x → c ≡ record { key = k; input = x }
-same-input ek ex = ap₂ input ek ex
-  where
-    input : (k x : List ℕ) → CoreInput
-    input k x = record { key = k; input = x }
-
--- what the core takes of a record, the core, and what is made of its output; then the cores of four
-pub converted-by : (d : Direction) (r b x : List ℕ) {c : CoreInput} {o : CoreOutput15} → c ≡ inputOf r d x → o ≡ counted15 (coreOf d c)
-    → madeOf d b x (o .output) ≡ convertOf r b d x
-converted-by d r b x ec eo =
-    ap (λ (o : CoreOutput15). madeOf d b x (o .output)) (eo ∙ ap (λ (c : CoreInput). counted15 (coreOf d c)) ec)
-
-pub cores-by : (d : Direction) (r xs : List ℕ) (i : ℕ) {c : List CoreInput} {o : List CoreOutput15} → c ≡ lanes (λ j. inputAt r d xs (after i j))
-    → o ≡ lanes (λ j. counted15 (coreOf d (inputLane c j))) → o ≡ lanes (λ j. counted15 (coreOf d (inputAt r d xs (after i j))))
-cores-by d r xs i ec eo = eo ∙ ap (λ (c : List CoreInput). lanes (λ j. counted15 (coreOf d (inputLane c j)))) ec
+-- four records, their kinds, keys, inputs and cores: what is made of them in each lane
+pub converted-lanes : (d : Direction) (r b xs : List ℕ) (i : ℕ) {x₀ x₁ x₂ x₃ : List ℕ} {kinds : List Kind} {keys inputs : List (List ℕ)}
+    {o : List CoreOutput15} → x₀ ≡ recordAt (sizeOf d) xs i → x₁ ≡ recordAt (sizeOf d) xs (i + 1) → x₂ ≡ recordAt (sizeOf d) xs (i + 2)
+    → x₃ ≡ recordAt (sizeOf d) xs (i + 3) → kinds ≡ lanes (λ j. recordKind (byLane x₀ x₁ x₂ x₃ j))
+    → keys ≡ lanes (λ j. keyOf r (kindLane kinds j) (byLane x₀ x₁ x₂ x₃ j))
+    → inputs ≡ lanes (λ j. inputOf d (kindLane kinds j) (byLane x₀ x₁ x₂ x₃ j))
+    → o ≡ lanes (λ j. counted15 (coreOf d (lane keys j) (lane inputs j))) → (out : List ℕ)
+    → replaceFrom (outputSizeOf d) i (λ j. madeOf d (kindLane kinds j) b (recordAt (sizeOf d) xs (i + j)) (lane15 o j .output)) 4 out
+    ≡ replaceFrom (outputSizeOf d) i (λ j. convertAt r b d xs (i + j)) 4 out
+converted-lanes d r b xs i e₀ e₁ e₂ e₃ k key input core out = rw (core, input, key, k, e₀, e₁, e₂, e₃, add-zero)
 
 pub converted-length : (r b : List ℕ) (d : Direction) (x : List ℕ) → length (convertOf r b d x) ≡ outputSizeOf d
-converted-length r b d x = made-length d b x _
+converted-length r b d x = made-length d _ b x _
 
 -- from the cipher run of the ring's common key they are the records of the definitions
 pub converted-is : (r : List ℕ) (d : Direction) (n : ℕ) (xs : List ℕ)
     → each n (sizeOf d) (convertOf r (bc (commonKey r)) d) xs ≡ each n (sizeOf d) (recordOf r d) xs
-unfolding coreKey plainInput sealedWith openedWith sealRecord openRecord seal sealed unseal opened
+unfolding sealedWith openedWith sealRecord openRecord seal sealed unseal opened
 converted-is r Sealing n xs = refl
 converted-is r Opening n xs = refl
 

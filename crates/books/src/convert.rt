@@ -1,15 +1,17 @@
-// What a record becomes: what the core takes of it, the core, and what is made of the core's output. For one record, and for four whose
-// cores run side by side.
+// What a record becomes: its kind, the core's key and input for it, the core, and what is made of the core's output. For one record, and
+// for four whose cores run side by side.
 use crate::direction::Direction;
 use cores::CoreOutput15;
+use cores::bl2;
+use cores_x4::bl2_x4;
+use records::core_key;
+use records::kind_at;
 use records::opening_input;
 use records::sealing_input;
 use records::write_opened;
 use records::write_sealed;
+use standard::Kind;
 use standard::RingBytes;
-use texts::CoreInput;
-use texts::open_core;
-use texts::open_core_x4;
 use texts::seal_core;
 use texts::seal_core_x4;
 ghost use mathlib.Core.List.{_++_};
@@ -18,20 +20,20 @@ ghost use Prim.Native.Nat.{_+_, _*_, _≤_};
 ghost use lib.ListN.{length, take, drop};
 ghost use Rattle.cores.specs.CoreOutputs.{counted15};
 ghost use Rattle.cores_x4.specs.Lanes.{lane15};
-ghost use Rattle.lists.specs.Walks.{after, replaceAt, replaceFrom};
+ghost use Rattle.lists.specs.Walks.{replaceAt, replaceFrom};
+ghost use Rattle.standard.specs.Books.{recordKind};
 ghost use Rattle.standard.specs.Lists.{recordAt};
 ghost use Rattle.standard.specs.Runs.{textRuns};
-ghost use Rattle.hurdle.specs.Lanes.{lanes, eachLane};
-ghost use Rattle.texts.specs.OpenedTexts.{inputLane};
-ghost use Rattle.books.specs.BothDirections.{sizeOf, outputSizeOf, inputOf, inputAt, coreOf, madeOf, convertAt};
+ghost use Rattle.hurdle.specs.Lanes.{lanes, lane, byLane, eachLane};
+ghost use Rattle.books.specs.BothDirections.{sizeOf, outputSizeOf, kindLane, keyOf, inputOf, coreOf, madeOf, convertAt};
 
-// What the core takes of a record.
-fn core_input(direction: Direction, ring: &RingBytes, rec: &[u8]) -> CoreInput
-    ensures { λ c. ⌜ c ≡ inputOf (now (ring .entry)) direction (now (rec .entry)) ⌝ }
+// The core's input for a record of a kind.
+fn core_input(direction: Direction, kind: Kind, rec: &[u8]) -> [u8; 16]
+    ensures { λ x. ⌜ x ≡ inputOf direction kind (now (rec .entry)) ⌝ }
 {
     match direction {
-        Direction::Sealing => sealing_input(ring, rec),
-        Direction::Opening => opening_input(ring, rec),
+        Direction::Sealing => sealing_input(kind, rec),
+        Direction::Opening => opening_input(rec),
     }
 }
 
@@ -45,42 +47,37 @@ pub(crate) fn record_at(direction: Direction, book: &[u8], i: usize) -> &[u8]
     &book[a..a + size]
 }
 
-fn core_input_at(direction: Direction, ring: &RingBytes, book: &[u8], i: usize) -> CoreInput
-    requires { ⌜ sizeOf direction * i + sizeOf direction ≤ length (now book) ⌝ }
-    ensures { λ c. ⌜ c ≡ inputAt (now (ring .entry)) direction (now (book .entry)) i ⌝ }
-{
-    core_input(direction, ring, record_at(direction, book, i))
-}
-
-fn core(direction: Direction, c: CoreInput) -> CoreOutput15
-    ensures { λ o. ⌜ o ≡ counted15 (coreOf direction c) ⌝ }
+fn core(direction: Direction, key: [u8; 16], input: [u8; 16]) -> CoreOutput15
+    ensures { λ o. ⌜ o ≡ counted15 (coreOf direction key input) ⌝ }
 {
     match direction {
-        Direction::Sealing => seal_core(c),
-        Direction::Opening => open_core(c),
+        Direction::Sealing => seal_core(key, input),
+        Direction::Opening => bl2(key, input),
     }
 }
 
 // What is made of the core's output, into the record's own part of the output.
 fn write_record(
     direction: Direction,
+    kind: Kind,
     identity_strings: [u8; 8],
     rec: &[u8],
     o: [u8; 15],
     out: &mut [u8],
 )
     ensures { λ _. ⌜ now (out .exit)
-        ≡ take (length (now (out .entry))) (madeOf direction «identity_strings» (now (rec .entry)) o) ++ drop (outputSizeOf direction) (now (out .entry)) ⌝ }
+        ≡ take (length (now (out .entry))) (madeOf direction kind «identity_strings» (now (rec .entry)) o) ++ drop (outputSizeOf direction) (now (out .entry)) ⌝ }
 {
     match direction {
         Direction::Sealing => write_sealed(identity_strings, rec, o, out),
-        Direction::Opening => write_opened(identity_strings, rec, o, out),
+        Direction::Opening => write_opened(kind, identity_strings, rec, o, out),
     }
 }
 
 // The same for record i, at its place.
 fn write_at(
     direction: Direction,
+    kind: Kind,
     identity_strings: [u8; 8],
     book: &[u8],
     i: usize,
@@ -89,7 +86,7 @@ fn write_at(
 )
     requires { ⌜ (sizeOf direction * i + sizeOf direction ≤ length (now book)) × (outputSizeOf direction * i + outputSizeOf direction ≤ length (now out)) ⌝ }
     ensures { λ _. ⌜ now (out .exit)
-        ≡ replaceAt (outputSizeOf direction) i (madeOf direction «identity_strings» (recordAt (sizeOf direction) (now (book .entry)) i) (o .output))
+        ≡ replaceAt (outputSizeOf direction) i (madeOf direction kind «identity_strings» (recordAt (sizeOf direction) (now (book .entry)) i) (o .output))
         (now (out .entry)) ⌝ }
 {
     let output_size = direction.output_size() as usize;
@@ -97,6 +94,7 @@ fn write_at(
     let output = o.output;
     write_record(
         direction,
+        kind,
         identity_strings,
         record_at(direction, book, i),
         output,
@@ -118,30 +116,67 @@ pub(crate) fn convert_one(
         ≡ replaceAt (outputSizeOf direction) i (convertAt (now (ring .entry)) «identity_strings» direction (now (book .entry)) i) (now (out .entry)))
         × (r ≡ textRuns) ⌝ }
 {
-    let o = core(direction, core_input_at(direction, ring, book, i));
-    write_at(direction, identity_strings, book, i, o, out);
+    let rec = record_at(direction, book, i);
+    let kind = kind_at(rec);
+    let o = core(
+        direction,
+        core_key(kind, ring, rec),
+        core_input(direction, kind, rec),
+    );
+    write_at(direction, kind, identity_strings, book, i, o, out);
     o.runs
 }
 
-// What the cores of records i to i + 3 take.
-fn core_input_at_x4(direction: Direction, ring: &RingBytes, book: &[u8], i: usize) -> [CoreInput; 4]
-    requires { ⌜ sizeOf direction * (i + 4) ≤ length (now book) ⌝ }
-    ensures { λ c. ⌜ c ≡ lanes (λ j. inputAt (now (ring .entry)) direction (now (book .entry)) (after i j)) ⌝ }
+fn kinds_x4(a: &[u8], b: &[u8], c: &[u8], d: &[u8]) -> [Kind; 4]
+    ensures { λ k. ⌜ k ≡ lanes (λ j. recordKind (byLane (now (a .entry)) (now (b .entry)) (now (c .entry)) (now (d .entry)) j)) ⌝ }
+{
+    [kind_at(a), kind_at(b), kind_at(c), kind_at(d)]
+}
+
+fn keys_x4(
+    kinds: [Kind; 4],
+    ring: &RingBytes,
+    a: &[u8],
+    b: &[u8],
+    c: &[u8],
+    d: &[u8],
+) -> [[u8; 16]; 4]
+    ensures { λ k. ⌜ k
+        ≡ lanes (λ j. keyOf (now (ring .entry)) (kindLane kinds j) (byLane (now (a .entry)) (now (b .entry)) (now (c .entry)) (now (d .entry)) j)) ⌝ }
 {
     [
-        core_input_at(direction, ring, book, i),
-        core_input_at(direction, ring, book, i + 1),
-        core_input_at(direction, ring, book, i + 2),
-        core_input_at(direction, ring, book, i + 3),
+        core_key(kinds[0], ring, a),
+        core_key(kinds[1], ring, b),
+        core_key(kinds[2], ring, c),
+        core_key(kinds[3], ring, d),
     ]
 }
 
-fn core_x4(direction: Direction, c: [CoreInput; 4]) -> [CoreOutput15; 4]
-    ensures { λ o. ⌜ o ≡ lanes (λ j. counted15 (coreOf direction (inputLane c j))) ⌝ }
+fn inputs_x4(
+    direction: Direction,
+    kinds: [Kind; 4],
+    a: &[u8],
+    b: &[u8],
+    c: &[u8],
+    d: &[u8],
+) -> [[u8; 16]; 4]
+    ensures { λ x. ⌜ x
+        ≡ lanes (λ j. inputOf direction (kindLane kinds j) (byLane (now (a .entry)) (now (b .entry)) (now (c .entry)) (now (d .entry)) j)) ⌝ }
+{
+    [
+        core_input(direction, kinds[0], a),
+        core_input(direction, kinds[1], b),
+        core_input(direction, kinds[2], c),
+        core_input(direction, kinds[3], d),
+    ]
+}
+
+fn core_x4(direction: Direction, keys: [[u8; 16]; 4], inputs: [[u8; 16]; 4]) -> [CoreOutput15; 4]
+    ensures { λ o. ⌜ o ≡ lanes (λ j. counted15 (coreOf direction (lane keys j) (lane inputs j))) ⌝ }
 {
     match direction {
-        Direction::Sealing => seal_core_x4(c),
-        Direction::Opening => open_core_x4(c),
+        Direction::Sealing => seal_core_x4(keys, inputs),
+        Direction::Opening => bl2_x4(keys, inputs),
     }
 }
 
@@ -155,6 +190,7 @@ fn runs_x4(o: [CoreOutput15; 4]) -> usize
 
 fn write_at_x4(
     direction: Direction,
+    kinds: [Kind; 4],
     identity_strings: [u8; 8],
     book: &[u8],
     i: usize,
@@ -164,10 +200,18 @@ fn write_at_x4(
     requires { ⌜ (sizeOf direction * (i + 4) ≤ length (now book)) × (outputSizeOf direction * (i + 4) ≤ length (now out)) ⌝ }
     ensures { λ _. ⌜ now (out .exit)
         ≡ replaceFrom (outputSizeOf direction) i
-        (λ j. madeOf direction «identity_strings» (recordAt (sizeOf direction) (now (book .entry)) (i + j)) (lane15 o j .output)) 4 (now (out .entry)) ⌝ }
+        (λ j. madeOf direction (kindLane kinds j) «identity_strings» (recordAt (sizeOf direction) (now (book .entry)) (i + j)) (lane15 o j .output)) 4 (now (out .entry)) ⌝ }
 {
     for j in 0..4 {
-        write_at(direction, identity_strings, book, i + j, o[j], out);
+        write_at(
+            direction,
+            kinds[j],
+            identity_strings,
+            book,
+            i + j,
+            o[j],
+            out,
+        );
     }
 }
 
@@ -186,7 +230,14 @@ pub(crate) fn convert_x4(
         (now (out .entry)))
         × (r ≡ 4 * textRuns) ⌝ }
 {
-    let o = core_x4(direction, core_input_at_x4(direction, ring, book, i));
-    write_at_x4(direction, identity_strings, book, i, o, out);
+    let a = record_at(direction, book, i);
+    let b = record_at(direction, book, i + 1);
+    let c = record_at(direction, book, i + 2);
+    let d = record_at(direction, book, i + 3);
+    let kinds = kinds_x4(a, b, c, d);
+    let keys = keys_x4(kinds, ring, a, b, c, d);
+    let inputs = inputs_x4(direction, kinds, a, b, c, d);
+    let o = core_x4(direction, keys, inputs);
+    write_at_x4(direction, kinds, identity_strings, book, i, o, out);
     runs_x4(o)
 }

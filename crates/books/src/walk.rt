@@ -27,7 +27,7 @@ pub struct Stop {
 
 // The inspection of a record: its refusal, or 0, and the block cipher runs that it took.
 fn inspect(direction: Direction, ring: &RingBytes, rec: &[u8]) -> Inspection
-    ensures { λ l. ⌜ (l .refusal ≡ faultOf (now (ring .entry)) direction (now (rec .entry))) × (l .runs ≡ inspectionOf direction (now (rec .entry))) ⌝ }
+    ensures { λ l. ⌜ l ≡ record { refusal = faultOf (now (ring .entry)) direction (now (rec .entry)); runs = inspectionOf direction (now (rec .entry)) } ⌝ }
 {
     match direction {
         Direction::Sealing => Inspection {
@@ -40,7 +40,7 @@ fn inspect(direction: Direction, ring: &RingBytes, rec: &[u8]) -> Inspection
 
 fn inspect_at(direction: Direction, ring: &RingBytes, book: &[u8], i: usize) -> Inspection
     requires { ⌜ sizeOf direction * i + sizeOf direction ≤ length (now book) ⌝ }
-    ensures { λ l. ⌜ (l .refusal ≡ faultAt (now (ring .entry)) direction (now (book .entry)) i) × (l .runs ≡ inspectionAt direction (now (book .entry)) i) ⌝ }
+    ensures { λ l. ⌜ l ≡ record { refusal = faultAt (now (ring .entry)) direction (now (book .entry)) i; runs = inspectionAt direction (now (book .entry)) i } ⌝ }
 {
     inspect(direction, ring, record_at(direction, book, i))
 }

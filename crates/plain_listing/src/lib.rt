@@ -2,7 +2,7 @@
 use books::check_plain;
 use lines::Line;
 use lines::ROOM;
-use records::kind_of;
+use records::kind_at;
 use reports::refused_at;
 use standard::Algorithm;
 use standard::Kind;
@@ -86,7 +86,7 @@ fn entry_line(index: usize, p: &[u8]) -> Line
     requires { ⌜ length (now p) ≡ 18 ⌝ }
     ensures { λ r. ⌜ shown r ≡ entryLine index (now (p .entry)) ⌝ }
 {
-    back(front(index, p), kind_of(p[0]), p)
+    back(front(index, p), kind_at(p), p)
 }
 
 fn entries_line(n: usize) -> Line

@@ -2,10 +2,8 @@
 // sealed text of 15.
 mod parts;
 
-use crate::parts::core_key;
 use crate::parts::head_with;
 use crate::parts::ring_c;
-use crate::parts::version_of;
 use arrays::byte_at;
 use arrays::copy;
 use arrays::join_6_12;
@@ -17,6 +15,7 @@ use identity::IdentityStrings;
 use identity::bc;
 use identity::decrypt_identity;
 use identity::encrypt_identity;
+pub use parts::core_key;
 pub use parts::ring_bytes;
 use standard::Algorithm;
 use standard::FLAG_SET;
@@ -27,23 +26,22 @@ use standard::RingBytes;
 use standard::RingKey;
 use standard::WRONG_KIND;
 use standard::WRONG_NUMBER;
-use texts::CoreInput;
 use texts::body_of;
 use texts::flag_of;
 use texts::input_of;
-use texts::opening_of;
+use texts::with8;
 ghost use mathlib.Core.List.{[], _∷_, _++_};
 ghost use mathlib.Core.Path.{_≡_};
 ghost use lib.Dec.{eqb, leb};
 ghost use lib.ListN.{length, take, drop};
-ghost use Rattle.standard.specs.Books.{commonKey, named, plainFault, openFault, inspectionRuns};
+ghost use Rattle.standard.specs.Books.{commonKey, recordKind, plainFault, openFault, inspectionRuns};
 ghost use Rattle.standard.specs.Bytes.{_!_, part, choose};
 ghost use Rattle.standard.specs.Identity.{bc as bcOf};
 ghost use Rattle.standard.specs.Refusals.{notZero, wrongNumber, flagSet, first};
 ghost use Rattle.standard.specs.Runs.{identityRuns};
-ghost use Rattle.standard.specs.Seals.{form, form31, kindOf, with8 as with8Of};
+ghost use Rattle.standard.specs.Seals.{form, form31, with8 as with8Of};
 ghost use Rattle.standard.specs.Sizes.{plainSize, sealedSize};
-ghost use Rattle.records.specs.RecordForms.{coreKey, plainInput, sealedWith, openedWith};
+ghost use Rattle.records.specs.RecordForms.{sealedWith, openedWith};
 
 // A ring's identity strings, and the cipher run that they took.
 pub fn identity_strings_of(ring: &RingBytes) -> IdentityStrings
@@ -120,7 +118,7 @@ fn flag_refusal(set: bool) -> u32
 
 // The inspection of a sealed record under a ring.
 pub fn inspect_sealed(ring: &RingBytes, rec: &[u8]) -> Inspection
-    ensures { λ l. ⌜ (l .refusal ≡ openFault (now (ring .entry)) (now (rec .entry))) × (l .runs ≡ inspectionRuns (now (rec .entry))) ⌝ }
+    ensures { λ l. ⌜ l ≡ record { refusal = openFault (now (ring .entry)) (now (rec .entry)); runs = inspectionRuns (now (rec .entry)) } ⌝ }
 {
     let Named::Known(kind) = Kind::from_byte(byte_at(rec, 0)) else {
         return Inspection {
@@ -129,7 +127,7 @@ pub fn inspect_sealed(ring: &RingBytes, rec: &[u8]) -> Inspection
         };
     };
     let algorithm = kind.algorithm;
-    let key = core_key(kind, ring, version_of(rec));
+    let key = core_key(kind, ring, rec);
     let flag = flag_of(algorithm, key, part15(rec, 6));
     Inspection {
         refusal: flag_refusal(flag.set),
@@ -138,10 +136,10 @@ pub fn inspect_sealed(ring: &RingBytes, rec: &[u8]) -> Inspection
 }
 
 // The kind of a record that was not refused.
-pub fn kind_of(b: u8) -> Kind
-    ensures { λ k. ⌜ k ≡ named (kindOf b) ⌝ }
+pub fn kind_at(rec: &[u8]) -> Kind
+    ensures { λ k. ⌜ k ≡ recordKind (now (rec .entry)) ⌝ }
 {
-    match Kind::from_byte(b) {
+    match Kind::from_byte(byte_at(rec, 0)) {
         Named::Known(kind) => kind,
         Named::Unknown => Kind {
             algorithm: Algorithm::Ta91,
@@ -150,24 +148,19 @@ pub fn kind_of(b: u8) -> Kind
     }
 }
 
-// What BL1 takes of a plain record: the core's key, and the input.
-pub fn sealing_input(ring: &RingBytes, rec: &[u8]) -> CoreInput
-    ensures { λ t. ⌜ (t .key ≡ coreKey (now (ring .entry)) (now (rec .entry))) × (t .input ≡ plainInput (now (rec .entry))) ⌝ }
+// What BL1 takes of a plain record of a kind.
+pub fn sealing_input(kind: Kind, rec: &[u8]) -> [u8; 16]
+    ensures { λ x. ⌜ x ≡ form kind .input (part 6 12 (now (rec .entry))) ⌝ }
 {
-    let kind = kind_of(byte_at(rec, 0));
     let algorithm = kind.algorithm;
-    CoreInput {
-        key: core_key(kind, ring, version_of(rec)),
-        input: input_of(algorithm, part12(rec, 6)),
-    }
+    input_of(algorithm, part12(rec, 6))
 }
 
-// What BL2 takes of a sealed record, whose text is the input.
-pub fn opening_input(ring: &RingBytes, rec: &[u8]) -> CoreInput
-    ensures { λ t. ⌜ (t .key ≡ coreKey (now (ring .entry)) (now (rec .entry))) × (t .input ≡ with8Of (part 6 15 (now (rec .entry)))) ⌝ }
+// What BL2 takes of a sealed record, of whatever kind: its text.
+pub fn opening_input(rec: &[u8]) -> [u8; 16]
+    ensures { λ x. ⌜ x ≡ with8Of (part 6 15 (now (rec .entry))) ⌝ }
 {
-    let kind = kind_of(byte_at(rec, 0));
-    opening_of(core_key(kind, ring, version_of(rec)), part15(rec, 6))
+    with8(part15(rec, 6))
 }
 
 // The sealed record of a plain one and its sealed text, into its own part of the output. `identity_strings` are the ring's.
@@ -179,12 +172,11 @@ pub fn write_sealed(identity_strings: [u8; 8], rec: &[u8], text: [u8; 15], out: 
     copy(&join_6_15(head_with(rec, encrypted), text), out);
 }
 
-// The plain record of a sealed one and what BL2 gives for it, into its own part of the output.
-pub fn write_opened(identity_strings: [u8; 8], rec: &[u8], u: [u8; 15], out: &mut [u8])
+// The plain record of a sealed one of a kind and what BL2 gives for it, into its own part of the output.
+pub fn write_opened(kind: Kind, identity_strings: [u8; 8], rec: &[u8], u: [u8; 15], out: &mut [u8])
     ensures { λ _. ⌜ now (out .exit)
-        ≡ take (length (now (out .entry))) (openedWith «identity_strings» (now (rec .entry)) u) ++ drop plainSize (now (out .entry)) ⌝ }
+        ≡ take (length (now (out .entry))) (openedWith kind «identity_strings» (now (rec .entry)) u) ++ drop plainSize (now (out .entry)) ⌝ }
 {
-    let kind = kind_of(byte_at(rec, 0));
     let algorithm = kind.algorithm;
     let decrypted = decrypt_identity(identity_strings, part3(rec, 1));
     copy(

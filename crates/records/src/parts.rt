@@ -35,8 +35,18 @@ pub(crate) fn ring_c(r: &RingBytes) -> [u8; 10]
     part10(&r[..], 26)
 }
 
-// The sealing keys D, with zero bytes after its ten, O and G.
-fn ring_key(under: RingKey, r: &RingBytes) -> [u8; 16]
+// The sealing keys D, O and G: the first ten bytes, and sixteen, which for D are its ten and zero bytes.
+fn ring_key10(under: RingKey, r: &RingBytes) -> [u8; 10]
+    ensures { λ k. ⌜ k ≡ part 0 10 (ringKey under (now (r .entry))) ⌝ }
+{
+    match under {
+        RingKey::D => part10(&r[..], 0),
+        RingKey::O => part10(&r[..], 10),
+        RingKey::G => part10(&r[..], 36),
+    }
+}
+
+fn ring_key16(under: RingKey, r: &RingBytes) -> [u8; 16]
     ensures { λ k. ⌜ k ≡ part 0 16 (ringKey under (now (r .entry))) ⌝ }
 {
     match under {
@@ -46,25 +56,25 @@ fn ring_key(under: RingKey, r: &RingBytes) -> [u8; 16]
     }
 }
 
-// The core's key for a kind, from the ring's sealing key for it.
-pub(crate) fn core_key(kind: Kind, r: &RingBytes, version: Version) -> [u8; 16]
-    ensures { λ k. ⌜ k ≡ form kind .key (sealingKey kind (now (r .entry))) (bytesOf 2 (version .0)) ⌝ }
-{
-    let under = kind.under;
-    let algorithm = kind.algorithm;
-    let key = ring_key(under, r);
-    match algorithm {
-        Algorithm::Ta31 => key10(part10(&key, 0), version),
-        Algorithm::Ta51 => key16(key, version),
-        Algorithm::Ta81 => key16(key, version),
-        Algorithm::Ta91 => key16(key, version),
-    }
-}
-
-pub(crate) fn version_of(rec: &[u8]) -> Version
+fn version_of(rec: &[u8]) -> Version
     ensures { λ v. ⌜ bytesOf 2 (v .0) ≡ part 4 2 (now (rec .entry)) ⌝ }
 {
     Version(pair(byte_at(rec, 4), byte_at(rec, 5)))
+}
+
+// The core's key for a record of a kind, from the ring's sealing key for it.
+pub fn core_key(kind: Kind, ring: &RingBytes, rec: &[u8]) -> [u8; 16]
+    ensures { λ k. ⌜ k ≡ form kind .key (sealingKey kind (now (ring .entry))) (part 4 2 (now (rec .entry))) ⌝ }
+{
+    let under = kind.under;
+    let algorithm = kind.algorithm;
+    let version = version_of(rec);
+    match algorithm {
+        Algorithm::Ta31 => key10(ring_key10(under, ring), version),
+        Algorithm::Ta51 => key16(ring_key16(under, ring), version),
+        Algorithm::Ta81 => key16(ring_key16(under, ring), version),
+        Algorithm::Ta91 => key16(ring_key16(under, ring), version),
+    }
 }
 
 // A record's first six bytes, kind, identity and version, with another identity.

@@ -3,14 +3,12 @@ use crate::forms::body_of;
 use crate::forms::failed_of;
 use crate::forms::input_of;
 use crate::forms::or_of;
-use crate::text_core::CoreInput;
-use crate::text_core::open_core;
-use crate::text_core::opening_of;
 use crate::text_core::seal_core;
+use crate::text_core::with8;
 use arrays::join_8_8;
-use arrays::part10;
-use arrays::part16;
+use arrays::xor10;
 use arrays::xor16;
+use cores::bl2;
 use cores::exp4;
 use standard::Algorithm;
 use standard::Version;
@@ -18,8 +16,7 @@ ghost use mathlib.Core.Bool.{not};
 ghost use mathlib.Core.Path.{_≡_};
 ghost use Rattle.standard.specs.Bytes.{bytesOf};
 ghost use Rattle.standard.specs.Runs.{textRuns};
-ghost use Rattle.standard.specs.Seals.{clear, formOf, sealed as sealedOf, opened as openedOf, key10 as key10Of, key16 as key16Of, repeated};
-ghost use Rattle.texts.specs.OpenedTexts.{Opened as OpenedOf};
+ghost use Rattle.standard.specs.Seals.{failed, clear, formOf, sealed as sealedOf, opened as openedOf, key10 as key10Of, key16 as key16Of, repeated};
 
 // The version's two bytes, the high one first.
 fn bytes_of(version: Version) -> [u8; 2]
@@ -43,22 +40,25 @@ pub fn key16(sealing_key: [u8; 16], version: Version) -> [u8; 16]
     xor16(join_8_8(copies, copies), sealing_key)
 }
 
-// For kind 1 it is expanded from the first ten bytes of that.
+// The version written five times.
+fn five_times(v: [u8; 2]) -> [u8; 10]
+    ensures { λ r. ⌜ r ≡ repeated 10 v ⌝ }
+{
+    [v[0], v[1], v[0], v[1], v[0], v[1], v[0], v[1], v[0], v[1]]
+}
+
+// For kind 1 it is expanded: the version written five times ⊕ the sealing key of ten bytes.
 pub fn key10(sealing_key: [u8; 10], version: Version) -> [u8; 16]
     ensures { λ r. ⌜ r ≡ key10Of «sealing_key» (bytesOf 2 (version .0)) ⌝ }
 {
-    exp4(part10(&key16(part16(&sealing_key, 0), version), 0))
+    exp4(xor10(five_times(bytes_of(version)), sealing_key))
 }
 
 // The sealed text of a body.
 pub fn seal_body(algorithm: Algorithm, key: [u8; 16], body: [u8; 12]) -> [u8; 15]
     ensures { λ r. ⌜ r ≡ sealedOf (formOf algorithm) key body ⌝ }
 {
-    let c = CoreInput {
-        key,
-        input: input_of(algorithm, body),
-    };
-    let o = seal_core(c);
+    let o = seal_core(key, input_of(algorithm, body));
     let text = o.output;
     text
 }
@@ -70,9 +70,9 @@ pub struct Opened {
 }
 
 pub fn open_text(algorithm: Algorithm, key: [u8; 16], text: [u8; 15]) -> Opened
-    ensures { λ r. ⌜ OpenedOf (formOf algorithm) (openedOf key text) (r .body) (r .failed) ⌝ }
+    ensures { λ r. ⌜ r ≡ record { body = formOf algorithm .shrink (openedOf key text); failed = failed (formOf algorithm) (openedOf key text) } ⌝ }
 {
-    let o = open_core(opening_of(key, text));
+    let o = bl2(key, with8(text));
     let u = o.output;
     Opened {
         body: body_of(algorithm, u),
@@ -87,9 +87,9 @@ pub struct Flag {
 }
 
 pub fn flag_of(algorithm: Algorithm, key: [u8; 16], text: [u8; 15]) -> Flag
-    ensures { λ f. ⌜ (f .set ≡ not (clear (formOf algorithm) (openedOf key text))) × (f .runs ≡ textRuns) ⌝ }
+    ensures { λ f. ⌜ f ≡ record { set = not (clear (formOf algorithm) (openedOf key text)); runs = textRuns } ⌝ }
 {
-    let o = open_core(opening_of(key, text));
+    let o = bl2(key, with8(text));
     let u = o.output;
     Flag {
         set: or_of(algorithm, u) != 0,

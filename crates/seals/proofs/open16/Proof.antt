@@ -1,5 +1,5 @@
 use Rattle.standard.proofs.Prelude.{needs}
-use Rattle.seals.proofs.KeyPartLaws.{key16-part, opened-part}
+use Rattle.texts.proofs.KeyLaws.{key16-part, opened-part}
 use Rattle.seals.proofs.open16.Tie as tie
 
 returns : tie.Need-returns

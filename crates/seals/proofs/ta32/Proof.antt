@@ -1,5 +1,5 @@
 use Rattle.standard.proofs.Prelude.{needs}
-use Rattle.seals.proofs.KeyPartLaws.{key10-part, opened-part}
+use Rattle.texts.proofs.KeyLaws.{key10-part, opened-part}
 use Rattle.standard.specs.Seals.{unseal, fails, unsealCall, ta32Call}
 use Rattle.seals.proofs.ta32.Tie as tie
 

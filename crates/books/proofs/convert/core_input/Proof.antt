@@ -1,12 +1,11 @@
 use Rattle.standard.proofs.Prelude.{needs}
-use Rattle.books.proofs.DirectionLaws.{same-input}
 use Rattle.books.proofs.convert.core_input.Tie as tie
 
 returns : tie.Need-returns
-returns c = let e = c .sealing-input .ensures in rw (c .before .enum-told .given .1) (same-input (e .0) (e .1))
+returns c = rw (c .before .enum-told .given .1) (c .sealing-input .ensures)
 
 returns-2 : tie.Need-returns-2
-returns-2 c = let e = c .opening-input .ensures in rw (c .before .enum-told2 .given .1) (same-input (e .0) (e .1))
+returns-2 c = rw (c .before .enum-told2 .given .1) (c .opening-input .ensures)
 
 pub core-input-spec : {M : Type 1} → Rattle.books.proofs.convert.core_input.Statement.statement M
 core-input-spec =

@@ -26,9 +26,9 @@ returns c =
     let outputs = rec .before .before .output-size in
     let start = rec .before .before .before .before .before in
     let x = start .args in
-    let made : List ℕ → List ℕ = λ y. madeOf (x .direction) (x .identity-strings) y (x .o .output) in
+    let made : List ℕ → List ℕ = λ y. madeOf (x .direction) (x .kind) (x .identity-strings) y (x .o .output) in
     replaced-lent (outputs .result) (x .i) (now (x .out)) (made _) _ (fits _ (x .i) _ _ (outputs .ensures) (start .pre .1))
-    (made-length (x .direction) (x .identity-strings) _ (x .o .output) ∙ sym (outputs .ensures))
+    (made-length (x .direction) (x .kind) (x .identity-strings) _ (x .o .output) ∙ sym (outputs .ensures))
     (rw (← outputs .ensures) at (c .before .before .write-record .ensures))
     ∙ ap₂ (λ (v : ℕ) (y : List ℕ). replaceAt v (x .i) (made y) (now (x .out))) (outputs .ensures) (rec .record-at .ensures)
 

@@ -8,7 +8,15 @@ use Rattle.standard.specs.Lists.{recordAt}
 use Rattle.standard.specs.Runs.{firstPass}
 use Rattle.books.proofs.DirectionLaws.{inspections-few, inspections-most, runs-fit}
 use Rattle.books.specs.BothDirections.{sizeOf, faultAt, inspectionAt}
+use Rattle.records.specs.declared.Inspection.{Inspection}
 use Rattle.books.proofs.walk.scan.Tie as tie
+
+-- what an inspection answers
+refusal-is : {l : Inspection} {refusal runs : ℕ} → l ≡ record { refusal = refusal; runs = runs } → l .refusal ≡ refusal
+refusal-is e = ap (λ (l : Inspection). l .refusal) e
+
+runs-are : {l : Inspection} {refusal runs : ℕ} → l ≡ record { refusal = refusal; runs = runs } → l .runs ≡ runs
+runs-are e = ap (λ (l : Inspection). l .runs) e
 
 abbrev Inv-loop : tie.InvT-loop
 Inv-loop direction ring book n runs₀ i₀ runs i =
@@ -37,7 +45,7 @@ add-runs c =
     omega (
       arith,
       i .inv .2,
-      inspection .inspect-at .ensures .1,
+      runs-are (inspection .inspect-at .ensures),
       inspections-few (now (x .ring)) d book (i .index),
       inspections-most d (recordAt (sizeOf d) book (i .index)),
       runs-fit d (x .n) _ (start .pre),
@@ -54,9 +62,9 @@ returns c =
     let g = faultAt (now (x .ring)) (x .direction) (now (x .book)) in
     let l = inspectionAt (x .direction) (now (x .book)) in
     let h = turn .loop-test .taken in
-    let at = inspection .inspect-at .ensures .0 in (
+    let at = refusal-is (inspection .inspect-at .ensures) in (
       stopped-at _ _ (i .index) _ h (i .inv .1) at (c .if1 .taken),
-      ap₂ _+_ (i .inv .2) (inspection .inspect-at .ensures .1) ∙ sym (pass-stopped g l (x .n) (i .index) h (i .inv .1) (λ z. c .if1 .taken (at ∙ z))),
+      ap₂ _+_ (i .inv .2) (runs-are (inspection .inspect-at .ensures)) ∙ sym (pass-stopped g l (x .n) (i .index) h (i .inv .1) (λ z. c .if1 .taken (at ∙ z))),
     )
 
 loop-again : tie.Need-loop-again Inv-loop μ-loop
@@ -67,8 +75,8 @@ loop-again c =
     let g = faultAt (now (x .ring)) (x .direction) (now (x .book)) in
     let l = inspectionAt (x .direction) (now (x .book)) in (
       omega arith,
-      clean-more _ (i .index) (i .inv .1) (sym (inspection .inspect-at .ensures .0) ∙ c .if1 .left),
-      ap₂ _+_ (i .inv .2) (inspection .inspect-at .ensures .1) ∙ sym (pass-more g l (i .index) (i .inv .1))
+      clean-more _ (i .index) (i .inv .1) (sym (refusal-is (inspection .inspect-at .ensures)) ∙ c .if1 .left),
+      ap₂ _+_ (i .inv .2) (runs-are (inspection .inspect-at .ensures)) ∙ sym (pass-more g l (i .index) (i .inv .1))
           ∙ ap (λ (k : ℕ). firstPass k g l) (sym (add-one (i .index))),
     )
 

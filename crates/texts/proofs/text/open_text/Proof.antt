@@ -6,10 +6,7 @@ returns : tie.Need-returns
 unfolding opened
 returns c =
     let made = c .before .before .before in
-    record {
-      is = rw (c .before .body-of .ensures, made .open-core .ensures, made .before .opening-of .ensures);
-      told = rw (c .failed-of .ensures, made .open-core .ensures, made .before .opening-of .ensures);
-    }
+    rw (c .failed-of .ensures, c .before .body-of .ensures, made .bl2 .ensures, made .before .with8 .ensures)
 
 pub open-text-spec : {M : Type 1} → Rattle.texts.proofs.text.open_text.Statement.statement M
 open-text-spec =

@@ -1,4 +1,4 @@
--- Typed arrays serve as the strings that they were made from.
+-- The core's key of a typed array, and what opening gives of one, are those of the string that the array was made from.
 -- Assumes nothing.
 use Rattle.standard.proofs.Prelude.{_≡_, refl, List, ℕ}
 use Rattle.standard.specs.Bytes.{part}
