@@ -1,5 +1,4 @@
 -- A copy over the front of a list: of a string, of its end over zeros, of two strings one after the other.
--- Assumes nothing.
 use Rattle.standard.proofs.Prelude.{_≡_, refl, sym, ap, ap₂, _∙_, _⊎_, inl, inr, List, [], _∷_, _++_, append-nil, ℕ, zero, suc, _+_, _-_, _≤_, _<_}
 use Rattle.standard.proofs.Prelude.{zero-add, add-one, arith, length, take, drop, set, length-append, length-drop, drop-of-length-le, take-all}
 use Rattle.standard.proofs.Prelude.{take-at, drop-at}
@@ -70,9 +69,9 @@ module _ (m : ℕ) (a b out : List ℕ) (ha : length a ≡ m) (h : length out �
       (rw (f₁, drop-at a (drop m out) m ha, take-all n (drop m out) (omega (arith, rest))) at e₂) ∙ over-rest in
       rw (f₁, f₂, take-at a (drop m out) m ha, drop-at a (drop m out) m ha, drop-of-length-le (drop m out) {i = n} (omega (arith, rest)), append-nil)
 
-  pub joined : (r₁ r₂ : List ℕ) → r₁ ≡ over a out → r₂ ≡ over b (midOf m (length r₁ - m) r₁)
+  pub both-copied : (r₁ r₂ : List ℕ) → r₁ ≡ over a out → r₂ ≡ over b (midOf m (length r₁ - m) r₁)
       → putMid m (length r₁ - m) r₁ r₂ ≡ part 0 m a ++ part 0 (length out - m) b
-  joined r₁ r₂ e₁ e₂ =
+  both-copied r₁ r₂ e₁ e₂ =
       let l : length r₁ ≡ length a + length (drop m out) = ap length (e₁ ∙ over-front) ∙ length-append a (drop m out) in
       simp zero-add
       (two-copied (length r₁ - m) r₁ r₂ (omega (arith, rest)) e₁ e₂

@@ -1,5 +1,4 @@
 -- Two strings compared byte by byte.
--- Assumes nothing.
 use Rattle.standard.proofs.Prelude.{_≡_, refl, ap, ap₂, _∙_, Bool, true, false, _&&_, List, ℕ, _+_, _<_, add-one, eqb, length, drop}
 use lib.Seq.{drop-cons, drop-length}
 use Rattle.standard.proofs.BytesLaws.{same-eq}

@@ -1,5 +1,4 @@
 -- The bytes of the number that four bytes spell.
--- Assumes nothing.
 use Rattle.standard.proofs.Prelude.{_≡_, [], _∷_, ℕ, _+_, _*_, _/_, _%_, _^_, _<_, arith}
 use Rattle.standard.specs.Bytes.{bytesOf}
 

@@ -1,5 +1,4 @@
 -- The cases of a book call, as its code comes to them.
--- Assumes nothing.
 use Rattle.standard.proofs.Prelude.{_≡_, sym, ap, ap₂, _∙_, Bool, List, _∷_, _++_, ℕ, _+_, _*_, _/_, _<_, arith, length, drop, eq-eqb, ne-eqb}
 use Rattle.lists.proofs.ListReturnLaws.{call-refused, call-stopped, call-done}
 use Rattle.lists.specs.Walks.{Clean, Stopped}

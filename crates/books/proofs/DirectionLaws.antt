@@ -1,9 +1,8 @@
 -- Sealing and opening, in the terms of the definitions.
--- Assumes nothing.
 use Rattle.standard.proofs.Prelude.{_≡_, refl, Bool, true, false, List, ℕ, _+_, _-_, _*_, _≤_, _<_, add-zero, arith, eqb, length, take, drop}
 use Rattle.cores.specs.CoreOutputs.{counted15}
 use Rattle.cores.specs.declared.CoreOutput15.{CoreOutput15}
-use Rattle.cores_x4.specs.Lanes.{lane15}
+use Rattle.cores_x4.specs.OutputLanes.{lane15}
 use Rattle.hurdle.specs.Lanes.{lanes, lane, byLane}
 use Rattle.lists.proofs.WalkLaws.{end-fits, first-fit, lent, Wrote, wrote-none, wrote-one, wrote-from}
 use Rattle.lists.specs.Walks.{replaceAt, replaceFrom}

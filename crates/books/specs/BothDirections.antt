@@ -1,5 +1,4 @@
 -- Sealing and opening, and what the steps of the walk compute.
--- Assumes nothing.
 use mathlib.Core.List.{List}
 use Prim.Native.Nat.{ℕ}
 use lib.ListN.{getD}

@@ -19,7 +19,7 @@ ghost use mathlib.Core.Path.{_≡_};
 ghost use Prim.Native.Nat.{_+_, _*_, _≤_};
 ghost use lib.ListN.{length, take, drop};
 ghost use Rattle.cores.specs.CoreOutputs.{counted15};
-ghost use Rattle.cores_x4.specs.Lanes.{lane15};
+ghost use Rattle.cores_x4.specs.OutputLanes.{lane15};
 ghost use Rattle.lists.specs.Walks.{replaceAt, replaceFrom};
 ghost use Rattle.standard.specs.Books.{recordKind};
 ghost use Rattle.standard.specs.Lists.{recordAt};

@@ -1,5 +1,4 @@
 -- A group's bytes, as code indexes them.
--- Assumes nothing.
 use Rattle.standard.proofs.Prelude.{_≡_, ap, _∙_, List, ℕ, suc, _+_, _-_, _/_, _%_, _^_, arith, eqb}
 use Rattle.standard.specs.Bytes.{_!_, bit, _⊕_, choose}
 use Rattle.standard.specs.Cards.{unreadable, erasures, groupParity}

@@ -1,5 +1,4 @@
 -- Kinds 2 and 5: the three zero bits of the number byte. EXP3 takes any number byte, so that without their check eight would do.
--- Assumes nothing.
 use Rattle.standard.proofs.Prelude.{_≡_, refl, sym, ap, _∙_, Bool, true, false, _↔_, List, [], _∷_, _++_, ℕ, _+_, _-_, _*_, _/_, _%_, _≤_, _<_, arith}
 use Rattle.standard.proofs.Prelude.{eqb, length, eqb-true, eqb-false, eq-eqb, ne-eqb}
 use mathlib.Core.Logic.{Iff·rfl}

@@ -1,5 +1,4 @@
 -- BL1 on all sixteen bytes is undone, block by block.
--- Assumes nothing.
 use Rattle.standard.proofs.Prelude.{List, _++_, ℕ}
 use Rattle.standard.specs.Bytes.{part, xors, Bytes}
 use Rattle.standard.specs.Cores.{bl1}

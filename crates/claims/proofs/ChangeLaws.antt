@@ -1,5 +1,4 @@
 -- One byte of a string changed, and the ⊕ of a group that has it.
--- Assumes nothing.
 use Rattle.standard.proofs.Prelude.{_≡_, refl, sym, ap, _∙_, Bool, true, false, _⊎_, inl, inr, List, ℕ, zero, suc, _+_, _≤_, _<_, eq-or-lt-of-le}
 use Rattle.standard.proofs.Prelude.{arith, xor-comm, eqb, eq-eqb, ne-eqb}
 use Rattle.standard.specs.Bytes.{_!_, _⊕_, xors, choose}

@@ -1,5 +1,4 @@
 -- The cipher is undone, and f is not.
--- Assumes nothing.
 use Rattle.standard.proofs.Prelude.{_≡_, refl, sym, ap, _∙_, List, ℕ, arith, length, eq-eqb}
 use Rattle.standard.specs.Bytes.{_!_, bit, zeros}
 use Rattle.standard.specs.Hurdle.{S, T, f, encrypt, decrypt, encryptCall, decryptCall}

@@ -1,6 +1,5 @@
 -- HURDLE-II and the cores as examples compute them: the definition reads T at each bit of f's output, and each T the chain before it;
 -- here the chain is made once for a round.
--- Assumes nothing.
 use Rattle.standard.proofs.Prelude.{_≡_, refl, ap, _∙_, List, [], _∷_, _++_, ℕ, zero, suc, _+_, _-_}
 use Rattle.standard.specs.Bytes.{_!_, byte, bit, _⊕_, _⊞_, part, xors}
 use Rattle.standard.specs.Cores.{bl1, bl1With, bl2}

@@ -1,5 +1,4 @@
 -- BL1 without byte 8: nothing is lost as long as the input ends in a zero byte.
--- Assumes nothing.
 use Rattle.standard.proofs.Prelude.{_≡_, refl, sym, ap, ap₂, _∙_, List, [], _∷_, _++_, ℕ, _<_}
 use Rattle.standard.specs.Bytes.{_!_, part, Bytes}
 use Rattle.standard.specs.Cores.{bl1}

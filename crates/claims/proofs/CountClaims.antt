@@ -1,5 +1,4 @@
 -- How many texts open: as many as there are legal bodies, which are numbered.
--- Assumes nothing.
 use Rattle.standard.proofs.Prelude.{_≡_, refl, ap, _∙_, List, ℕ, _+_, _*_, _/_, _%_, _^_, _<_, arith, length, le-leb}
 use mathlib.Core.Logic.{Iff·rfl, Iff·symm}
 use Rattle.standard.specs.Bytes.{_!_, part, bytesOf, number, Bytes}

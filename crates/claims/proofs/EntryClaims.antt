@@ -1,5 +1,4 @@
 -- One text, one entry: the checks, a text, a record, a book. Each is `of-image` of two maps that are inverse.
--- Assumes nothing.
 use Rattle.standard.proofs.Prelude.{_≡_, refl, sym, ap, _∙_, Bool, true, false, _↔_, List, [], _∷_, _++_, ℕ, _≤_, arith, eqb, length, take, drop}
 use Rattle.standard.proofs.Prelude.{take-at, eqb-true, eqb-false, eq-eqb, le-leb}
 use mathlib.Core.Logic.{Iff·symm}

@@ -1,5 +1,4 @@
 -- Texts that open twice: examples, by computation. BL2's output is computed once for each; the call's answer is read off it.
--- Assumes nothing.
 use Rattle.standard.proofs.Prelude.{_≡_, refl, ap, _∙_, List, [], _∷_, _++_, ℕ, length, eq-eqb}
 use Rattle.standard.specs.Bytes.{bit, part}
 use Rattle.standard.specs.Expansions.{grouped, x16Groups}

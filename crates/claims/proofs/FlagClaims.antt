@@ -1,5 +1,4 @@
 -- What the flag says of a text, and what it does not.
--- Assumes nothing.
 use Rattle.standard.proofs.Prelude.{_≡_, refl, sym, ap, _∙_, subst, Bool, true, false, List, [], _∷_, _++_, ℕ, _+_, _%_, _≤_, _<_, arith, xor-comm}
 use Rattle.standard.proofs.Prelude.{xor-self, xor-zero-r, ltb, length, eqb-true, eq-eqb, le-leb, ltb-true, ltb-false}
 use Rattle.standard.specs.Bytes.{_!_, _⊕_, part, xors, Bytes}

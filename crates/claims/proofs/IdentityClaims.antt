@@ -1,5 +1,4 @@
 -- The flag is of the text alone: it knows neither the identity of a record nor whose text it is.
--- Assumes nothing.
 use Rattle.standard.proofs.Prelude.{_≡_, refl, sym, ap, _∙_, List, ℕ}
 use Rattle.standard.specs.Books.{commonKey, openFault, openRecord}
 use Rattle.standard.specs.Bytes.{part, Bytes}

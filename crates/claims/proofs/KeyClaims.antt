@@ -1,5 +1,4 @@
 -- Sealing key and version enter by their ⊕ alone.
--- Assumes nothing.
 use Rattle.standard.proofs.Prelude.{_≡_, refl, sym, ap, _∙_, List, ℕ, arith, xor-comm, xor-self, length, eq-eqb}
 use Rattle.standard.specs.Bytes.{_!_, _⊕_}
 use Rattle.standard.specs.SealsFacts.{sealBody}

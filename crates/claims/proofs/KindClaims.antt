@@ -1,5 +1,4 @@
 -- Kinds that open the same texts.
--- Assumes nothing.
 use Rattle.standard.proofs.Prelude.{_≡_, refl, sym, ap, _∙_, Bool, true, false, List, [], _∷_, ℕ, arith, length, eqb-true, eq-eqb}
 use Rattle.standard.specs.Bytes.{Bytes}
 use Rattle.standard.specs.Expansions.{x16Groups}

@@ -1,5 +1,4 @@
 -- The strings of n bytes stand one to one with the numbers below 256 ^ n.
--- Assumes nothing.
 use Rattle.standard.proofs.Prelude.{_≡_, refl, sym, ap, _∙_, List, [], _∷_, ℕ, zero, suc, _+_, _*_, _/_, _%_, _^_, _<_, mod-eq-of-lt, suc-inj}
 use Rattle.standard.proofs.Prelude.{suc-ne-zero, arith, length, pow-add}
 use native.Mathlib.Nat.{pow-suc}

@@ -1,5 +1,4 @@
 -- From two maps that are inverse to "exactly one" and "exactly so many".
--- Assumes nothing.
 use Rattle.standard.proofs.Prelude.{_≡_, sym, ap, _∙_, subst, _↔_, List, ℕ, _<_}
 use Rattle.standard.proofs.InverseLaws.{Inverse, is-image, of-one}
 use Rattle.claims.specs.Entries.{OfOne, Count}

@@ -1,9 +1,8 @@
 -- The ring recipe with any expansion of ten bytes to sixteen gives a ring of bytes.
--- Assumes nothing.
 use Rattle.standard.proofs.Prelude.{refl, Bool, true, false, not, List, [], _∷_, ℕ, zero, suc, _-_, _<_, arith, eqb, length}
 use Rattle.standard.specs.Bytes.{_!_, byte, bit, choose, Bytes}
 use Rattle.standard.specs.Cores.{bl1}
-use Rattle.standard.specs.Derivation.{chosenOf, chosen, half}
+use Rattle.standard.specs.Keys.{chosenOf, chosen, half}
 use Rattle.standard.specs.Sizes.{ringSize}
 use Rattle.standard.specs.declared.RingInputs.{RingInputs}
 use Rattle.standard.proofs.BytesLaws.{bytes-table, bytes-append, bytes-part, bytes-xors}

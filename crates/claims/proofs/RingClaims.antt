@@ -1,5 +1,4 @@
 -- A whole ring and the versions of a book enter by their ⊕ alone.
--- Assumes nothing.
 use Rattle.standard.proofs.Prelude.{_≡_, refl, sym, ap, _∙_, Bool, true, false, List, ℕ, _*_, _/_, _%_, _<_, arith, xor-self, eqb, length}
 use Rattle.standard.specs.Books.{sealingKey, named, plainFault, sealRecord, WellFormed, sealedForm}
 use Rattle.standard.specs.Bytes.{_!_, _⊕_, part, xors, zeros, choose, Bytes}

@@ -1,5 +1,4 @@
 -- Records under two rings do not open as one book (02, 14): an example, by computation.
--- Assumes nothing.
 use Rattle.standard.proofs.Prelude.{_≡_, refl, List, _∷_, _++_, ℕ, suc}
 use Rattle.standard.specs.Books.{openFault, inspectionRuns, sealRecord, sealedForm, bookCall, openBook}
 use Rattle.standard.specs.Bytes.{bit, table, zeros}

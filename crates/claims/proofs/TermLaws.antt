@@ -1,5 +1,4 @@
 -- The calls over the algorithm, in the terms of the forms: what the laws of `standard` are about.
--- Assumes nothing.
 use Rattle.standard.proofs.Prelude.{_≡_, refl, sym, ap, _∙_, Bool, true, false, _↔_, List, [], _∷_, ℕ, zero, suc, _<_, arith, ltb, length, eqb-true, eq-eqb}
 use Rattle.standard.proofs.Prelude.{ltb-true}
 use Rattle.standard.specs.Bytes.{_!_, bytesOf, Bytes}

@@ -1,10 +1,9 @@
 -- The mistakes that 01 lists: where each answers otherwise, and what would be false of it.
--- Assumes nothing.
 use Rattle.standard.proofs.Prelude.{_≡_, refl, sym, ap, _∙_, List, [], _∷_, _++_, ℕ, suc, _<_, arith, length, eq-eqb}
 use lib.Count.{ones, onesIn}
 use Rattle.standard.specs.Bytes.{_!_, bit, zeros, Bytes}
 use Rattle.standard.specs.Cores.{bl1}
-use Rattle.standard.specs.Derivation.{core, chosen, split, ring, ta12Call, ta41Call}
+use Rattle.standard.specs.Keys.{core, chosen, split, ring, ta12Call, ta41Call}
 use Rattle.standard.specs.Expansions.{xorOf, exp1Groups, exp2}
 use Rattle.standard.specs.Hurdle.{S, D, a, Q, laid, schedule}
 use Rattle.standard.specs.Seals.{key16, ta82Call}

@@ -1,5 +1,4 @@
 -- The terms in which the claims stand: exactly one, exactly so many, the body of an entry, and a text that opens. Kind 1 is TA31's, kinds 2 and 5 are TA51's, kinds 3 and 6 are TA81's, and kind 4 is TA91's.
--- Assumes nothing.
 use mathlib.Core.List.{List}
 use mathlib.Core.Logic.{_↔_}
 use mathlib.Core.Path.{_≡_}

@@ -1,6 +1,5 @@
 -- Sentences about sealed texts that are false (docs/ARGUMENT.md, 8 to 13): what is so instead, for all inputs where that can be said, or
 -- an example that the proof computes.
--- Assumes nothing.
 use mathlib.Core.List.{List, [], _∷_, _++_}
 use mathlib.Core.Path.{_≡_}
 use Prim.Native.Nat.{ℕ, _-_, _/_, _^_, _<_}

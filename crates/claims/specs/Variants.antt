@@ -1,6 +1,5 @@
 -- The four mistakes that 01 lists, each as a wrong variant beside the right definition (docs/ARGUMENT.md, 14): an input on which the
 -- variant answers otherwise, and what would be false if the engine did so.
--- Assumes nothing.
 use mathlib.Core.Bool.{_&&_, not}
 use mathlib.Core.List.{List, [], _∷_, _++_}
 use mathlib.Core.Path.{_≡_}
@@ -10,7 +9,7 @@ use lib.ListN.{length}
 use Rattle.standard.specs.Bytes.{_!_, _⊕_, table, part, bytesOf, Bytes}
 use Rattle.standard.specs.Cores.{bl1, bl2}
 use Rattle.standard.specs.BooksFacts.{Demand3}
-use Rattle.standard.specs.Derivation.{half, ring, ta22Call, ta12Call, ta41Call}
+use Rattle.standard.specs.Keys.{half, ring, ta22Call, ta12Call, ta41Call}
 use Rattle.standard.specs.Expansions.{inserted, expected, exp3Groups, xorOf, exp1, exp2}
 use Rattle.standard.specs.Mixing.{tb4, tb7}
 use Rattle.standard.specs.Refusals.{wrongLength, hasLength, first, unsealedBody, answer16}

@@ -1,5 +1,4 @@
 -- A class's records are those of single calls, and its tests as code makes them one after the other.
--- Assumes nothing.
 use Rattle.standard.proofs.Prelude.{_≡_, refl, sym, ap, ap₂, _∙_, Bool, List, _∷_, _++_, ℕ, _+_, _-_, _^_, _<_, arith, length, take, drop}
 use Rattle.standard.proofs.Prelude.{length-append, length-drop, eq-eqb, ne-eqb}
 use lib.Count.{ones}
@@ -9,11 +8,11 @@ use Rattle.keys.proofs.MaskLaws.{front-filled}
 use Rattle.keys.specs.Masks.{Counted}
 use Rattle.standard.proofs.BookLaws.{each-same}
 use Rattle.standard.proofs.BytesLaws.{spelled}
-use Rattle.standard.proofs.DerivationLaws.{length-chosen}
+use Rattle.standard.proofs.KeysLaws.{length-chosen}
 use Rattle.standard.proofs.FirstLaws.{first-append}
 use Rattle.standard.specs.Classes.{classRecord}
 use Rattle.standard.specs.Cores.{bl1With, bl1}
-use Rattle.standard.specs.Derivation.{chosen, ta12Call}
+use Rattle.standard.specs.Keys.{chosen, ta12Call}
 use Rattle.standard.specs.Expansions.{exp2}
 use Rattle.standard.specs.Hurdle.{schedule}
 use Rattle.standard.specs.Lists.{recordAt, each, listTests}

@@ -1,10 +1,9 @@
 -- What TA12 answers to a challenge, under round keys laid out first.
--- Assumes nothing.
 use mathlib.Core.List.{List, _++_}
 use Prim.Native.Nat.{ℕ}
 use Rattle.standard.specs.Bytes.{part}
 use Rattle.standard.specs.Cores.{bl1With}
-use Rattle.standard.specs.Derivation.{chosen}
+use Rattle.standard.specs.Keys.{chosen}
 use Rattle.standard.specs.Expansions.{exp2}
 use Rattle.standard.specs.Lists.{recordAt}
 use Rattle.standard.specs.Sizes.{challengeSize}

@@ -18,7 +18,7 @@ ghost use mathlib.Core.List.{_++_};
 ghost use mathlib.Core.Path.{_≡_};
 ghost use Prim.Native.Nat.{_+_, _*_, _≤_};
 ghost use lib.ListN.{length, drop};
-ghost use Rattle.cores_x4.specs.Lanes.{lane16};
+ghost use Rattle.cores_x4.specs.OutputLanes.{lane16};
 ghost use Rattle.hurdle.specs.Lanes.{lanes};
 ghost use Rattle.keys.specs.Masks.{Counted};
 ghost use Rattle.lists.specs.Walks.{after, replaceAt, replaceFrom};

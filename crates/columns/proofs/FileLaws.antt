@@ -1,5 +1,4 @@
 -- A transposition by code, column by column.
--- Assumes nothing.
 use Rattle.standard.proofs.Prelude.{_≡_, ap, _∙_, List, _++_, ℕ, _+_, _-_, _*_, _≤_, _<_, mul-comm, arith, length, take, drop}
 use Rattle.lists.proofs.WalkLaws.{ends, PrefixWritten, prefix-none, own-length, prefix-next}
 use Rattle.standard.proofs.ColumnsLaws.{column-length}

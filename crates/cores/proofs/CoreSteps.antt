@@ -1,5 +1,4 @@
 -- The steps of the cores, one after the other.
--- Assumes nothing.
 use Rattle.standard.proofs.Prelude.{_≡_, List, [], _∷_, _++_, ℕ}
 use Rattle.standard.specs.Bytes.{_!_, _⊕_, part, xors}
 use Rattle.standard.specs.Cores.{bl1With, bl1, bl2}

@@ -1,5 +1,4 @@
 -- What the steps of EXP4 compute, BL2 under round keys laid out first, and the cores' outputs with their cipher runs.
--- Assumes nothing.
 use mathlib.Core.List.{List, [], _∷_, _++_}
 use mathlib.Core.Path.{_≡_}
 use Prim.Native.Nat.{ℕ}

@@ -1,5 +1,4 @@
 -- The steps of the cores in each of four lanes, where lane j's round keys are K j.
--- Assumes nothing.
 use Rattle.standard.proofs.Prelude.{_≡_, List, [], _∷_, _++_, ℕ}
 use Rattle.cores.specs.CoreOutputs.{bl2With, counted16, counted15}
 use Rattle.cores.specs.declared.CoreOutput15.{CoreOutput15}

@@ -1,6 +1,5 @@
 -- Flips and the bits that change, under round keys laid out first; sums and extremes that go on from turn to turn; and the ways in which
 -- the call returns.
--- Assumes nothing.
 use Rattle.standard.proofs.Prelude.{_≡_, refl, sym, ap, ap₂, _∙_, subst, List, [], _++_, ℕ, _+_, _*_, _/_, _%_, _^_, _<_, add-zero, one-mul, add-one}
 use Rattle.standard.proofs.Prelude.{arith, length, length-append, shl-exact, ne-eqb}
 use mathlib.Core.List.{foldl, foldl-append}

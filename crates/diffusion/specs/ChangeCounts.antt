@@ -1,5 +1,4 @@
 -- Changes under round keys laid out first, and their sum and extremes as far as they are counted.
--- Assumes nothing.
 use mathlib.Core.List.{List, foldl}
 use mathlib.Core.Path.{_≡_}
 use Prim.Native.Nat.{ℕ, _+_, _*_, _≤_, min, max}

@@ -24,7 +24,7 @@ ghost use Rattle.standard.specs.Books.{sealBook, openBook, checkPlain};
 ghost use Rattle.standard.specs.Cards.{restoreCall};
 ghost use Rattle.standard.specs.Classes.{ta12ClassCall};
 ghost use Rattle.standard.specs.Columns.{toColumns, fromColumns, columnsCall};
-ghost use Rattle.standard.specs.Derivation.{ta11Call, ta21Call, ta41Call, ta12Call, ta22Call, ta71Call, ta101Call, ringCall};
+ghost use Rattle.standard.specs.Keys.{ta11Call, ta21Call, ta41Call, ta12Call, ta22Call, ta71Call, ta101Call, ringCall};
 ghost use Rattle.standard.specs.Diffusion.{diffusionCall};
 ghost use Rattle.standard.specs.Hurdle.{encryptCall, decryptCall};
 ghost use Rattle.standard.specs.Identity.{ta61Call, ta61⁻¹Call};

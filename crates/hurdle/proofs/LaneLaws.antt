@@ -1,5 +1,4 @@
 -- f, the rounds and the blocks in each of four lanes, where lane j's round key or round keys are K j.
--- Assumes nothing.
 use Rattle.standard.proofs.Prelude.{_≡_, ap, _∙_, Bool, List, _++_, ℕ, _+_}
 use Rattle.hurdle.specs.declared.round.Halves.{Halves as Words}
 use Rattle.hurdle.specs.declared.round.Part.{Part}

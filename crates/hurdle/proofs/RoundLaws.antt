@@ -1,5 +1,4 @@
 -- The steps of the code add up to f, to the rounds and to the block.
--- Assumes nothing.
 use Rattle.standard.proofs.Prelude.{_≡_, refl, sym, ap, ap₂, _∙_, Bool, List, [], _∷_, _++_, ℕ, zero, suc, _+_, _*_, _/_, _%_, _^_, _<_}
 use Rattle.standard.proofs.Prelude.{div-one, mod-eq-of-lt, add-one, arith, xor-zero-r}
 use mathlib.Core.List.{map}

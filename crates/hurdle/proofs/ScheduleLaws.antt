@@ -1,10 +1,9 @@
 -- The round keys from the constants of the code: the schedule is linear in the key.
--- Assumes nothing.
 use Rattle.standard.proofs.Prelude.{_≡_, refl, sym, ap, ap₂, _∙_, _&&_, List, [], _∷_, ℕ, _+_, _*_, _/_, _%_, _<_, arith, eqb, ltb, eqb-true}
 use Rattle.standard.proofs.Prelude.{ltb-true}
 use Rattle.standard.specs.Bytes.{_!_, _⊕_, table, zeros}
 use Rattle.standard.specs.Hurdle.{D, a, Q, laid, schedule}
-use Rattle.standard.specs.Tables.{runningSum, turn, rotations as printed}
+use Rattle.standard.specs.PrintedTables.{runningSum, turn, rotations as printed}
 use Rattle.standard.proofs.BytesLaws.{table-at, table-same, and-split, every-at}
 use Rattle.standard.proofs.ScheduleLaws.{Q-linear, byteAt, laid-table}
 

@@ -1,5 +1,4 @@
 -- Four lanes side by side: a value in each.
--- Assumes nothing.
 use mathlib.Core.List.{List, [], _∷_}
 use Prim.Native.Nat.{ℕ, zero, suc}
 use lib.ListN.{getD}

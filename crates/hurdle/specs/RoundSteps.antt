@@ -1,5 +1,4 @@
 -- What the steps of a round compute, on words of 32 bits, on their way to the definitions.
--- Assumes nothing.
 use mathlib.Core.Bool.{Bool, true, false, _&&_}
 use mathlib.Core.List.{List, [], _∷_, map}
 use mathlib.Core.Path.{_≡_}

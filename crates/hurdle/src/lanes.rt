@@ -2,8 +2,8 @@
 // lanes take four links in turn, so that the lookups of one overlap with those of the others.
 use crate::round::Halves;
 use crate::round::Part;
+use crate::round::block_of;
 use crate::round::first;
-use crate::round::joined;
 use crate::round::place;
 use crate::round::second;
 use crate::round::split;
@@ -169,10 +169,15 @@ fn split_x4(x: [[u8; 8]; 4]) -> [Halves; 4]
     [split(a), split(b), split(c), split(d)]
 }
 
-fn joined_x4(h: [Halves; 4]) -> [[u8; 8]; 4]
+fn block_of_x4(h: [Halves; 4]) -> [[u8; 8]; 4]
     ensures { λ x. ⌜ x ≡ lanes (λ j. bytes4 (halvesAt h j .r) ++ bytes4 (halvesAt h j .l)) ⌝ }
 {
-    [joined(h[0]), joined(h[1]), joined(h[2]), joined(h[3])]
+    [
+        block_of(h[0]),
+        block_of(h[1]),
+        block_of(h[2]),
+        block_of(h[3]),
+    ]
 }
 
 // The four blocks through sixteen rounds; `back` takes the round keys in reverse order.
@@ -187,5 +192,5 @@ pub(crate) fn crypt_x4(
     ensures { λ y. ⌜ y ≡ lanes (λ j. cryptOf
         (λ i. roundKey (byLane (now (ka .entry)) (now (kb .entry)) (now (kc .entry)) (now (kd .entry)) j) (placeOf back i)) (lane x j)) ⌝ }
 {
-    joined_x4(rounds_x4(ka, kb, kc, kd, split_x4(x), back))
+    block_of_x4(rounds_x4(ka, kb, kc, kd, split_x4(x), back))
 }

@@ -14,7 +14,7 @@ use arrays::part8;
 use arrays::part16;
 pub use key_schedule::doubled;
 pub use round::Halves;
-pub use round::joined;
+pub use round::block_of;
 pub use round::round_under;
 pub use round::split;
 use standard::Bytes8;

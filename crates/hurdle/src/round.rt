@@ -151,7 +151,7 @@ pub fn split(block: [u8; 8]) -> Halves
 }
 
 // R, then L.
-pub fn joined(h: Halves) -> [u8; 8]
+pub fn block_of(h: Halves) -> [u8; 8]
     ensures { λ b. ⌜ b ≡ bytes4 (h .r) ++ bytes4 (h .l) ⌝ }
 {
     [
@@ -189,5 +189,5 @@ fn rounds(keys: &[u8; 192], h: Halves, back: bool) -> Halves
 pub(crate) fn crypt(keys: &[u8; 192], block: [u8; 8], back: bool) -> [u8; 8]
     ensures { λ r. ⌜ r ≡ cryptOf (λ i. roundKey (now (keys .entry)) (placeOf back i)) block ⌝ }
 {
-    joined(rounds(keys, split(block), back))
+    block_of(rounds(keys, split(block), back))
 }

@@ -1,5 +1,4 @@
 -- Eight bytes as a number, and the bits cut out of it.
--- Assumes nothing.
 use Rattle.standard.proofs.Prelude.{_≡_, ap, _∙_, List, ℕ, _+_, _*_, _%_, _^_, _≤_, _<_, one-mul, mod-lt, arith, length, pow-pos, shl-exact}
 use native.Mathlib.Nat.{lt-of-lt-of-le}
 use lib.Pow.{pow-mono}

@@ -11,7 +11,7 @@ use mixing::tb1;
 use mixing::tb3;
 use mixing::tb5;
 use mixing::tb6;
-use mixing::wide;
+use mixing::valid_width;
 use standard::CarrierIdentity;
 use standard::Cell;
 use standard::NO_INPUT;
@@ -40,7 +40,7 @@ pub fn tb1_inverse(result: &[u8], width: u64) -> Value
     if result.len() != 16 {
         return Value::refused(WRONG_LENGTH);
     }
-    if !wide(width) {
+    if !valid_width(width) {
         return Value::refused(WRONG_WIDTH);
     }
     let value = field(part8(result, 0), 0, width);
@@ -55,7 +55,7 @@ pub fn tb3_inverse(input: &[u8], result: &[u8], width: u64) -> Value
     if !have_lengths(input, 16, result, 16) {
         return Value::refused(WRONG_LENGTH);
     }
-    if !wide(width) {
+    if !valid_width(width) {
         return Value::refused(WRONG_WIDTH);
     }
     let value = field(unmixed(input, result), 0, width);

@@ -1,5 +1,4 @@
 -- TA71's key input as the ⊕ of two strings that overlap.
--- Assumes nothing.
 use Rattle.standard.proofs.Prelude.{_≡_, sym, ap, ap₂, _∙_, List, _++_, ℕ, _+_, length, xor-zero-r, xor-comm}
 use Rattle.standard.proofs.BytesLaws.{spelled}
 use Rattle.standard.specs.Bytes.{_!_, _⊕_, table, part, xors, zeros}

@@ -1,5 +1,4 @@
 -- The bytes that a mask chooses: the loop that stores them, and how many they are.
--- Assumes nothing.
 use Rattle.standard.proofs.Prelude.{_≡_, refl, sym, ap, ap₂, _∙_, subst, Bool, true, false, _&&_, _⊎_, inl, inr, List, _∷_, _++_, append-nil, ℕ, suc, _+_, _-_, _^_, _≤_, _<_}
 use Rattle.standard.proofs.Prelude.{add-zero, zero-add, arith, ltb, length, take, drop, set, drop-of-length-le, take-all, drop-drop, eq-eqb, ne-eqb, ltb-true, ltb-false}
 use lib.Count.{ones}
@@ -7,9 +6,9 @@ use lib.Seq.{getD-drop, length-take-le}
 use Rattle.arrays.proofs.CopyLaws.{copy-next, copied}
 use Rattle.arrays.specs.Least.{Least}
 use Rattle.standard.proofs.BytesLaws.{and-split}
-use Rattle.standard.proofs.DerivationLaws.{length-chosen}
+use Rattle.standard.proofs.KeysLaws.{length-chosen}
 use Rattle.standard.specs.Bytes.{_!_, byte, bit}
-use Rattle.standard.specs.Derivation.{chosenOf, chosen}
+use Rattle.standard.specs.Keys.{chosenOf, chosen}
 
 -- k of the chosen bytes stand at the front of a part that was d, and those below Bi are to be looked at
 pub record Gathered (m : ℕ) (o d : List ℕ) (i k : ℕ) (out : List ℕ) : Type 0 where

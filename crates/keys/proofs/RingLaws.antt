@@ -1,8 +1,7 @@
 -- The ring from its two halves.
--- Assumes nothing.
 use Rattle.standard.proofs.Prelude.{_≡_, refl, ap₂, _∙_, List, _++_, ℕ}
 use Rattle.standard.specs.Bytes.{part}
-use Rattle.standard.specs.Derivation.{ta41, half1, half2, ring}
+use Rattle.standard.specs.Keys.{ta41, half1, half2, ring}
 use Rattle.standard.specs.Mixing.{tb4, tb7}
 use Rattle.standard.specs.declared.RingInputs.{RingInputs}
 

@@ -1,5 +1,4 @@
 -- What masks that no test refuses have.
--- Assumes nothing.
 use mathlib.Core.Path.{_≡_}
 use Prim.Native.Nat.{ℕ}
 use lib.Count.{ones}

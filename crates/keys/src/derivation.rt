@@ -12,7 +12,7 @@ ghost use mathlib.Core.List.{[], _∷_, _++_};
 ghost use mathlib.Core.Path.{_≡_};
 ghost use Prim.Native.Nat.{_+_, _-_};
 ghost use Rattle.standard.specs.Bytes.{_!_, _⊕_, table, part};
-ghost use Rattle.standard.specs.Derivation.{core as coreOf, ta71 as ta71Of, int as intOf};
+ghost use Rattle.standard.specs.Keys.{core as coreOf, ta71 as ta71Of, int as intOf};
 
 // BL1 of the expanded seed.
 pub fn core(key: [u8; 16], seed: [u8; 10]) -> [u8; 16]

@@ -2,6 +2,7 @@
 mod derivation;
 mod masks;
 mod recipe;
+mod sitting;
 
 use crate::derivation::int;
 use crate::masks::split;
@@ -15,6 +16,7 @@ pub use derivation::reversed;
 pub use derivation::ta71_of;
 pub use masks::choose;
 pub use masks::mask_refusal;
+pub use sitting::sitting_ring;
 use standard::Authentication;
 use standard::Bytes10;
 use standard::Bytes16;
@@ -26,7 +28,7 @@ use standard::WRONG_SIDES;
 ghost use mathlib.Core.Bool.{_&&_};
 ghost use mathlib.Core.List.{[], _∷_};
 ghost use mathlib.Core.Path.{_≡_};
-ghost use Rattle.standard.specs.Derivation.{core as coreOf, ta11Call, ta21Call, ta41Call, ta12Call, ta22Call, ta71Call, ta101Call, ringOf, ringCall};
+ghost use Rattle.standard.specs.Keys.{core as coreOf, ta11Call, ta21Call, ta41Call, ta12Call, ta22Call, ta71Call, ta101Call, ringOf, ringCall};
 ghost use Rattle.standard.specs.Refusals.{wrongLength, hasLength, first, answer16};
 
 // The core under a root of any length; `seed_has_length` says that the seed had its length.

@@ -6,7 +6,7 @@ ghost use mathlib.Core.List.{_++_};
 ghost use mathlib.Core.Path.{_≡_};
 ghost use lib.Count.{ones};
 ghost use lib.ListN.{length, take, drop};
-ghost use Rattle.standard.specs.Derivation.{chosen, split as splitOf};
+ghost use Rattle.standard.specs.Keys.{chosen, split as splitOf};
 ghost use Rattle.standard.specs.Refusals.{maskTests, first};
 ghost use Rattle.keys.specs.Masks.{Counted};
 

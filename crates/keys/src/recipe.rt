@@ -10,7 +10,7 @@ use standard::Authentication;
 use standard::RingInputs;
 use standard::RingMade;
 ghost use mathlib.Core.Path.{_≡_};
-ghost use Rattle.standard.specs.Derivation.{core as coreOf, half as halfOf, ringAnswer};
+ghost use Rattle.standard.specs.Keys.{core as coreOf, half as halfOf, ringAnswer};
 ghost use Rattle.keys.specs.Masks.{Counted};
 
 // One half of the recipe: a session key from root and seed, and what it answers to a challenge. A half that does not run answers zero bytes,

@@ -1,5 +1,4 @@
 -- A sheet's records and values as code comes to them.
--- Assumes nothing.
 use Rattle.standard.proofs.Prelude.{_≡_, refl, sym, ap, ap₂, _∙_, Bool, true, false, _&&_, List, _++_, ℕ, _-_, _*_, _/_, _≤_, _<_, eqb, ltb, length}
 use Rattle.standard.proofs.Prelude.{_⊎_, inl, inr, eq-eqb, ne-eqb, ltb-true}
 use Rattle.lists.proofs.WalkLaws.{PrefixWritten, prefix-at}
@@ -7,7 +6,7 @@ use Rattle.lists.specs.Walks.{Clean}
 use Rattle.standard.proofs.BytesLaws.{spelled, and-split}
 use Rattle.standard.proofs.LineageLaws.{from-same, value-length, parents-before, value-step}
 use Rattle.standard.specs.Bytes.{_!_, table, part, choose}
-use Rattle.standard.specs.Derivation.{core, ta71}
+use Rattle.standard.specs.Keys.{core, ta71}
 use Rattle.standard.specs.Lineage.{operation, parent1, parent2, derivedLength, keyLength, filled, parentTests, lineageFault}
 use Rattle.standard.specs.Lineage.{derived, valueFrom, valueOf}
 use Rattle.standard.specs.Lists.{recordAt}

@@ -1,5 +1,4 @@
 -- The value of a record, from the values written for its parents.
--- Assumes nothing.
 use mathlib.Core.List.{List}
 use Prim.Native.Nat.{ℕ}
 use Rattle.standard.specs.Lineage.{parent1, parent2, valueFrom}

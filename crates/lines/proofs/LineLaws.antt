@@ -1,13 +1,12 @@
 -- Lines that grow at the end, and texts put over an output one after the other.
--- Assumes nothing.
 use Rattle.standard.proofs.Prelude.{_≡_, refl, sym, ap, ap₂, _∙_, List, [], _∷_, _++_, append-nil, ℕ, zero, suc, _+_, _-_, _*_, _≤_, _<_, add-one}
 use Rattle.standard.proofs.Prelude.{arith, length, take, drop, set, length-append, length-set, length-take, length-drop, drop-of-length-le, take-all}
 use Rattle.standard.proofs.Prelude.{lt-ltb, le-ltb}
 use lib.Seq.{take-suc, take-suc-set, take-nil, drop-nil, append-snoc}
 use Rattle.standard.specs.Bytes.{_!_}
 use Rattle.standard.specs.Lists.{joined}
-use Rattle.standard.specs.Text.{textCall}
-use Rattle.lines.specs.Lines.{room, shown, emptyLine, push, _▸_, front, over, putCall}
+use Rattle.standard.specs.Lines.{textCall}
+use Rattle.lines.specs.LineStates.{room, shown, emptyLine, push, _▸_, front, over, putCall}
 use Rattle.lines.specs.declared.Line.{Line}
 
 -- ---- one text after the other

@@ -1,10 +1,9 @@
 -- The texts of numbers: their digits, one by one, and their lengths.
--- Assumes nothing.
 use Rattle.standard.proofs.Prelude.{_≡_, refl, ap, _∙_, Bool, true, false, List, [], _∷_, _++_, ℕ, zero, suc, _+_, _-_, _/_, _%_, _≤_, _<_, arith}
 use Rattle.standard.proofs.Prelude.{ltb, length, length-append, lt-ltb, le-ltb}
 use native.Mathlib.Numerals.{sub-one}
 use Rattle.standard.specs.Bytes.{choose}
-use Rattle.standard.specs.Text.{digits, hexByte, hex}
+use Rattle.standard.specs.Lines.{digits, hexByte, hex}
 
 -- a byte more, at the end
 pub hex-step : (s : List ℕ) (b : ℕ) → hex (s ++ (b ∷ [])) ≡ hex s ++ hexByte b

@@ -6,8 +6,8 @@ ghost use mathlib.Core.List.{[], _∷_};
 ghost use mathlib.Core.Path.{_≡_};
 ghost use Prim.Native.Nat.{_≤_};
 ghost use lib.ListN.{length};
-ghost use Rattle.standard.specs.Text.{digits as digitsOf, decimal as decimalOf, hexDigit, hexByte, hex as hexOf, textCall};
-ghost use Rattle.lines.specs.Lines.{shown, emptyLine, _▸_, putCall};
+ghost use Rattle.standard.specs.Lines.{digits as digitsOf, decimal as decimalOf, hexDigit, hexByte, hex as hexOf, textCall};
+ghost use Rattle.lines.specs.LineStates.{shown, emptyLine, _▸_, putCall};
 
 // The most bytes of a line.
 pub const ROOM: usize = 160;

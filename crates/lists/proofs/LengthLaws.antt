@@ -1,5 +1,4 @@
 -- The tests of a list's length, as code makes them: by how many records of w bytes there are.
--- Assumes nothing.
 use Rattle.standard.proofs.Prelude.{_≡_, refl, sym, _∙_, true, false, [], _∷_, ℕ, _*_, _/_, _%_, _≤_, arith, eqb, leb, eq-eqb, ne-eqb, leb-true}
 use native.Mathlib.Nat.{div-add-mod, div-le-of-le-mul}
 use Rattle.standard.proofs.FirstLaws.{all-pass, first-append}

@@ -1,5 +1,4 @@
 -- The ways in which a call on a list returns: `head` is the refusal by its tests, g the fault of each of n records.
--- Assumes nothing.
 use Rattle.standard.proofs.Prelude.{_≡_, sym, Bool, List, _++_, ℕ, _*_, _<_, arith, drop, ne-eqb}
 use Rattle.standard.proofs.AnswerLaws.{accepted}
 use Rattle.standard.specs.Lists.{refused, answer, recordsCall}

@@ -1,5 +1,4 @@
 -- The steps of the two loops over a list, for records of any size: a scan that looks for a fault, and a pass that writes.
--- Assumes nothing.
 use Rattle.standard.proofs.Prelude.{_≡_, refl, sym, ap, _∙_, subst, _⊎_, inl, inr, List, _++_, append-nil, ℕ, zero, suc, _+_, _-_, _*_, _≤_, _<_}
 use Rattle.standard.proofs.Prelude.{add-sub-cancel-left, mul-zero, mul-suc, mul-le-mul-left, le-of-suc-le-suc, eq-or-lt-of-le, add-zero, add-one, arith, length}
 use Rattle.standard.proofs.Prelude.{take, drop, length-append, length-take, length-drop, drop-of-length-le, take-all, take-at, drop-at, drop-drop}

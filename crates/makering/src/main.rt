@@ -1,11 +1,11 @@
 // makering [SITTING]: makes the ring and both responses of a sitting, from a file or from standard input.
+use keys::sitting_ring;
 use libc::STDERR_FILENO;
 use programs::Input;
 use programs::read_argument;
 use programs::read_input;
 use programs::report_answer;
 use programs::write_output;
-use sitting::sitting_ring;
 use standard::BookAnswer;
 use standard::RING;
 use standard::RingMade;

@@ -1,14 +1,13 @@
 -- A width that passes its test, and TB5 and TB6 made in two halves of 40 bits.
--- Assumes nothing.
 use Rattle.standard.proofs.Prelude.{_≡_, sym, ap, _∙_, true, List, _++_, ℕ, _+_, _*_, _/_, _%_, _^_, _≤_, _<_, arith, leb-true}
 use Rattle.standard.proofs.BytesLaws.{and-split}
 use Rattle.standard.proofs.MixingLaws.{bytes-cat}
 use Rattle.standard.specs.Bytes.{xors, bytesOf}
 use Rattle.standard.specs.Mixing.{tb5, tb6}
-use Rattle.standard.specs.Refusals.{wide}
+use Rattle.standard.specs.Refusals.{validWidth}
 
-pub wide-split : (w : ℕ) → wide w ≡ true → (16 ≤ w) × (w ≤ 32)
-wide-split w t = let s = and-split _ _ t in (leb-true 16 w (s .0), leb-true w 32 (s .1))
+pub valid-width-split : (w : ℕ) → validWidth w ≡ true → (16 ≤ w) × (w ≤ 32)
+valid-width-split w t = let s = and-split _ _ t in (leb-true 16 w (s .0), leb-true w 32 (s .1))
 
 halves : (key : List ℕ) (left right n : ℕ) → right < 2 ^ 40 → left * 2 ^ 40 + right ≡ n
     → xors 10 key (bytesOf 5 left ++ bytesOf 5 right) ≡ xors 10 key (bytesOf 10 n)

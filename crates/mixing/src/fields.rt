@@ -5,7 +5,7 @@ ghost use mathlib.Core.Path.{_≡_};
 ghost use Prim.Native.Nat.{_<_, _≤_, _^_};
 ghost use Rattle.standard.specs.Bytes.{bytesOf};
 ghost use Rattle.standard.specs.Mixing.{tb1, tb5, tb6};
-ghost use Rattle.standard.specs.Refusals.{fits, wide as wideOf};
+ghost use Rattle.standard.specs.Refusals.{fits, validWidth};
 
 // The value has at most `width` bits.
 pub(crate) fn fits_in(value: u64, width: u64) -> bool
@@ -16,8 +16,8 @@ pub(crate) fn fits_in(value: u64, width: u64) -> bool
 }
 
 // A width that TB1 takes.
-pub fn wide(width: u64) -> bool
-    ensures { λ r. ⌜ r ≡ wideOf width ⌝ }
+pub fn valid_width(width: u64) -> bool
+    ensures { λ r. ⌜ r ≡ validWidth width ⌝ }
 {
     (16 <= width) & (width <= 32)
 }

@@ -12,7 +12,7 @@ use arrays::part12;
 use arrays::part16;
 use arrays::xor10;
 use arrays::xor16;
-pub use fields::wide;
+pub use fields::valid_width;
 use standard::Bytes10;
 use standard::Bytes16;
 use standard::VALUE_WIDE;
@@ -57,7 +57,7 @@ pub fn tb7_of(b: [u8; 12]) -> [u8; 16]
 pub fn tb1(value: u64, width: u64) -> Bytes16
     ensures { λ r. ⌜ r ≡ tb1Call value width ⌝ }
 {
-    if !wide(width) {
+    if !valid_width(width) {
         return Bytes16::refused(WRONG_WIDTH);
     }
     if !fits_in(value, width) {
@@ -87,7 +87,7 @@ pub fn tb3(input: &[u8], value: u64, width: u64) -> Bytes16
     if input.len() != 16 {
         return Bytes16::refused(WRONG_LENGTH);
     }
-    if !wide(width) {
+    if !valid_width(width) {
         return Bytes16::refused(WRONG_WIDTH);
     }
     if !fits_in(value, width) {

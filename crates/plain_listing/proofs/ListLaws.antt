@@ -1,5 +1,4 @@
 -- The lines of the listing: none is longer than a line may be, and the book's lines one after the other.
--- Assumes nothing.
 use Rattle.standard.proofs.Prelude.{_≡_, refl, ap, _∙_, Bool, true, false, List, _++_, ℕ, _+_, _*_, _/_, _≤_, arith, eqb, length, length-append}
 use Rattle.standard.proofs.Prelude.{take-all, eqb-true, eq-eqb, ne-eqb}
 use Rattle.standard.proofs.AnswerLaws.{is-accepted, lengths-fine}
@@ -7,17 +6,17 @@ use Rattle.standard.proofs.BytesLaws.{length-table}
 use Rattle.standard.specs.Books.{recordKind, plainFault, checkPlain}
 use Rattle.standard.specs.Lists.{recordAt}
 use Rattle.standard.specs.Bytes.{_!_, part, choose}
-use Rattle.standard.specs.Listing.{numberText, entryLine, entryLines, entriesLine, refusedLine, listing, listingRoom, listCall}
-use Rattle.standard.specs.ListingFacts.{ListingFits}
+use Rattle.standard.specs.PlainListing.{numberText, entryLine, entryLines, entriesLine, refusedLine, listing, listingRoom, listCall}
+use Rattle.standard.specs.PlainListingFacts.{ListingFits}
 use Rattle.standard.specs.Seals.{keyLength}
 use Rattle.standard.specs.Sizes.{plainSize}
-use Rattle.standard.specs.Text.{hex}
+use Rattle.standard.specs.Lines.{hex}
 use Rattle.standard.specs.declared.BookAnswer.{BookAnswer}
 use Rattle.standard.specs.declared.Algorithm.the-variants.{Ta31, Ta51, Ta81, Ta91}
 use Rattle.standard.specs.declared.Algorithm.{Algorithm}
 use Rattle.lines.proofs.LineLaws.{put-next, joined-most}
 use Rattle.lines.proofs.TextLaws.{digits-few, hex-twice}
-use Rattle.lines.specs.Lines.{room, putCall}
+use Rattle.lines.specs.LineStates.{room, putCall}
 
 -- ---- lengths
 

@@ -14,9 +14,9 @@ ghost use Prim.Native.Nat.{_+_, _-_, _*_, _≤_};
 ghost use lib.ListN.{length, take, drop};
 ghost use Rattle.standard.specs.Bytes.{_!_};
 ghost use Rattle.standard.specs.Seals.{keyLength};
-ghost use Rattle.standard.specs.Listing.{numberText, entryLine, entryLines, entriesLine, refusedLine, listCall};
-ghost use Rattle.standard.specs.Text.{ascii, decimal, hex};
-ghost use Rattle.lines.specs.Lines.{shown, emptyLine, _▸_, putCall};
+ghost use Rattle.standard.specs.PlainListing.{numberText, entryLine, entryLines, entriesLine, refusedLine, listCall};
+ghost use Rattle.standard.specs.Lines.{ascii, decimal, hex};
+ghost use Rattle.lines.specs.LineStates.{shown, emptyLine, _▸_, putCall};
 
 // Room for every listing: a line for each of 1,024 records, and the last one.
 pub const LISTING: usize = (MOST_RECORDS + 1) * ROOM;

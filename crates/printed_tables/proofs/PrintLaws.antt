@@ -1,13 +1,12 @@
 -- The lines of the tables one after the other, and the ways in which the call returns.
--- Assumes nothing.
 use Rattle.standard.proofs.Prelude.{_≡_, refl, sym, ap, _∙_, List, [], _∷_, _++_, ℕ, _≤_, _<_, arith, length}
-use Rattle.standard.proofs.TableLaws.{inverse-made, line-length, text-length}
+use Rattle.standard.proofs.PrintedTablesLaws.{inverse-made, line-length, text-length}
 use Rattle.standard.specs.Bytes.{_!_, part}
 use Rattle.standard.specs.Hurdle.{S, S⁻¹}
-use Rattle.standard.specs.Tables.{inverse, rotations, spaced, tableLine, tableLines, tablesText, tablesCall}
-use Rattle.standard.specs.Text.{ascii, hexByte}
+use Rattle.standard.specs.PrintedTables.{inverse, rotations, spaced, tableLine, tableLines, tablesText, tablesCall}
+use Rattle.standard.specs.Lines.{ascii, hexByte}
 use Rattle.lines.proofs.LineLaws.{line-append, put-over, put-next, line-whole, write-short, write-whole}
-use Rattle.lines.specs.Lines.{shown, emptyLine, _▸_, putCall}
+use Rattle.lines.specs.LineStates.{shown, emptyLine, _▸_, putCall}
 use Rattle.lines.specs.declared.Line.{Line}
 
 -- an entry more, at the end

@@ -7,8 +7,8 @@ use standard::TextAnswer;
 ghost use mathlib.Core.Path.{_≡_};
 ghost use lib.ListN.{length};
 ghost use Rattle.standard.specs.Hurdle.{S⁻¹};
-ghost use Rattle.standard.specs.Tables.{rotations as rotationsOf, spaced as spacedOf, tableLine, tableLines, tablesCall};
-ghost use Rattle.lines.specs.Lines.{shown, emptyLine, _▸_, putCall};
+ghost use Rattle.standard.specs.PrintedTables.{rotations as rotationsOf, spaced as spacedOf, tableLine, tableLines, tablesCall};
+ghost use Rattle.lines.specs.LineStates.{shown, emptyLine, _▸_, putCall};
 
 // The bytes of the text: seventeen lines, each of sixteen entries of two digits with a space or the line's end after it.
 pub const TABLES_TEXT: usize = 816;

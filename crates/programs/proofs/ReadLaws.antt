@@ -1,5 +1,4 @@
 -- Pieces of input, one after the other, in the front of a buffer.
--- Assumes nothing.
 use Rattle.standard.proofs.Prelude.{_≡_, refl, sym, ap, _∙_, true, false, true≢false, List, _++_, append-nil, ℕ, _+_, _-_, _≤_, zero-le, arith}
 use Rattle.standard.proofs.Prelude.{length, take, drop, take-all, drop-at, drop-drop}
 use lib.Seq.{length-take-le}
@@ -8,8 +7,8 @@ use Rattle.programs.specs.Reading.{Gathered, Read}
 use Rattle.programs.specs.declared.Input.{Input}
 
 -- nothing counts
-pub failed : (buf exit : List ℕ) → Gathered (record { len = 0; failed = true }) buf exit
-failed buf exit = record { counts = (zero-le, refl); rest = λ e. absurd (true≢false e); none = λ e. refl }
+pub read-failed : (buf exit : List ℕ) → Gathered (record { len = 0; failed = true }) buf exit
+read-failed buf exit = record { counts = (zero-le, refl); rest = λ e. absurd (true≢false e); none = λ e. refl }
 
 pub whole : (n : ℕ) (buf exit : List ℕ) → n ≤ length exit → drop n exit ≡ drop n buf → Gathered (record { len = n; failed = false }) buf exit
 whole n buf exit h e = record { counts = (h, sym (length-take-le n exit h)); rest = λ _. e; none = λ f. absurd (true≢false (sym f)) }

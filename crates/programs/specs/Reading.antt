@@ -1,5 +1,4 @@
 -- What a read leaves in the buffer that is lent to it. The bytes counted come from the system, and no contract knows them.
--- Assumes nothing.
 use mathlib.Core.Bool.{true, false}
 use mathlib.Core.List.{List}
 use mathlib.Core.Path.{_≡_}

@@ -1,5 +1,4 @@
 -- What the steps on one record add up to.
--- Assumes nothing.
 use Rattle.standard.proofs.Prelude.{_≡_, refl, sym, ap, _∙_, Bool, true, false, not, List, [], _∷_, _++_, ℕ, length, take, drop}
 use Rattle.standard.specs.Books.{sealingKey, plainFault, openFault, inspectionRuns}
 use Rattle.standard.specs.Bytes.{_!_, part, choose}

@@ -1,5 +1,4 @@
 -- What a record becomes, from the output b of the cipher run that gives a ring's identity strings and the core's output.
--- Assumes nothing.
 use mathlib.Core.List.{List, _∷_, _++_}
 use Prim.Native.Nat.{ℕ}
 use Rattle.standard.specs.Bytes.{_!_, part}

@@ -1,5 +1,4 @@
 -- The loops of the code turn the register and the halves as the definitions do.
--- Assumes nothing.
 use Rattle.standard.proofs.Prelude.{_≡_, sym, ap, ap₂, _∙_, List, _++_, ℕ, suc, _+_, _-_, _%_, _≤_, _<_, mod-eq-of-lt, add-one, arith, length}
 use Rattle.hurdle.proofs.RoundLaws.{round-word}
 use Rattle.hurdle.specs.RoundSteps.{bytes4, halfBytes, roundOver, spreads, HalvesOf}

@@ -1,5 +1,4 @@
 -- What the rounds of the cipher with one register keep, and what they compute on their way to the definitions.
--- Assumes nothing.
 use mathlib.Core.Bool.{Bool, _&&_}
 use mathlib.Core.List.{List, [], _∷_}
 use Prim.Native.Nat.{ℕ}

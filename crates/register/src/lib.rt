@@ -9,8 +9,8 @@ use hurdle::D;
 use hurdle::Halves;
 use hurdle::S;
 use hurdle::SPREAD;
+use hurdle::block_of;
 use hurdle::doubled;
-use hurdle::joined;
 use hurdle::round_under;
 use hurdle::split;
 use standard::Bytes8;
@@ -116,10 +116,10 @@ fn crypt(key: [u8; 16], block: [u8; 8], back: bool) -> [u8; 8]
     let halves = split(block);
     if back {
         let state = backward(key, halves);
-        joined(state.halves)
+        block_of(state.halves)
     } else {
         let state = onward(key, halves);
-        joined(state.halves)
+        block_of(state.halves)
     }
 }
 

@@ -1,5 +1,4 @@
 -- The line about an answer: none is longer than a line may be; and the ways in which the line is made.
--- Assumes nothing.
 use Rattle.standard.proofs.Prelude.{_≡_, refl, sym, ap, _∙_, Bool, true, false, _&&_, List, [], _∷_, _++_, ℕ, _≤_, arith, eqb, leb, length, length-append}
 use Rattle.standard.proofs.Prelude.{eq-eqb, ne-eqb, leb-true}
 use Rattle.standard.proofs.BytesLaws.{and-split}
@@ -8,7 +7,7 @@ use Rattle.standard.specs.Programs.{beside, meanings, meaning, meaningText, wro
 use Rattle.standard.specs.declared.BookAnswer.{BookAnswer}
 use Rattle.standard.specs.declared.CountedAnswer.{CountedAnswer}
 use Rattle.lines.proofs.TextLaws.{digits-few}
-use Rattle.lines.specs.Lines.{room, _▸_}
+use Rattle.lines.specs.LineStates.{room, _▸_}
 use Rattle.lines.specs.declared.Line.{Line}
 
 -- ---- lengths

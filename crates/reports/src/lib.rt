@@ -5,10 +5,10 @@ use standard::CountedAnswer;
 use standard::TextAnswer;
 ghost use mathlib.Core.Path.{_≡_};
 ghost use lib.ListN.{drop};
-ghost use Rattle.standard.specs.Listing.{refusedAt};
+ghost use Rattle.standard.specs.PlainListing.{refusedAt};
 ghost use Rattle.standard.specs.Programs.{beside, meanings, meaning as meaningOf, meaningText, wroteText, answerText};
 ghost use Rattle.standard.specs.Programs.{answerLine, countedLine, reportCall, countedReportCall};
-ghost use Rattle.lines.specs.Lines.{shown, emptyLine, _▸_};
+ghost use Rattle.lines.specs.LineStates.{shown, emptyLine, _▸_};
 
 // The words of a refusal without its meaning.
 pub fn refused_at(refusal: u32, index: usize) -> Line

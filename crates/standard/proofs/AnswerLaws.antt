@@ -1,5 +1,4 @@
 -- The answers of the book calls: when they are 0, and what they are then.
--- Assumes nothing.
 use Rattle.standard.proofs.Prelude.{_≡_, refl, sym, ap, ap₂, _∙_, subst, Bool, true, false, _⊎_, inl, inr, List, _∷_, _++_, ℕ, zero, suc, _+_}
 use Rattle.standard.proofs.Prelude.{_*_, _/_, _%_, _≤_, _<_, add-zero, add-mul, mul-zero, mul-suc, mul-le-mul-left, le-of-suc-le-suc}
 use Rattle.standard.proofs.Prelude.{eq-or-lt-of-le, arith, eqb, ltb, length, drop, eqb-true, eqb-false, eq-eqb, ne-eqb, leb-true, le-leb}

@@ -1,5 +1,4 @@
 -- Books: what is inverse on records is inverse on books of them, for any record sizes.
--- Assumes nothing.
 use Rattle.standard.proofs.Prelude.{_≡_, refl, sym, ap, ap₂, _∙_, Bool, true, _⊎_, inl, inr, List, _++_, append-nil, ℕ, zero, suc, _+_, _*_}
 use Rattle.standard.proofs.Prelude.{_/_, _≤_, _<_, add-zero, add-suc, mul-zero, mul-suc, mul-le-mul-left, mul-div-cancel-left}
 use Rattle.standard.proofs.Prelude.{le-of-suc-le-suc, eq-or-lt-of-le, arith, length, length-append}

@@ -1,5 +1,4 @@
 -- Strings of a known length: `table`, and what `Bytes` gives.
--- Assumes nothing.
 use Rattle.standard.proofs.Prelude.{_≡_, refl, sym, ap, ap₂, _∙_, Bool, true, false, not, _&&_, true≢false, List, [], _∷_, _++_, ℕ, zero, suc}
 use Rattle.standard.proofs.Prelude.{_+_, _-_, _*_, _/_, _%_, _^_, _≤_, _<_, add-zero, zero-add, add-suc, add-sub-cancel-left, suc-inj}
 use Rattle.standard.proofs.Prelude.{suc-ne-zero, le-of-suc-le-suc, arith, eqb, length, take, drop, length-append, eqb-true, eq-eqb, not-true}
@@ -157,11 +156,11 @@ pub and-join : {a b : Bool} → a ≡ true → b ≡ true → a && b ≡ true
 and-join {a} {b} p q = ap₂ _&&_ p q
 
 -- a test that a function answered: what it tests failed, or passed
-pub failed : {r t : Bool} → r ≡ t → not r ≡ true → t ≡ false
-failed {r} e h = sym e ∙ not-true r h
+pub test-failed : {r t : Bool} → r ≡ t → not r ≡ true → t ≡ false
+test-failed {r} e h = sym e ∙ not-true r h
 
-pub passed : {r t : Bool} → r ≡ t → not r ≡ false → t ≡ true
-passed {r} e h = sym e ∙ not-false r h
+pub test-passed : {r t : Bool} → r ≡ t → not r ≡ false → t ≡ true
+test-passed {r} e h = sym e ∙ not-false r h
 
 -- two strings that pass the tests of their lengths
 pub both-spelled : (m n : ℕ) (a b : List ℕ) → hasLength m a && hasLength n b ≡ true → (table m (λ i. a ! i) ≡ a) × (table n (λ i. b ! i) ≡ b)

@@ -1,6 +1,5 @@
 -- Sealing and unsealing in the terms of the single calls: what a sealing call answers for legal input, the unsealing call takes back
 -- with no check failed; and a text of which no check fails is what the sealing call answers for that key and number. TA61 likewise.
--- Assumes nothing.
 use Rattle.standard.proofs.Prelude.{_≡_, refl, List, ℕ, _+_, _*_, _/_, _%_, _^_, _≤_, _<_, arith, length, eqb-true, eq-eqb, le-leb, lt-ltb}
 use Rattle.standard.specs.Bytes.{_!_, bytesOf, number3, Bytes}
 use Rattle.standard.specs.SealsFacts.{sealBody}

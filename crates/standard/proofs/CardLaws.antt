@@ -1,5 +1,4 @@
 -- A card of four groups: what it can have been, and what the call answers.
--- Assumes nothing.
 use Rattle.standard.proofs.Prelude.{_≡_, refl, sym, ap, ap₂, _∙_, subst, Bool, true, false, not, _&&_, _⊎_, inl, inr, List, [], _∷_, _++_, ℕ}
 use Rattle.standard.proofs.Prelude.{zero, suc, _+_, _-_, _/_, _^_, _<_, mod-lt, suc-ne-zero, zero-lt-suc, arith, xor-self, eqb, leb, eqb-false}
 use Rattle.standard.proofs.Prelude.{eq-eqb, ne-eqb}
@@ -12,7 +11,7 @@ use Rattle.standard.specs.Refusals.{wrongLength, groupUnreadable, groupD
 use Rattle.standard.proofs.BytesLaws.{table-at, table-same, spell, bytes-append, bytes-cons, bytes-nil, bytes-part, and-split, and-join}
 use Rattle.standard.proofs.FirstLaws.{all-pass, not-first}
 use Rattle.standard.proofs.ErasureLaws.{Group, end, place, count, rest, filled, Fits, fits-length, Decides, group-decided, fits-right}
-use Rattle.standard.proofs.ErasureLaws.{Joined, join, both-decided, same-decided}
+use Rattle.standard.proofs.ErasureLaws.{Appended, join, both-decided, same-decided}
 use Rattle.standard.proofs.XorLaws.{xor-cancel-r, xor-byte}
 
 -- ---- the readable bytes, by the mask's bits and as a string
@@ -151,7 +150,7 @@ module _ (x : List ℕ) (m : ℕ) (h : Bytes 16 x) where
   G a = Fits (group a) 0
 
   abbrev Forms : List ℕ → Type 0
-  Forms = Joined (G 0) (Joined (G 4) (Joined (G 8) (G 12)))
+  Forms = Appended (G 0) (Appended (G 4) (Appended (G 8) (G 12)))
 
   -- the forms are the strings of four such groups
   tb7-forms : (k : List ℕ) → Bytes 12 k → readable (tb7 k) m ≡ readable x m → Forms (tb7 k)

@@ -1,5 +1,4 @@
 -- The worked cases of 01 (Cases to prove), a to k, as one theorem, by computation.
--- Assumes nothing.
 use Rattle.standard.proofs.Prelude.{_≡_, refl, List, [], _∷_, ℕ, suc}
 use Rattle.standard.specs.Bytes.{bit, table, zeros}
 use Rattle.standard.specs.Expansions.{exp1, exp2, exp3, exp4, x16}

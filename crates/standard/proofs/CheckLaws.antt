@@ -1,5 +1,4 @@
 -- The checks of a text: no bit of their number is set exactly if each finds what it wants, and exactly if their or is 0 (02, 3, 6).
--- Assumes nothing.
 use Rattle.standard.proofs.Prelude.{_≡_, refl, sym, ap, ap₂, _∙_, subst, Bool, true, false, _&&_, List, [], _∷_, ℕ, zero, suc, _+_, _*_, _/_}
 use Rattle.standard.proofs.Prelude.{_%_, _^_, _<_, suc-inj, suc-ne-zero, arith, xor-self, eqb, length, eqb-true, eqb-false, eq-eqb, ne-eqb}
 use native.Mathlib.Nat.{pow-succ', div-div-eq-div-mul}

@@ -1,5 +1,4 @@
 -- Rows and their columns: transposing with the sizes exchanged undoes it, and so do the calls.
--- Assumes nothing.
 use Rattle.standard.proofs.Prelude.{_≡_, refl, sym, ap, _∙_, List, _++_, ℕ, _+_, _*_, _/_, _≤_, _<_, mul-comm, mul-le-mul-left}
 use Rattle.standard.proofs.Prelude.{mul-div-cancel-left, length, drop, take-at, eq-eqb, le-leb}
 use native.Mathlib.Nat.{mul-mod-right}

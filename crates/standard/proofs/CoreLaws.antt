@@ -1,5 +1,4 @@
 -- The sealing and the unsealing core are inverse on all strings of 15 bytes: the discarded byte 8 is recovered, and never free.
--- Assumes nothing.
 use Rattle.standard.proofs.Prelude.{_≡_, refl, ap, _∙_, List, [], _∷_, _++_, ℕ}
 use Rattle.standard.specs.Bytes.{_!_, _⊕_, part, xors, Bytes}
 use Rattle.standard.specs.Cores.{bl1With, bl1, bl2}

@@ -1,5 +1,4 @@
 -- Demand 3, proved: for every ring of its size, all bytes of any length and every output long enough.
--- Assumes nothing.
 use Rattle.standard.proofs.Prelude.{_≡_, refl, sym, ap, _∙_, _↔_, List, _++_, ℕ, _*_, _/_, _≤_, _<_, arith, eqb, length, take, drop, take-at}
 use Rattle.standard.proofs.Prelude.{eq-eqb, le-leb}
 use Rattle.standard.specs.Books.{plainFault, sealRecord, openFault, openRecord, WellFormed, sealedForm}

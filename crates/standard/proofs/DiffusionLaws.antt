@@ -1,5 +1,4 @@
 -- The figures of a diffusion tally: the bounds that their sum and extremes keep, and why no flip changes nothing.
--- Assumes nothing.
 use Rattle.standard.proofs.Prelude.{_≡_, refl, sym, ap, _∙_, Bool, true, not, true≢false, List, [], _∷_, _++_, ℕ, zero, suc, _+_, _*_, _/_}
 use Rattle.standard.proofs.Prelude.{_%_, _^_, _≤_, _<_, zero-le, arith, xor-self, length, ne-eqb}
 use mathlib.Core.List.{foldl}

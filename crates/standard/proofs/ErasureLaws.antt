@@ -1,6 +1,5 @@
 -- What a group with erasures can have been, for groups of any length whose ⊕ is 0; and tests that decide whether exactly one string has a
 -- property.
--- Assumes nothing.
 use Rattle.standard.proofs.Prelude.{_≡_, refl, sym, ap, ap₂, _∙_, subst, Bool, true, false, not, _&&_, _⊎_, inl, inr, List, [], _∷_, _++_, ℕ}
 use Rattle.standard.proofs.Prelude.{zero, suc, _≤_, _<_, suc-inj, suc-ne-zero, arith, xor-comm, xor-self, xor-zero-r, eqb, leb, length, take}
 use Rattle.standard.proofs.Prelude.{drop, take-at, drop-at, eqb-true, eqb-false, eq-eqb, leb-true}
@@ -187,18 +186,18 @@ fits-right g ys f = go (eqb (count g) 0) refl
     go false e = refl
 
 -- the strings in two parts
-pub record Joined (P Q : List ℕ → Type 0) (z : List ℕ) : Type 0 where
+pub record Appended (P Q : List ℕ → Type 0) (z : List ℕ) : Type 0 where
   pub left : List ℕ
   pub right : List ℕ
   pub cut : left ++ right ≡ z
   pub left-has : P left
   pub right-has : Q right
 
-pub join : {P Q : List ℕ → Type 0} (y z : List ℕ) → P y → Q z → Joined P Q (y ++ z)
+pub join : {P Q : List ℕ → Type 0} (y z : List ℕ) → P y → Q z → Appended P Q (y ++ z)
 join y z p q = record { left = y; right = z; cut = refl; left-has = p; right-has = q }
 
 module _ (P Q : List ℕ → Type 0) (n : ℕ) (long : (y : List ℕ) → P y → length y ≡ n) where
-  several-left : Several P → (z : List ℕ) → Q z → Several (Joined P Q)
+  several-left : Several P → (z : List ℕ) → Q z → Several (Appended P Q)
   several-left s z q = record {
     one = s .one ++ z;
     other = s .other ++ z;
@@ -207,7 +206,7 @@ module _ (P Q : List ℕ → Type 0) (n : ℕ) (long : (y : List ℕ) → P y �
     differ = λ e. s .differ (sym (take-at (s .one) z n (long _ (s .one-has))) ∙ ap (take n) e ∙ take-at (s .other) z n (long _ (s .other-has)));
   }
 
-  several-right : (y : List ℕ) → P y → Several Q → Several (Joined P Q)
+  several-right : (y : List ℕ) → P y → Several Q → Several (Appended P Q)
   several-right y p s = record {
     one = y ++ s .one;
     other = y ++ s .other;
@@ -216,7 +215,7 @@ module _ (P Q : List ℕ → Type 0) (n : ℕ) (long : (y : List ℕ) → P y �
     differ = λ e. s .differ (sym (drop-at y (s .one) (length y) refl) ∙ ap (drop (length y)) e ∙ drop-at y (s .other) (length y) refl);
   }
 
-  pub both-decided : (a b : Bool) (y z : List ℕ) → Decides a P y → Decides b Q z → Decides (a && b) (Joined P Q) (y ++ z)
+  pub both-decided : (a b : Bool) (y z : List ℕ) → Decides a P y → Decides b Q z → Decides (a && b) (Appended P Q) (y ++ z)
   both-decided true true y z p q = record {
     has = join y z (p .has) (q .has);
     only = λ x h. sym (h .cut) ∙ ap₂ _++_ (p .only (h .left) (h .left-has)) (q .only (h .right) (h .right-has));

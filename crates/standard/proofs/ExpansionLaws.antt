@@ -1,5 +1,4 @@
 -- What goes through the expansions stays a string of bytes, for any groups.
--- Assumes nothing.
 use Rattle.standard.proofs.Prelude.{List, [], _∷_, ℕ, zero, suc, _+_, _<_, arith}
 use Rattle.standard.specs.Bytes.{_!_, _⊕_, Bytes}
 use Rattle.standard.specs.Expansions.{xorOn, grouped, ungrouped}

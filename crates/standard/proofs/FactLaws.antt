@@ -1,5 +1,4 @@
 -- The facts that the requests ask for (02), and one of 01's, proved.
--- Assumes nothing.
 use Rattle.standard.proofs.Prelude.{_≡_, refl, sym, ap, ap₂, _∙_, subst, Bool, true, false, _&&_, _↔_, List, [], _∷_, _++_, ℕ, zero, suc, _*_}
 use Rattle.standard.proofs.Prelude.{_/_, _^_, _<_, suc-ne-zero, arith, eqb, length, drop, pow-pos, eqb-true, eqb-false, eq-eqb, ne-eqb, le-leb}
 use mathlib.Core.Path.{fun-ext}
@@ -8,9 +7,9 @@ use Rattle.standard.specs.Books.{recordKind, sealingKey, plainFault, ope
 use Rattle.standard.specs.Bytes.{_!_, bit, part, zeros, bytesOf, choose}
 use Rattle.standard.specs.Classes.{classRecord, ta12ClassCall}
 use Rattle.standard.specs.Cores.{bl1With, bl1}
-use Rattle.standard.specs.Derivation.{core, ta11, ta21, ta41, chosen, ta12Call, sidesTest, ring, haveLengths, ringCall}
+use Rattle.standard.specs.Keys.{core, ta11, ta21, ta41, chosen, ta12Call, sidesTest, ring, haveLengths, ringCall}
 use Rattle.standard.specs.Expansions.{inserted, expected, exp3Groups}
-use Rattle.standard.specs.DerivationFacts.{BothSides, OneSide, IdleChallenge}
+use Rattle.standard.specs.KeysFacts.{BothSides, OneSide, IdleChallenge}
 use Rattle.standard.specs.ClassesFacts.{SingleCalls}
 use Rattle.standard.specs.BooksFacts.{SameBooks, SameChecks}
 use Rattle.standard.specs.SealsFacts.{groupsOf, checkCount, openedBy, flagClear}
@@ -30,7 +29,7 @@ use Rattle.standard.proofs.AnswerLaws.{is-accepted, accepted, answer-al
 use Rattle.standard.proofs.BookLaws.{joined-front}
 use Rattle.standard.proofs.BytesLaws.{spelled, length-spelled}
 use Rattle.standard.proofs.CheckLaws.{as-many, clear-same, or-clear, failed-bit, failed-below, failed-at}
-use Rattle.standard.proofs.DerivationLaws.{masks-ones, length-chosen, lengths-split}
+use Rattle.standard.proofs.KeysLaws.{masks-ones, length-chosen, lengths-split}
 use Rattle.standard.proofs.FirstLaws.{testAt, all-pass, none-fails}
 
 -- ---- one-sided authentication (02, 1)

@@ -1,5 +1,4 @@
 -- A loop that fills a list with a table from the front, one store a turn: after j turns the first j elements are the table's.
--- Assumes nothing.
 use Rattle.standard.proofs.Prelude.{_≡_, sym, ap, _∙_, List, ℕ, _+_, _<_, add-one, arith, length, take, set, take-all}
 use lib.Seq.{take-suc-set}
 use Rattle.standard.specs.Bytes.{table}

@@ -1,5 +1,4 @@
 -- The inverses of TB1, TB3, TB5 and TB6 find the only input (02, 10).
--- Assumes nothing.
 use Rattle.standard.proofs.Prelude.{_≡_, refl, sym, ap, _∙_, Bool, true, false, true≢false, _↔_, List, [], _∷_, ℕ, zero, suc, _+_, _-_, _*_}
 use Rattle.standard.proofs.Prelude.{_/_, _%_, _^_, _≤_, _<_, add-zero, zero-add, add-mul, div-one, mod-lt, arith, pow-add, pow-pos, eq-eqb}
 use Rattle.standard.proofs.Prelude.{le-leb}

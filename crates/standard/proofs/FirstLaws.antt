@@ -1,6 +1,5 @@
 -- `first`, the number of the first test that fails: it is 0 exactly if every test passes, and of two lists of tests the first goes
 -- before the second.
--- Assumes nothing.
 use Rattle.standard.proofs.Prelude.{_≡_, refl, sym, ap, _∙_, Bool, true, false, not, _&&_, List, [], _∷_, _++_, ℕ, zero, suc, eqb, eqb-false}
 use Rattle.standard.proofs.Prelude.{not-true}
 use Rattle.standard.specs.Bytes.{choose}

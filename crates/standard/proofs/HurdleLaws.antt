@@ -1,5 +1,4 @@
 -- HURDLE-II: S and its inverse undo each other; decryption undoes encryption, and encryption decryption.
--- Assumes nothing.
 use Rattle.standard.proofs.Prelude.{_≡_, refl, ap, _∙_, Bool, true, _&&_, List, _++_, ℕ, zero, suc, _-_, _<_, arith, eqb, ltb, length}
 use Rattle.standard.proofs.Prelude.{length-append, eqb-true, ltb-true}
 use Rattle.standard.specs.Bytes.{_!_, bit, table, part, Bytes}

@@ -1,5 +1,4 @@
 -- TA61 and its inverse undo each other on all strings of three bytes, under every common key.
--- Assumes nothing.
 use Rattle.standard.proofs.Prelude.{_≡_, sym, ap, _∙_, List, [], _∷_, ℕ, _+_, _-_, _*_, _/_, _%_, _<_, mod-lt, mod-eq-of-lt, zero-lt-suc}
 use Rattle.standard.proofs.Prelude.{arith}
 use native.Mathlib.Nat.{add-mul-mod-self-left, add-comm}

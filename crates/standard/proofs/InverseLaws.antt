@@ -1,6 +1,5 @@
 -- Two maps that are inverse between two properties: f takes what has P to what has Q, g takes it back, and each undoes the other.
 -- Every level of sealing is one: the core, a form, a sealed text, an identity, a record, a book.
--- Assumes nothing.
 use Rattle.standard.proofs.Prelude.{_≡_, sym, ap, _∙_, subst, _↔_}
 
 pub record Inverse {A B : Type 0} (P : A → Type 0) (Q : B → Type 0) (f : A → B) (g : B → A) : Type 0 where

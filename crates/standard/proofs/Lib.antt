@@ -4,12 +4,12 @@ pub mod BytesLaws
 pub mod FirstLaws
 pub mod FillLaws
 pub mod MixingLaws
-pub mod DerivationLaws
+pub mod KeysLaws
 pub mod InverseLaws
 pub mod HurdleLaws
 pub mod ScheduleLaws
 pub mod RegisterLaws
-pub mod TableLaws
+pub mod PrintedTablesLaws
 pub mod CoreLaws
 pub mod ExpansionLaws
 pub mod SealLaws
@@ -22,7 +22,7 @@ pub mod AnswerLaws
 pub mod RunLaws
 pub mod Demand3Laws
 pub mod ShuffleLaws
-pub mod ListingLaws
+pub mod PlainListingLaws
 pub mod FactLaws
 pub mod LineageLaws
 pub mod ColumnsLaws

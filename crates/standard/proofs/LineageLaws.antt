@@ -1,5 +1,4 @@
 -- The lineage sheet: a value is that of the record's operation on its parents' values, and depends on its ancestry alone.
--- Assumes nothing.
 use Rattle.standard.proofs.Prelude.{_≡_, refl, sym, ap, _∙_, Bool, true, false, List, _∷_, _++_, ℕ, zero, suc, _*_, _/_, _<_, arith, eqb}
 use Rattle.standard.proofs.Prelude.{length, drop, eqb-false, ne-eqb, ltb-true}
 use Rattle.standard.specs.Bytes.{part, choose}

@@ -2,7 +2,6 @@
 --     bytes-cat  a number in two parts, each in its own bytes
 --     tb1-at     byte j of TB1, as the code takes it out of two copies of the value
 --     tb1-bit    bit i of TB1 is bit i modulo the width of the value, both counted from the left
--- Assumes nothing.
 use Rattle.standard.proofs.Prelude.{_≡_, refl, sym, ap, ap₂, _∙_, _∷_, _++_, ℕ, zero, suc, _+_, _-_, _*_, _/_, _%_, _^_, _≤_, _<_, add-zero}
 use Rattle.standard.proofs.Prelude.{zero-add, add-suc, add-mul, mod-lt, arith, pow-add, shl-exact}
 use native.Mathlib.Nat.{suc-add, add-assoc, add-comm, zero-mul, suc-mul, mul-one, mul-assoc}

@@ -1,5 +1,4 @@
 -- The words of the logic that most proofs use, passed on, so that a proof brings them in by one line.
--- Assumes nothing.
 pub use mathlib.Core.Path.{_≡_, refl, sym, ap, ap₂, _∙_, subst}
 pub use mathlib.Core.Bool.{Bool, true, false, not, _&&_, true≢false}
 pub use mathlib.Core.Logic.{_⊎_, inl, inr, _↔_}

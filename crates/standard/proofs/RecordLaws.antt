@@ -1,5 +1,4 @@
 -- A record: sealing and opening are inverse between the plain records that no refusal applies to and the sealed ones that open.
--- Assumes nothing.
 use Rattle.standard.proofs.Prelude.{_≡_, refl, sym, _∙_, Bool, true, false, _&&_, List, [], _∷_, ℕ, eqb}
 use Rattle.standard.specs.Books.{sealingKey, commonKey, isKnown, recordKind, plainFault, sealRecord, openFault, openRecord}
 use Rattle.standard.specs.Bytes.{_!_, part, choose, Bytes}

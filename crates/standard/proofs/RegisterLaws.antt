@@ -1,12 +1,11 @@
 -- The register turns until the key is back, each step can be undone, and both forms of the cipher agree (02, 7).
--- Assumes nothing.
 use Rattle.standard.proofs.Prelude.{_≡_, refl, sym, ap, ap₂, _∙_, List, _++_, ℕ, zero, suc, _+_, _-_, _*_, _/_, _%_, _≤_, _<_, add-zero}
 use Rattle.standard.proofs.Prelude.{add-suc, mod-eq-of-lt, arith, xor-zero-r, leb, length, leb-true}
 use Rattle.standard.specs.Bytes.{_!_, _⊕_, part, xors, zeros}
 use Rattle.standard.specs.Hurdle.{Halves, round, rounds, crypt, D, a, rotl, Q, schedule, roundKey, encrypt, decrypt}
 use Rattle.standard.specs.Register.{step, stepBack, turned, State, start, onward, backward, encryptRegister, decryptRegister}
 use Rattle.standard.specs.RegisterFacts.{StepBack, Returns, KeyAgain, BeginsAnew, SameCipher}
-use Rattle.standard.specs.Tables.{runningSum, turn}
+use Rattle.standard.specs.PrintedTables.{runningSum, turn}
 use Rattle.standard.proofs.BytesLaws.{table-at, table-same, spelled, every-at}
 use Rattle.standard.proofs.ScheduleLaws.{Q-linear, round-key}
 use Rattle.standard.proofs.XorLaws.{xor-cancel-r}

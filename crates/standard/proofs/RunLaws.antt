@@ -1,5 +1,4 @@
 -- How many cipher runs the book calls take (02, 8).
--- Assumes nothing.
 use Rattle.standard.proofs.Prelude.{_≡_, refl, sym, ap, _∙_, Bool, true, false, _⊎_, inl, inr, List, [], _∷_, ℕ, _+_, _*_, _≤_, _<_, add-mul}
 use Rattle.standard.proofs.Prelude.{arith, eqb, eqb-true, eqb-false}
 use Rattle.standard.specs.Books.{Conversion, sealing, opening, sealingKey, isKnown, recordKind, openFault, inspectionRuns, bookCall, sealBook, openBook}

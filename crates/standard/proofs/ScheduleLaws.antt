@@ -1,10 +1,9 @@
 -- The schedule is linear in the key: each Q is the key, rotated, ⊕ the zero key's Q. The round keys laid out are those of the Qs.
--- Assumes nothing.
 use Rattle.standard.proofs.Prelude.{_≡_, refl, sym, ap, ap₂, _∙_, List, ℕ, zero, suc, _+_, _*_, _/_, _%_, _<_, add-zero, mod-eq-of-lt, arith}
 use Rattle.standard.proofs.Prelude.{xor-zero-r}
 use Rattle.standard.specs.Bytes.{_!_, _⊕_, table, part, zeros}
 use Rattle.standard.specs.Hurdle.{D, a, rotl, Q, laid, schedule, roundKey}
-use Rattle.standard.specs.Tables.{runningSum, turn}
+use Rattle.standard.specs.PrintedTables.{runningSum, turn}
 use Rattle.standard.proofs.BytesLaws.{table-at, table-same}
 use Rattle.standard.proofs.XorLaws.{xor-assoc}
 

@@ -1,6 +1,5 @@
 -- Sealing, over the form of an algorithm. For every sealing key and version, a text's flag is clear exactly if the text is the sealed form of
 -- a legal body (`is-image` of `sealing`), of that one alone, which is the one unsealed (`of-one`), and sealing it gives the text again.
--- Assumes nothing.
 use Rattle.standard.proofs.Prelude.{_≡_, refl, sym, ap, _∙_, Bool, _&&_, List, [], _∷_, _++_, ℕ, _/_, _%_, _≤_, _<_, mod-eq-of-lt, arith, eqb}
 use Rattle.standard.proofs.Prelude.{leb, eqb-true, leb-true, le-leb}
 use Rattle.standard.specs.Bytes.{_!_, part, same, choose}

@@ -1,5 +1,4 @@
 -- Shuffled and joined books (02, 14): what is true of every call that treats each record by itself.
--- Assumes nothing.
 use Rattle.standard.proofs.Prelude.{_≡_, refl, sym, ap, ap₂, _∙_, Bool, true, false, List, _++_, ℕ, _+_, _-_, _*_, _/_, _≤_, _<_, mul-suc}
 use Rattle.standard.proofs.Prelude.{mul-le-mul-left, mul-div-cancel-left, arith, eqb, ltb, length, drop, length-append, eq-eqb, lt-leb}
 use Rattle.standard.proofs.Prelude.{ltb-true, ltb-false}
@@ -10,7 +9,7 @@ use Rattle.standard.specs.Bytes.{_!_, Bytes}
 use Rattle.standard.specs.Lists.{recordAt, each, answer, recordsCall}
 use Rattle.standard.specs.Refusals.{bookTooLong}
 use Rattle.standard.specs.RunsFacts.{acceptedRuns}
-use Rattle.standard.specs.ShufflesFacts.{Reordering, reordered, Shuffled, Joined, NoReordering, TooManyJoined}
+use Rattle.standard.specs.ShufflesFacts.{Reordering, reordered, Shuffled, BooksJoined, NoReordering, TooManyJoined}
 use Rattle.standard.specs.Sizes.{ringSize, plainSize, sealedSize, mostRecords}
 use Rattle.standard.proofs.AnswerLaws.{call-accepts}
 use Rattle.standard.proofs.BookLaws.{Book, joined-same, joined-add, joined-bytes, joined-at, each-at, each-self, mapped-length}
@@ -167,9 +166,9 @@ shuffled r hr p w π ρ =
       undone = undone-by b π;
     }
 
-pub joined : Joined
+pub books-joined : BooksJoined
 unfolding sealBook openBook sealedForm
-joined r hr p q w v few =
+books-joined r hr p q w v few =
     let m = n r hr p w in
     let k = n r hr q v in
     let a = plain-records r hr p w in

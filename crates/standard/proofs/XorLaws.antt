@@ -1,5 +1,4 @@
 -- ⊕ is associative and undoes itself, on all numbers and not on bytes alone.
--- Assumes nothing.
 use Rattle.standard.proofs.Prelude.{_≡_, refl, sym, ap, ap₂, _∙_, ℕ, zero, suc, _+_, _*_, _/_, _%_, _<_, mod-lt, zero-lt-suc, arith, xor-comm}
 use Rattle.standard.proofs.Prelude.{xor-self, xor-zero-r}
 use lib.Arith.{bin-ind, digits-mod}

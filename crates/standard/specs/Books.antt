@@ -1,5 +1,4 @@
 -- Books (01, Books): rings, records, well-formed books, sealed forms, and the book calls.
--- Assumes nothing.
 use mathlib.Core.Bool.{Bool, true, false}
 use mathlib.Core.List.{List, [], _∷_, _++_}
 use mathlib.Core.Path.{_≡_}

@@ -1,6 +1,5 @@
 -- Demand 3, stated; and two facts on the checks: opening by 01's flag (02, 6), and plainlist's (01). The proofs are in proofs/Demand3Laws
 -- and proofs/FactLaws.
--- Assumes nothing.
 use mathlib.Core.List.{List, [], _∷_, _++_}
 use mathlib.Core.Logic.{_↔_}
 use mathlib.Core.Path.{_≡_}

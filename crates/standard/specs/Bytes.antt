@@ -1,6 +1,5 @@
 -- Byte strings (01, Byte order): lists of bytes, the leftmost first, as a lent buffer holds them.
 -- A string of known length is written out by its indexes: `table 3 f` is `f 0 ∷ f 1 ∷ f 2 ∷ []`.
--- Assumes nothing.
 use mathlib.Core.Bool.{Bool, true, false, _&&_}
 use mathlib.Core.List.{List, [], _∷_}
 use mathlib.Core.Path.{_≡_}

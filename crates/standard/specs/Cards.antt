@@ -1,6 +1,5 @@
 -- Smudged key cards (02, 11): a group key in its TB7 form, of which some bytes can't be read.
 -- The card's bytes are B15 to B0, from the left, in groups of four. Bit i of the mask m is set exactly if Bi is unreadable.
--- Assumes nothing.
 use mathlib.Core.Bool.{Bool, not, _&&_, _||_}
 use mathlib.Core.List.{List, [], _∷_}
 use Prim.Native.Nat.{ℕ, zero, suc, _+_, _-_, _*_, _/_}

@@ -1,5 +1,4 @@
 -- Smudged key cards (02, 11): when a card is restored, and to what, stated. The proofs are in proofs/CardLaws.
--- Assumes nothing.
 use mathlib.Core.List.{List}
 use mathlib.Core.Logic.{_⊎_, _↔_}
 use mathlib.Core.Path.{_≡_}

@@ -1,10 +1,9 @@
 -- A whole class of challenges under one session key (02, 2).
--- Assumes nothing.
 use mathlib.Core.List.{List, [], _∷_, _++_}
 use Prim.Native.Nat.{ℕ, _/_}
 use lib.ListN.{length}
 use Rattle.standard.specs.Bytes.{part}
-use Rattle.standard.specs.Derivation.{ta12Call}
+use Rattle.standard.specs.Keys.{ta12Call}
 use Rattle.standard.specs.Lists.{each, listTests, recordsCall}
 use Rattle.standard.specs.Refusals.{wrongLength, hasLength, maskTests}
 use Rattle.standard.specs.Sizes.{challengeSize, authenticationSize}

@@ -1,12 +1,11 @@
 -- A whole class of challenges (02, 2): its records are those of single calls, stated. The proof is in proofs/FactLaws.
--- Assumes nothing.
 use mathlib.Core.List.{List, _++_}
 use mathlib.Core.Path.{_≡_}
 use Prim.Native.Nat.{ℕ, _/_, _^_, _<_}
 use lib.ListN.{length}
 use Rattle.standard.specs.Bytes.{part}
 use Rattle.standard.specs.Classes.{ta12ClassCall}
-use Rattle.standard.specs.Derivation.{ta12Call}
+use Rattle.standard.specs.Keys.{ta12Call}
 use Rattle.standard.specs.Lists.{recordAt}
 use Rattle.standard.specs.Sizes.{challengeSize, authenticationSize}
 use Rattle.standard.specs.declared.Authentication.{Authentication}

@@ -1,5 +1,4 @@
 -- Books filed by column (02, 9): byte 0 of each record, in the records' order, then byte 1 of each, up to the last byte; and back.
--- Assumes nothing.
 use mathlib.Core.List.{List}
 use Prim.Native.Nat.{ℕ, _+_, _*_, _/_}
 use lib.ListN.{length}

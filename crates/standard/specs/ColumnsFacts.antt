@@ -1,5 +1,4 @@
 -- Books filed by column (02, 9): each of the two ways undoes the other, stated. The proofs are in proofs/ColumnsLaws.
--- Assumes nothing.
 use mathlib.Core.List.{List, _++_}
 use mathlib.Core.Path.{_≡_}
 use Prim.Native.Nat.{ℕ, _*_, _<_, _≤_}

@@ -1,5 +1,4 @@
 -- The two-block cores (01, Two-block cores; 000, 5.2, 5.3, 4.3.2).
--- Assumes nothing.
 use mathlib.Core.List.{List, [], _∷_, _++_}
 use Prim.Native.Nat.{ℕ}
 use Rattle.standard.specs.Bytes.{_!_, _⊕_, part, xors}

@@ -1,5 +1,4 @@
 -- The diffusion tally (02, 12): how many output bits of HURDLE-II change when one bit of the block is flipped.
--- Assumes nothing.
 use mathlib.Core.List.{List, [], _∷_, foldl}
 use Prim.Native.Nat.{ℕ, _+_, _/_, _^_, min, max}
 use lib.Count.{ones}

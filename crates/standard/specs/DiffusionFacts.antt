@@ -1,5 +1,4 @@
 -- The diffusion tally (02, 12): what the request asks of the figures, stated. The proofs are in proofs/DiffusionLaws.
--- Assumes nothing.
 use mathlib.Core.List.{List, []}
 use mathlib.Core.Path.{_≡_}
 use Prim.Native.Nat.{ℕ, _*_, _/_, _<_, _≤_}

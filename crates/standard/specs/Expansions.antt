@@ -1,6 +1,5 @@
 -- Expansions and shrinkings (01, Expansions; 000, 5.4, 5.5 and Figure 16).
 -- Those that insert ⊕ bytes have one shape: groups of bytes, and after each group its ⊕. `ns` has the groups' sizes.
--- Assumes nothing.
 use mathlib.Core.List.{List, [], _∷_, _++_}
 use Prim.Native.Nat.{ℕ, zero, suc, _+_}
 use Rattle.standard.specs.Bytes.{_!_, _⊕_, _⊞_, part}

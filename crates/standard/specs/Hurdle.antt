@@ -1,5 +1,4 @@
 -- HURDLE-II (01, HURDLE-II; 000, clause 6): 16 rounds on a block of 8 bytes under a key of 16.
--- Assumes nothing.
 use mathlib.Core.Bool.{_&&_}
 use mathlib.Core.List.{List, [], _∷_, _++_}
 use Prim.Native.Nat.{ℕ, zero, suc, _+_, _-_, _*_, _%_}

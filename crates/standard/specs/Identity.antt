@@ -1,5 +1,4 @@
 -- TA61 (01, Identity; 000, 5.12): the 24-bit identity, as three bytes.
--- Assumes nothing.
 use mathlib.Core.List.{List, [], _∷_}
 use Prim.Native.Nat.{ℕ, _+_, _-_, _*_, _%_}
 use Rattle.standard.specs.Bytes.{_!_, byte, _⊕_, table, xors, bytesOf, number3}

@@ -1,5 +1,4 @@
 -- Which input gave a result (02, 10): what is found is the only one, stated. The proofs are in proofs/FindLaws.
--- Assumes nothing.
 use mathlib.Core.List.{List}
 use mathlib.Core.Logic.{_↔_}
 use mathlib.Core.Path.{_≡_}

@@ -1,12 +1,11 @@
 -- The lineage sheet (02, 5): a tree of keys, each given or derived from two others.
--- Assumes nothing.
 use mathlib.Core.Bool.{Bool, _&&_, _||_}
 use mathlib.Core.List.{List, [], _∷_}
 use Prim.Native.Nat.{ℕ, zero, suc, _+_, _*_, _/_}
 use lib.Dec.{eqb, leb, ltb}
 use lib.ListN.{length}
 use Rattle.standard.specs.Bytes.{_!_, part, zeros, same, choose}
-use Rattle.standard.specs.Derivation.{ta11, ta21, ta41, ta71}
+use Rattle.standard.specs.Keys.{ta11, ta21, ta41, ta71}
 use Rattle.standard.specs.Lists.{recordAt, joined, listTests, recordsCall}
 use Rattle.standard.specs.Mixing.{tb4}
 use Rattle.standard.specs.Refusals.{wrongFilling, wrongParent, parentLength, first}

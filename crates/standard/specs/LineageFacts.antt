@@ -1,5 +1,4 @@
 -- The lineage sheet (02, 5): a value depends on the ancestry alone, stated. The proofs are in proofs/LineageLaws.
--- Assumes nothing.
 use mathlib.Core.List.{List}
 use mathlib.Core.Path.{_≡_}
 use Prim.Native.Nat.{ℕ, _/_, _<_}

@@ -1,5 +1,4 @@
 -- Lists of records (01, Books): records of w bytes, one after the other, at most 1,024 of them, and the calls that work on them.
--- Assumes nothing.
 use mathlib.Core.Bool.{Bool}
 use mathlib.Core.List.{List, [], _∷_, _++_}
 use Prim.Native.Nat.{ℕ, zero, suc, _*_, _/_, _%_}

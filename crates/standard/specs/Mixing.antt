@@ -1,5 +1,4 @@
 -- TB1 to TB7 (01, Responses and derived keys; 000, 5.19 to the end of clause 5).
--- Assumes nothing.
 use mathlib.Core.Bool.{_&&_}
 use mathlib.Core.List.{List, [], _∷_}
 use Prim.Native.Nat.{ℕ, _+_, _-_, _*_, _/_, _%_, _^_}
@@ -7,7 +6,7 @@ use lib.Dec.{leb}
 use lib.ListN.{replicate}
 use Rattle.standard.specs.Bytes.{_!_, part, xors, bytesOf}
 use Rattle.standard.specs.Expansions.{grouped}
-use Rattle.standard.specs.Refusals.{wrongLength, wrongWidth, valueWide, hasLength, wide, fits, first, answer10, answer16}
+use Rattle.standard.specs.Refusals.{wrongLength, wrongWidth, valueWide, hasLength, validWidth, fits, first, answer10, answer16}
 use Rattle.standard.specs.declared.Bytes10.{Bytes10}
 use Rattle.standard.specs.declared.Bytes16.{Bytes16}
 
@@ -51,13 +50,13 @@ tb7 b = grouped (3 ∷ 3 ∷ 3 ∷ 3 ∷ []) 0 b
 -- ---- the calls
 
 unfoldable pub tb1Call : ℕ → ℕ → Bytes16
-tb1Call v w = answer16 (first ((wide w, wrongWidth) ∷ (fits w v, valueWide) ∷ [])) (tb1 v w)
+tb1Call v w = answer16 (first ((validWidth w, wrongWidth) ∷ (fits w v, valueWide) ∷ [])) (tb1 v w)
 
 unfoldable pub tb2Call : List ℕ → Bytes16
 tb2Call x = answer16 (first ((hasLength 16 x, wrongLength) ∷ [])) (tb2 x)
 
 unfoldable pub tb3Call : List ℕ → ℕ → ℕ → Bytes16
-tb3Call x v w = answer16 (first ((hasLength 16 x, wrongLength) ∷ (wide w, wrongWidth) ∷ (fits w v, valueWide) ∷ [])) (tb3 x v w)
+tb3Call x v w = answer16 (first ((hasLength 16 x, wrongLength) ∷ (validWidth w, wrongWidth) ∷ (fits w v, valueWide) ∷ [])) (tb3 x v w)
 
 unfoldable pub tb4Call : List ℕ → List ℕ → Bytes10
 tb4Call x y = answer10 (first ((hasLength 10 x && hasLength 10 y, wrongLength) ∷ [])) (tb4 x y)

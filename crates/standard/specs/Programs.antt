@@ -1,16 +1,15 @@
 -- What the programs makering, sealbook and openbook take and say beside the calls: a sitting's file, and the line for standard error.
--- Assumes nothing.
 use mathlib.Core.List.{List, [], _∷_, _++_}
 use Prim.Native.Nat.{ℕ, _+_, _*_}
 use lib.Dec.{eqb}
 use Rattle.standard.specs.Bytes.{_!_, part, choose}
-use Rattle.standard.specs.Derivation.{ringCall}
-use Rattle.standard.specs.Listing.{refusedAt}
+use Rattle.standard.specs.Keys.{ringCall}
+use Rattle.standard.specs.PlainListing.{refusedAt}
 use Rattle.standard.specs.Refusals.{bookTooLong, bookNotWhole, wrongKind, notZero, wrongNumber, flagSet, wrongMask, sharedBit}
 use Rattle.standard.specs.Refusals.{wrongWidth, valueWide, wrongLength, outputShort, wrongSides, wrongFilling, wrongParent}
 use Rattle.standard.specs.Refusals.{parentLength, noInput, groupUnreadable, groupDisagrees, hasLength, ringMade}
 use Rattle.standard.specs.Sizes.{sittingSize}
-use Rattle.standard.specs.Text.{ascii, decimal, textCall}
+use Rattle.standard.specs.Lines.{ascii, decimal, textCall}
 use Rattle.standard.specs.declared.BookAnswer.{BookAnswer}
 use Rattle.standard.specs.declared.CountedAnswer.{CountedAnswer}
 use Rattle.standard.specs.declared.RingMade.{RingMade}

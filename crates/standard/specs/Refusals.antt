@@ -2,7 +2,6 @@
 -- A book is tested for 11, 1, 2 and 12, and then each of its records for 3, and for 4 and 5 when it is sealed or for 6 when it is opened;
 -- a class for 11, 1, 2, 12, 7 and 8; a lineage sheet for 1, 2 and 12, and then each of its records for 14, 15 and 16; a book to be filed by
 -- column for 1, 2 and 12; a tally for 1 and 2. A single call tests 11, 13, 7, 8, 9, 10, 5, 17, 18, 19.
--- Assumes nothing.
 use mathlib.Core.Bool.{Bool, true, false, _&&_}
 use mathlib.Core.List.{List, [], _∷_}
 use Prim.Native.Nat.{ℕ, _^_}
@@ -118,8 +117,8 @@ abbrev pub maskTests : ℕ → ℕ → List (Bool × ℕ)
 maskTests rm km = (eqb (ones rm) 4 && eqb (ones km) 10, wrongMask) ∷ (eqb (bitAnd rm km) 0, sharedBit) ∷ []
 
 -- a width of TB1 and TB3
-abbrev pub wide : ℕ → Bool
-wide w = leb 16 w && leb w 32
+abbrev pub validWidth : ℕ → Bool
+validWidth w = leb 16 w && leb w 32
 
 -- the value has at most w bits
 abbrev pub fits : ℕ → ℕ → Bool

@@ -1,5 +1,4 @@
 -- The key schedule in sixteen bytes (02, 7): one register, which starts as the key and steps from round to round until the key is back.
--- Assumes nothing.
 use mathlib.Core.List.{List, [], _∷_, _++_}
 use Prim.Native.Nat.{ℕ, zero, suc, _-_, _%_}
 use Rattle.standard.specs.Bytes.{_!_, part, xors}
@@ -50,14 +49,14 @@ backward (suc n) s =
     record { register = q; halves = roundUnder q (t .halves) }
 
 -- R, then L
-abbrev pub joined : State → List ℕ
-joined s = s .halves .1 ++ s .halves .0
+abbrev pub blockOf : State → List ℕ
+blockOf s = s .halves .1 ++ s .halves .0
 
 unfoldable pub encryptRegister : List ℕ → List ℕ → List ℕ
-encryptRegister key b = joined (onward 16 (start key b))
+encryptRegister key b = blockOf (onward 16 (start key b))
 
 unfoldable pub decryptRegister : List ℕ → List ℕ → List ℕ
-decryptRegister key b = joined (backward 16 (start key b))
+decryptRegister key b = blockOf (backward 16 (start key b))
 
 -- ---- the call that shows the register; those of the cipher are `encryptCall` and `decryptCall`
 

@@ -1,5 +1,4 @@
 -- The register (02, 7): what the request asks for, stated. The proofs are in proofs/RegisterLaws.
--- Assumes nothing.
 use mathlib.Core.List.{List}
 use mathlib.Core.Path.{_≡_}
 use Prim.Native.Nat.{ℕ, _%_, _<_}

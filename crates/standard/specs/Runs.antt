@@ -1,5 +1,4 @@
 -- Counted cipher runs (02, 8): how often a book call runs the block cipher, step by step.
--- Assumes nothing.
 use Prim.Native.Nat.{ℕ, zero, suc, _+_, _*_}
 use lib.Dec.{eqb}
 use Rattle.standard.specs.Bytes.{choose}

@@ -1,5 +1,4 @@
 -- How many cipher runs the book calls take (02, 8), stated. The proofs are in proofs/RunLaws.
--- Assumes nothing.
 use mathlib.Core.List.{List}
 use mathlib.Core.Path.{_≡_}
 use Prim.Native.Nat.{ℕ, _+_, _*_, _/_, _≤_}

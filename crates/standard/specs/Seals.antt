@@ -1,7 +1,6 @@
 -- Sealing and unsealing (01, Sealing and unsealing; 000, 5.8 to 5.11, 5.14 to 5.17).
 -- A body is what a plain record has after its version, 12 bytes: a key and two zero bytes (kind 1), a key, a zero byte and a number
 -- (kind 2), a key and a number of two bytes (kind 3), or a group key (kind 4). Kinds 5 and 6 are kinds 2 and 3 under another key (02, 4).
--- Assumes nothing.
 use mathlib.Core.Bool.{Bool, _&&_}
 use mathlib.Core.List.{List, [], _∷_, _++_}
 use Prim.Native.Nat.{ℕ, _+_, _*_, _/_, _%_}

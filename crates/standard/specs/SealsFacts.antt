@@ -1,5 +1,4 @@
 -- The flag without branches (02, 3) and part marks for redundancy (02, 6), stated. The proofs are in proofs/FactLaws.
--- Assumes nothing.
 use mathlib.Core.Bool.{Bool, true, _&&_}
 use mathlib.Core.List.{List}
 use mathlib.Core.Logic.{_↔_}

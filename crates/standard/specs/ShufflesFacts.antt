@@ -1,5 +1,4 @@
 -- Shuffled and joined books (02, 14), stated. The proofs are in proofs/ShuffleLaws.
--- Assumes nothing.
 use mathlib.Core.List.{List, _++_}
 use mathlib.Core.Path.{_≡_}
 use Prim.Native.Nat.{ℕ, _+_, _*_, _/_, _<_, _≤_}
@@ -66,8 +65,8 @@ pub record JoinedBooks (r p q : List ℕ) (n : ℕ) : Type 0 where
       ≡ (record { refusal = 0; index = n; written = plainSize * n; runs = acceptedRuns 4 n }, (p ++ q) ++ drop (plainSize * n) out)
 
 -- for every ring and every two well-formed books that together have at most 1,024 records
-abbrev pub Joined : Type 0
-Joined = (r : List ℕ) → Bytes ringSize r → (p q : List ℕ) → WellFormed p → WellFormed q
+abbrev pub BooksJoined : Type 0
+BooksJoined = (r : List ℕ) → Bytes ringSize r → (p q : List ℕ) → WellFormed p → WellFormed q
     → length p / plainSize + length q / plainSize ≤ mostRecords → JoinedBooks r p q (length p / plainSize + length q / plainSize)
 
 -- ---- where the two facts end

@@ -1,5 +1,4 @@
 -- The sizes that many definitions share, in bytes, and the most records of a list (01, Books).
--- Assumes nothing.
 use Prim.Native.Nat.{ℕ}
 
 -- D, O, C and G (02, 4)

@@ -1,5 +1,4 @@
 -- The core's key of a typed array, and what opening gives of one, are those of the string that the array was made from.
--- Assumes nothing.
 use Rattle.standard.proofs.Prelude.{_≡_, refl, List, ℕ}
 use Rattle.standard.specs.Bytes.{part}
 use Rattle.standard.specs.Seals.{key10, key16, opened}

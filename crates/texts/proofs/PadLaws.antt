@@ -1,5 +1,4 @@
 -- The bit of a check; checks that pass, after those of an algorithm, change neither their or nor their number.
--- Assumes nothing.
 use Rattle.standard.proofs.Prelude.{_≡_, refl, Bool, true, false, List, ℕ, zero, suc, _+_, _/_, _≤_, _<_, zero-lt-suc, arith, eqb, eqb-true}
 use Rattle.standard.proofs.Prelude.{eqb-false}
 use lib.Bits.{or-zero-r}

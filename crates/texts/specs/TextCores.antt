@@ -1,5 +1,4 @@
 -- The core of a sealed text.
--- Assumes nothing.
 use mathlib.Core.List.{List}
 use Prim.Native.Nat.{ℕ}
 use Rattle.cores.specs.declared.CoreOutput15.{CoreOutput15}

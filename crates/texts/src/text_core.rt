@@ -9,7 +9,7 @@ use cores::bl1;
 use cores_x4::bl1_x4;
 ghost use mathlib.Core.Path.{_≡_};
 ghost use Rattle.cores.specs.CoreOutputs.{counted15};
-ghost use Rattle.cores_x4.specs.Lanes.{lane16};
+ghost use Rattle.cores_x4.specs.OutputLanes.{lane16};
 ghost use Rattle.standard.specs.Seals.{with8 as with8Of};
 ghost use Rattle.hurdle.specs.Lanes.{lanes, lane};
 ghost use Rattle.texts.specs.TextCores.{shortened, sealCore};

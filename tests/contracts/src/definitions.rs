@@ -44,7 +44,7 @@ struct File {
 }
 
 /// The tests that say what one argument must be.
-const NOTED: [&str; 3] = ["hasLength", "fits", "wide"];
+const NOTED: [&str; 3] = ["hasLength", "fits", "validWidth"];
 /// The field with the refusal of a record or a body.
 const FAULT: &str = "fault";
 

@@ -1,5 +1,4 @@
 -- The strings are the same if they agree so far and their rests are.
--- Assumes nothing.
 use Rattle.standard.proofs.Prelude.{_≡_, refl, sym, _∙_, _-_, _≤_, zero-le, arith, length, drop, now}
 use Rattle.standard.specs.Bytes.{sameOn, same}
 use Rattle.arrays.proofs.SameLaws.{same-not, same-next, same-end}

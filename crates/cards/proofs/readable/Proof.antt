@@ -1,5 +1,4 @@
 -- The first i bytes are those of the card, or 0 where it is unreadable.
--- Assumes nothing.
 use Rattle.standard.proofs.Prelude.{_≡_, refl, _∙_, ℕ, _-_, _≤_, zero-le, arith, length, take, length-set, needs}
 use Rattle.standard.proofs.FillLaws.{fill-next, filled}
 use Rattle.standard.specs.Bytes.{_!_, table, choose}

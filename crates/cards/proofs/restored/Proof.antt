@@ -1,5 +1,4 @@
 -- The first i bytes are those read, or where one is missing the ⊕ of its group's others.
--- Assumes nothing.
 use Rattle.standard.proofs.Prelude.{_≡_, refl, _∙_, ℕ, _-_, _*_, _/_, _≤_, zero-le, arith, length, take, length-set, needs}
 use Rattle.standard.proofs.FillLaws.{fill-next, filled}
 use Rattle.standard.specs.Bytes.{_!_, table, choose}

@@ -2,7 +2,7 @@ use Rattle.standard.proofs.Prelude.{_≡_, refl, sym, ap, _∙_, List, _++_, �
 use Rattle.lists.proofs.LengthLaws.{records-within, output-enough}
 use Rattle.lists.proofs.ListReturnLaws.{call-refused, call-done}
 use Rattle.standard.proofs.BytesLaws.{spelled}
-use Rattle.standard.proofs.DerivationLaws.{masks-ones}
+use Rattle.standard.proofs.KeysLaws.{masks-ones}
 use Rattle.standard.specs.Classes.{ta12ClassCall}
 use Rattle.standard.specs.Hurdle.{schedule}
 use Rattle.standard.specs.Sizes.{challengeSize, authenticationSize}

@@ -1,5 +1,4 @@
 -- The first i parts of the output are the records of the first i challenges.
--- Assumes nothing.
 use Rattle.standard.proofs.Prelude.{_≡_, List, _+_, _-_, _≤_, zero-le, arith, now}
 use Rattle.lists.proofs.WalkLaws.{Wrote, wrote-none, wrote-one, wrote-from}
 use Rattle.standard.specs.Sizes.{challengeSize, authenticationSize}

@@ -1,7 +1,6 @@
 -- The first j of the four records stand at their places.
--- Assumes nothing.
 use Rattle.standard.proofs.Prelude.{_≡_, refl, List, ℕ, _+_, _-_, _≤_, zero-le, arith, now}
-use Rattle.cores_x4.specs.Lanes.{lane16}
+use Rattle.cores_x4.specs.OutputLanes.{lane16}
 use Rattle.lists.proofs.WalkLaws.{ReplacedFrom, replaced-none, replaced-more}
 use Rattle.standard.specs.Sizes.{authenticationSize}
 use Rattle.classes.specs.ClassRecords.{recordFrom}

@@ -1,5 +1,4 @@
 -- The first i bytes of the output are byte j of the first i rows.
--- Assumes nothing.
 use Rattle.standard.proofs.Prelude.{_≡_, refl, _∙_, _+_, _-_, _*_, _≤_, zero-le, arith, length, take, length-set, now}
 use Rattle.standard.proofs.FillLaws.{fill-next, filled}
 use Rattle.standard.specs.Bytes.{_!_}

@@ -1,5 +1,4 @@
 -- The first j columns are written.
--- Assumes nothing.
 use Rattle.standard.proofs.Prelude.{_≡_, _-_, _≤_, zero-le, arith, now}
 use Rattle.lists.proofs.WalkLaws.{ends}
 use Rattle.standard.specs.Columns.{transposed}

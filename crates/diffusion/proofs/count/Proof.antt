@@ -1,5 +1,4 @@
 -- The first i records are counted.
--- Assumes nothing.
 use Rattle.standard.proofs.Prelude.{_≡_, ap, _-_, _≤_, zero-le, arith, length, now}
 use Rattle.lists.proofs.WalkLaws.{lent}
 use Rattle.standard.proofs.DiffusionLaws.{length-changes}

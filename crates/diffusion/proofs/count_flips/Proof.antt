@@ -1,5 +1,4 @@
 -- The first 4 · q flips are counted.
--- Assumes nothing.
 use Rattle.standard.proofs.Prelude.{_≡_, _-_, _*_, _≤_, zero-le, arith, now}
 use Rattle.standard.proofs.BytesLaws.{length-table}
 use Rattle.standard.specs.Bytes.{table}

@@ -1,5 +1,4 @@
 -- The output keeps its length.
--- Assumes nothing.
 use Rattle.standard.proofs.Prelude.{_≡_, _-_, arith, length, length-set, needs}
 use Rattle.edges.proofs.fill.Tie as tie
 

@@ -1,12 +1,12 @@
 use Rattle.standard.proofs.Prelude.{needs}
-use Rattle.standard.proofs.BytesLaws.{failed, passed}
+use Rattle.standard.proofs.BytesLaws.{test-failed, test-passed}
 use Rattle.inverses.proofs.confirmed.Tie as tie
 
 returns : tie.Need-returns
-returns c = rw (c .refused .ensures, failed (c .before .before .same .ensures) (c .before .if1 .taken))
+returns c = rw (c .refused .ensures, test-failed (c .before .before .same .ensures) (c .before .if1 .taken))
 
 returns-2 : tie.Need-returns-2
-returns-2 c = rw (passed (c .before .same .ensures) (c .if1 .left))
+returns-2 c = rw (test-passed (c .before .same .ensures) (c .if1 .left))
 
 pub confirmed-spec : {M : Type 1} → Rattle.inverses.proofs.confirmed.Statement.statement M
 confirmed-spec =

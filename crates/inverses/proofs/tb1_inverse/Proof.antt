@@ -1,9 +1,9 @@
 use Rattle.standard.proofs.Prelude.{_≡_, true, arith, now, needs, eq-eqb, ne-eqb}
-use Rattle.mixing.proofs.FieldLaws.{wide-split}
-use Rattle.standard.proofs.BytesLaws.{failed, passed}
+use Rattle.mixing.proofs.FieldLaws.{valid-width-split}
+use Rattle.standard.proofs.BytesLaws.{test-failed, test-passed}
 use Rattle.standard.specs.Bytes.{part}
 use Rattle.standard.specs.Inverses.{tb1⁻¹Call}
-use Rattle.standard.specs.Refusals.{wide}
+use Rattle.standard.specs.Refusals.{validWidth}
 use Rattle.inverses.proofs.AgainLaws.{tb1-again}
 use Rattle.inverses.proofs.tb1_inverse.Tie as tie
 
@@ -14,12 +14,12 @@ returns c = rw (c .refused .ensures, ne-eqb _ _ (c .before .if1 .taken))
 returns-2 : tie.Need-returns-2
 unfolding tb1⁻¹Call
 returns-2 c =
-    rw (c .refused2 .ensures, eq-eqb _ _ (c .before .before .before .if1 .left), failed (c .before .before .wide .ensures) (c .before .if2 .taken))
+    rw (c .refused2 .ensures, eq-eqb _ _ (c .before .before .before .if1 .left), test-failed (c .before .before .valid-width .ensures) (c .before .if2 .taken))
 
 field-requires : tie.Need-field-requires
 field-requires c κs =
     let x = c .before .before .before .before .before .args in
-    let s = wide-split (x .width) (passed (c .before .before .wide .ensures) (c .before .if2 .left)) in
+    let s = valid-width-split (x .width) (test-passed (c .before .before .valid-width .ensures) (c .before .if2 .left)) in
     (omega (arith, s), omega (arith, s), omega (arith, s))
 
 returns-3 : tie.Need-returns-3
@@ -28,7 +28,7 @@ returns-3 c =
     let made = c .before .before in
     let tested = made .before .before .before in
     let x = tested .before .before .before .before .args in
-    let t : wide (x .width) ≡ true = passed (tested .before .wide .ensures) (tested .if2 .left) in
+    let t : validWidth (x .width) ≡ true = test-passed (tested .before .valid-width .ensures) (tested .if2 .left) in
     rw (
       c .confirmed .ensures,
       made .tb1 .ensures,

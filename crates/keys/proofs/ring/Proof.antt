@@ -1,6 +1,6 @@
 use Rattle.standard.proofs.Prelude.{_≡_, false, now, needs, not-true, not-false}
-use Rattle.standard.proofs.DerivationLaws.{ring-long}
-use Rattle.standard.specs.Derivation.{haveLengths, ringCall}
+use Rattle.standard.proofs.KeysLaws.{ring-long}
+use Rattle.standard.specs.Keys.{haveLengths, ringCall}
 use Rattle.keys.proofs.ring.Tie as tie
 
 returns : tie.Need-returns

@@ -1,6 +1,6 @@
 use Rattle.standard.proofs.Prelude.{_≡_, sym, _∙_, true, false, _&&_, leb, needs, ne-eqb, not-true, not-false}
-use Rattle.standard.proofs.DerivationLaws.{masks-ones}
-use Rattle.standard.specs.Derivation.{ringOf}
+use Rattle.standard.proofs.KeysLaws.{masks-ones}
+use Rattle.standard.specs.Keys.{ringOf}
 use Rattle.standard.specs.Refusals.{maskTests, first}
 use Rattle.keys.proofs.ring_of.Tie as tie
 

@@ -1,17 +1,17 @@
 use Rattle.standard.proofs.Prelude.{now, needs, lt-ltb, le-ltb}
-use Rattle.standard.proofs.BytesLaws.{failed, passed, both-spelled}
-use Rattle.standard.specs.Derivation.{ta101Call}
+use Rattle.standard.proofs.BytesLaws.{test-failed, test-passed, both-spelled}
+use Rattle.standard.specs.Keys.{ta101Call}
 use Rattle.keys.proofs.ta101.Tie as tie
 
 returns : tie.Need-returns
 unfolding ta101Call
-returns c = rw (c .refused .ensures, failed (c .before .before .have-lengths .ensures) (c .before .if1 .taken))
+returns c = rw (c .refused .ensures, test-failed (c .before .before .have-lengths .ensures) (c .before .if1 .taken))
 
 returns-2 : tie.Need-returns-2
 unfolding ta101Call
 returns-2 c =
     let tested = c .before .before in
-    rw (c .refused2 .ensures, passed (tested .before .have-lengths .ensures) (tested .if1 .left), le-ltb _ _ (c .before .if2 .taken))
+    rw (c .refused2 .ensures, test-passed (tested .before .have-lengths .ensures) (tested .if1 .left), le-ltb _ _ (c .before .if2 .taken))
 
 returns-3 : tie.Need-returns-3
 unfolding ta101Call
@@ -19,7 +19,7 @@ returns-3 c =
     let fit = c .before .before .before .before in
     let tested = fit .before .before in
     let x = tested .before .before .before .args in
-    let t = passed (tested .have-lengths .ensures) (fit .before .if1 .left) in
+    let t = test-passed (tested .have-lengths .ensures) (fit .before .if1 .left) in
     let s = both-spelled 16 10 (now (x .ks)) (now (x .gck0)) t in
     rw (
       c .core .ensures,

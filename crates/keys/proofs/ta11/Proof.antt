@@ -1,5 +1,5 @@
 use Rattle.standard.proofs.Prelude.{needs}
-use Rattle.standard.specs.Derivation.{ta11Call}
+use Rattle.standard.specs.Keys.{ta11Call}
 use Rattle.standard.specs.Expansions.{exp2}
 use Rattle.keys.proofs.ta11.Tie as tie
 

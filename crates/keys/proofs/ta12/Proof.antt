@@ -1,19 +1,19 @@
 use Rattle.standard.proofs.Prelude.{_≡_, sym, _∙_, now, needs, ne-eqb}
-use Rattle.standard.proofs.BytesLaws.{failed, passed, both-spelled}
-use Rattle.standard.proofs.DerivationLaws.{masks-ones}
-use Rattle.standard.specs.Derivation.{ta12Call}
+use Rattle.standard.proofs.BytesLaws.{test-failed, test-passed, both-spelled}
+use Rattle.standard.proofs.KeysLaws.{masks-ones}
+use Rattle.standard.specs.Keys.{ta12Call}
 use Rattle.standard.specs.Refusals.{maskTests, first}
 use Rattle.keys.proofs.ta12.Tie as tie
 
 returns : tie.Need-returns
 unfolding ta12Call
-returns c = rw (c .refused .ensures, failed (c .before .before .have-lengths .ensures) (c .before .if1 .taken))
+returns c = rw (c .refused .ensures, test-failed (c .before .before .have-lengths .ensures) (c .before .if1 .taken))
 
 returns-2 : tie.Need-returns-2
 unfolding ta12Call
 returns-2 c =
     let masked = c .before .before in
-    let t = passed (masked .before .before .have-lengths .ensures) (masked .before .if1 .left) in
+    let t = test-passed (masked .before .before .have-lengths .ensures) (masked .before .if1 .left) in
     rw (c .refused2 .ensures, t, ← masked .mask-refusal .ensures, ne-eqb _ _ (c .before .if2 .taken))
 
 split-requires : tie.Need-split-requires
@@ -27,7 +27,7 @@ returns-3 c =
     let accepted = c .before .before .before .before in
     let tested = accepted .before .before .before in
     let x = tested .before .before .before .args in
-    let t = passed (tested .have-lengths .ensures) (accepted .before .before .if1 .left) in
+    let t = test-passed (tested .have-lengths .ensures) (accepted .before .before .if1 .left) in
     let s = both-spelled 16 10 (now (x .session-key)) (now (x .challenge)) t in
     let m : first (maskTests (x .response-mask) (x .key-mask)) ≡ 0 = sym (accepted .before .mask-refusal .ensures) ∙ accepted .if2 .left in
     rw (

@@ -1,5 +1,5 @@
 use Rattle.standard.proofs.Prelude.{needs}
-use Rattle.standard.specs.Derivation.{ta21Call}
+use Rattle.standard.specs.Keys.{ta21Call}
 use Rattle.keys.proofs.ta21.Tie as tie
 
 returns : tie.Need-returns

@@ -1,5 +1,5 @@
 use Rattle.standard.proofs.Prelude.{needs}
-use Rattle.standard.specs.Derivation.{ta11Call, ta41Call}
+use Rattle.standard.specs.Keys.{ta11Call, ta41Call}
 use Rattle.keys.proofs.ta41.Tie as tie
 
 returns : tie.Need-returns

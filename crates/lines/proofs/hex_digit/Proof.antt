@@ -1,5 +1,5 @@
 use Rattle.standard.proofs.Prelude.{needs, lt-ltb, le-ltb}
-use Rattle.standard.specs.Text.{hexDigit}
+use Rattle.standard.specs.Lines.{hexDigit}
 use Rattle.lines.proofs.hex_digit.Tie as tie
 
 returns : tie.Need-returns

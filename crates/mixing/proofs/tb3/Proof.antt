@@ -1,6 +1,6 @@
 use Rattle.standard.proofs.Prelude.{arith, needs, eq-eqb, ne-eqb, ltb-true}
-use Rattle.standard.proofs.BytesLaws.{failed, passed}
-use Rattle.mixing.proofs.FieldLaws.{wide-split}
+use Rattle.standard.proofs.BytesLaws.{test-failed, test-passed}
+use Rattle.mixing.proofs.FieldLaws.{valid-width-split}
 use Rattle.standard.specs.Mixing.{tb3, tb3Call}
 use Rattle.mixing.proofs.tb3.Tie as tie
 
@@ -11,12 +11,12 @@ returns c = rw (c .refused .ensures, ne-eqb _ _ (c .before .if1 .taken))
 returns-2 : tie.Need-returns-2
 unfolding tb3Call
 returns-2 c =
-    rw (c .refused2 .ensures, eq-eqb _ _ (c .before .before .before .if1 .left), failed (c .before .before .wide .ensures) (c .before .if2 .taken))
+    rw (c .refused2 .ensures, eq-eqb _ _ (c .before .before .before .if1 .left), test-failed (c .before .before .valid-width .ensures) (c .before .if2 .taken))
 
 fits-in-requires : tie.Need-fits-in-requires
 fits-in-requires c κs =
     let x = c .before .before .before .before .args in
-    omega (arith, wide-split (x .width) (passed (c .before .wide .ensures) (c .if2 .left)))
+    omega (arith, valid-width-split (x .width) (test-passed (c .before .valid-width .ensures) (c .if2 .left)))
 
 returns-3 : tie.Need-returns-3
 unfolding tb3Call
@@ -25,15 +25,15 @@ returns-3 c =
     rw (
       c .refused3 .ensures,
       eq-eqb _ _ (x .before .before .if1 .left),
-      passed (x .before .wide .ensures) (x .if2 .left),
-      failed (c .before .before .fits-in .ensures) (c .before .if3 .taken),
+      test-passed (x .before .valid-width .ensures) (x .if2 .left),
+      test-failed (c .before .before .fits-in .ensures) (c .before .if3 .taken),
     )
 
 tb1-of-requires : tie.Need-tb1-of-requires
 tb1-of-requires c κs =
     let x = c .before .before .before in
-    let s = wide-split _ (passed (x .before .wide .ensures) (x .if2 .left)) in
-    (s .0, s .1, ltb-true _ _ (passed (c .before .before .fits-in .ensures) (c .before .if3 .left)))
+    let s = valid-width-split _ (test-passed (x .before .valid-width .ensures) (x .if2 .left)) in
+    (s .0, s .1, ltb-true _ _ (test-passed (c .before .before .fits-in .ensures) (c .before .if3 .left)))
 
 returns-4 : tie.Need-returns-4
 unfolding tb3Call tb3
@@ -45,8 +45,8 @@ returns-4 c =
       c .before .tb1-of .ensures,
       c .before .before .part16 .ensures,
       eq-eqb _ _ (y .before .before .if1 .left),
-      passed (y .before .wide .ensures) (y .if2 .left),
-      passed (x .before .fits-in .ensures) (x .if3 .left),
+      test-passed (y .before .valid-width .ensures) (y .if2 .left),
+      test-passed (x .before .fits-in .ensures) (x .if3 .left),
     )
 
 pub tb3-spec : {M : Type 1} → Rattle.mixing.proofs.tb3.Statement.statement M

@@ -1,6 +1,6 @@
 use Rattle.standard.proofs.Prelude.{needs}
 use Rattle.plain_listing.proofs.ListLaws.{entries-short}
-use Rattle.standard.specs.Listing.{entriesLine}
+use Rattle.standard.specs.PlainListing.{entriesLine}
 use Rattle.lines.proofs.LineLaws.{line-append, line-whole}
 use Rattle.plain_listing.proofs.entries_line.Tie as tie
 

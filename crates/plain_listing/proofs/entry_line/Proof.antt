@@ -2,7 +2,7 @@ use Rattle.standard.proofs.Prelude.{List, ℕ, add-sub-cancel-left, arith, now,
 use Rattle.plain_listing.proofs.ListLaws.{key-short, entry-short}
 use Rattle.standard.proofs.BytesLaws.{part-lent}
 use Rattle.standard.specs.Books.{recordKind}
-use Rattle.standard.specs.Listing.{entryLine}
+use Rattle.standard.specs.PlainListing.{entryLine}
 use Rattle.standard.specs.Seals.{keyLength}
 use Rattle.lines.proofs.LineLaws.{line-append, line-whole}
 use Rattle.plain_listing.proofs.entry_line.Tie as tie

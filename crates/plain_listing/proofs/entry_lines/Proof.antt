@@ -1,12 +1,11 @@
 -- After i turns the lines of the first i records are over the front of the output.
--- Assumes nothing.
 use Rattle.standard.proofs.Prelude.{_≡_, ap, _∙_, List, ℕ, _-_, _*_, _≤_, zero-le, arith, length-take, length-drop, now, needs}
 use Rattle.plain_listing.proofs.ListLaws.{entry-short}
 use Rattle.standard.proofs.BytesLaws.{lent-part}
-use Rattle.standard.specs.Listing.{entryLine, entryLines}
+use Rattle.standard.specs.PlainListing.{entryLine, entryLines}
 use Rattle.standard.specs.Lists.{recordAt}
 use Rattle.lines.proofs.LineLaws.{put-keeps, put-none, lines-next, lines-most}
-use Rattle.lines.specs.Lines.{putCall}
+use Rattle.lines.specs.LineStates.{putCall}
 use Rattle.plain_listing.proofs.entry_lines.Tie as tie
 
 -- the line of record i

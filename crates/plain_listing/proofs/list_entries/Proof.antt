@@ -1,7 +1,7 @@
 use Rattle.standard.proofs.Prelude.{_≡_, ap, List, ℕ, arith, length, now, needs}
 use Rattle.plain_listing.proofs.ListLaws.{last-short, lines-short, entries-put}
-use Rattle.standard.specs.Listing.{entryLines}
-use Rattle.lines.specs.Lines.{shown}
+use Rattle.standard.specs.PlainListing.{entryLines}
+use Rattle.lines.specs.LineStates.{shown}
 use Rattle.plain_listing.proofs.list_entries.Tie as tie
 
 -- both lengths are small

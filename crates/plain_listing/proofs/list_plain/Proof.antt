@@ -1,6 +1,6 @@
 use Rattle.standard.proofs.Prelude.{sym, ap, _∙_, List, ℕ, _≤_, arith, length, now, needs}
 use Rattle.plain_listing.proofs.ListLaws.{accepted-few, listed, listing-refused, listing-entries}
-use Rattle.standard.specs.Listing.{listingRoom}
+use Rattle.standard.specs.PlainListing.{listingRoom}
 use Rattle.standard.specs.declared.BookAnswer.{BookAnswer}
 use Rattle.plain_listing.proofs.list_plain.Tie as tie
 

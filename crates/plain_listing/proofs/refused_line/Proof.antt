@@ -1,9 +1,9 @@
 use Rattle.standard.proofs.Prelude.{needs}
 use Rattle.plain_listing.proofs.ListLaws.{refused-short}
-use Rattle.standard.specs.Listing.{refusedAt, refusedLine}
-use Rattle.standard.specs.Text.{ascii}
+use Rattle.standard.specs.PlainListing.{refusedAt, refusedLine}
+use Rattle.standard.specs.Lines.{ascii}
 use Rattle.lines.proofs.LineLaws.{line-after, line-whole}
-use Rattle.lines.specs.Lines.{emptyLine}
+use Rattle.lines.specs.LineStates.{emptyLine}
 use Rattle.plain_listing.proofs.refused_line.Tie as tie
 
 returns : tie.Need-returns

@@ -1,8 +1,7 @@
 -- The first i indexes stand at the places of their entries.
--- Assumes nothing.
 use Rattle.standard.proofs.Prelude.{_≡_, refl, _-_, _≤_, zero-le, arith}
 use Rattle.standard.proofs.HurdleLaws.{permuted}
-use Rattle.standard.proofs.TableLaws.{Placed, placed-none, placed-more, placed-all}
+use Rattle.standard.proofs.PrintedTablesLaws.{Placed, placed-none, placed-more, placed-all}
 use Rattle.standard.specs.Hurdle.{S}
 use Rattle.printed_tables.proofs.inverse.Tie as tie
 

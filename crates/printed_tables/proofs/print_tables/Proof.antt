@@ -1,5 +1,5 @@
 use Rattle.standard.proofs.Prelude.{ap, _∙_, now, needs}
-use Rattle.standard.specs.Tables.{tableLine}
+use Rattle.standard.specs.PrintedTables.{tableLine}
 use Rattle.printed_tables.proofs.PrintLaws.{short, whole}
 use Rattle.printed_tables.proofs.print_tables.Tie as tie
 

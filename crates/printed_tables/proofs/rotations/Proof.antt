@@ -1,12 +1,11 @@
 -- The first i sums are written, and the sum so far is the last of them.
--- Assumes nothing.
 use Rattle.standard.proofs.Prelude.{_≡_, refl, sym, ap, _∙_, List, ℕ, suc, _+_, _-_, _%_, _≤_, zero-le, add-one, arith, length, take, length-set}
 use Rattle.standard.proofs.FillLaws.{fill-next, filled}
 use Rattle.register.proofs.RegisterStateLaws.{rotation-most}
 use Rattle.standard.proofs.ScheduleLaws.{turn-next}
 use Rattle.standard.specs.Bytes.{_!_, table}
 use Rattle.standard.specs.Hurdle.{a}
-use Rattle.standard.specs.Tables.{runningSum, turn, rotations}
+use Rattle.standard.specs.PrintedTables.{runningSum, turn, rotations}
 use Rattle.printed_tables.proofs.rotations.Tie as tie
 
 abbrev Inv-loop : tie.InvT-loop

@@ -1,12 +1,11 @@
 -- The first i bytes are in the line.
--- Assumes nothing.
 use Rattle.standard.proofs.Prelude.{_≡_, ap, _∙_, List, _++_, ℕ, _-_, _≤_, zero-le, arith, length, take, take-all, now, needs}
 use Rattle.standard.specs.Bytes.{_!_}
-use Rattle.standard.specs.Tables.{spaced}
-use Rattle.standard.specs.Text.{ascii, hexByte}
+use Rattle.standard.specs.PrintedTables.{spaced}
+use Rattle.standard.specs.Lines.{ascii, hexByte}
 use Rattle.printed_tables.proofs.PrintLaws.{spaced-step}
 use Rattle.lines.proofs.LineLaws.{line-none, line-after, line-next}
-use Rattle.lines.specs.Lines.{emptyLine, _▸_}
+use Rattle.lines.specs.LineStates.{emptyLine, _▸_}
 use Rattle.printed_tables.proofs.spaced.Tie as tie
 
 abbrev Inv-loop : tie.InvT-loop

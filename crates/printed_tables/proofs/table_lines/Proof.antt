@@ -1,12 +1,11 @@
 -- The lines of the first i rows are over the front of the output.
--- Assumes nothing.
 use Rattle.standard.proofs.Prelude.{_≡_, ap, _∙_, List, ℕ, _-_, _*_, _≤_, zero-le, arith, length, length-take, length-drop, now, needs}
 use Rattle.standard.proofs.BytesLaws.{lent-part}
-use Rattle.standard.proofs.TableLaws.{line-length}
+use Rattle.standard.proofs.PrintedTablesLaws.{line-length}
 use Rattle.standard.specs.Lists.{recordAt}
-use Rattle.standard.specs.Tables.{tableLine, tableLines}
+use Rattle.standard.specs.PrintedTables.{tableLine, tableLines}
 use Rattle.lines.proofs.LineLaws.{put-keeps, put-none, lines-next, lines-most}
-use Rattle.lines.specs.Lines.{putCall}
+use Rattle.lines.specs.LineStates.{putCall}
 use Rattle.printed_tables.proofs.table_lines.Tie as tie
 
 -- line i of a table

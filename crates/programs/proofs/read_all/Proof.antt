@@ -1,7 +1,6 @@
 -- Each turn reads one byte at least.
--- Assumes nothing.
 use Rattle.standard.proofs.Prelude.{_≡_, refl, _-_, _≤_, zero-le, add-zero, arith, length, drop, needs}
-use Rattle.programs.proofs.ReadLaws.{failed, whole, further}
+use Rattle.programs.proofs.ReadLaws.{read-failed, whole, further}
 use Rattle.programs.proofs.read_all.Tie as tie
 
 abbrev Inv-loop : tie.InvT-loop
@@ -14,7 +13,7 @@ loop-holds : tie.Need-loop-holds Inv-loop μ-loop
 loop-holds c = (zero-le, refl, refl)
 
 returns : tie.Need-returns Inv-loop μ-loop
-returns c = failed _ _
+returns c = read-failed _ _
 
 returns-2 : tie.Need-returns-2 Inv-loop μ-loop
 returns-2 c =

@@ -1,5 +1,4 @@
 -- i rounds are made, and the register has gone back as many steps.
--- Assumes nothing.
 use Rattle.standard.proofs.Prelude.{_≡_, refl, _-_, _≤_, zero-le, arith, needs}
 use Rattle.hurdle.specs.RoundSteps.{spreads}
 use Rattle.standard.specs.Bytes.{bit}

@@ -8,7 +8,7 @@ returns c =
     let halves = back .before .before in
     let x = halves .before .args in
     rw (back .before .if1 .taken)
-    (decrypted (x .key) (x .block) _ _ _ _ (halves .split .ensures) (c .joined .ensures) (search needs) (back .backward .ensures))
+    (decrypted (x .key) (x .block) _ _ _ _ (halves .split .ensures) (c .block-of .ensures) (search needs) (back .backward .ensures))
 
 returns-2 : tie.Need-returns-2
 returns-2 c =
@@ -16,7 +16,7 @@ returns-2 c =
     let halves = on .before .before in
     let x = halves .before .args in
     rw (on .before .if1 .left)
-    (encrypted (x .key) (x .block) _ _ _ _ (halves .split .ensures) (c .joined2 .ensures) (on .onward .ensures))
+    (encrypted (x .key) (x .block) _ _ _ _ (halves .split .ensures) (c .block-of2 .ensures) (on .onward .ensures))
 
 pub crypt-spec : {M : Type 1} → Rattle.register.proofs.crypt.Statement.statement M
 crypt-spec =

@@ -1,5 +1,4 @@
 -- The first i bytes are those of the register, rotated.
--- Assumes nothing.
 use Rattle.standard.proofs.Prelude.{_≡_, refl, _∙_, _+_, _-_, _%_, _≤_, zero-le, arith, length, take, length-set, now, needs}
 use Rattle.standard.proofs.FillLaws.{fill-next, filled}
 use Rattle.standard.specs.Bytes.{_!_, table}

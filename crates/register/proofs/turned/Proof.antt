@@ -1,5 +1,4 @@
 -- The register has made i steps.
--- Assumes nothing.
 use Rattle.standard.proofs.Prelude.{_≡_, refl, _-_, _≤_, zero-le, arith}
 use Rattle.standard.specs.Hurdle.{a}
 use Rattle.standard.specs.Register.{turned}

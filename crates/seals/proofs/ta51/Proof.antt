@@ -1,17 +1,17 @@
 use Rattle.standard.proofs.Prelude.{needs, le-leb, lt-leb}
-use Rattle.standard.proofs.BytesLaws.{failed, passed}
+use Rattle.standard.proofs.BytesLaws.{test-failed, test-passed}
 use Rattle.standard.specs.Seals.{key16, seal, sealCall, ta51Call}
 use Rattle.seals.proofs.ta51.Tie as tie
 
 returns : tie.Need-returns
 unfolding ta51Call sealCall
-returns c = rw (c .refused .ensures, failed (c .before .before .have-lengths .ensures) (c .before .if1 .taken))
+returns c = rw (c .refused .ensures, test-failed (c .before .before .have-lengths .ensures) (c .before .if1 .taken))
 
 returns-2 : tie.Need-returns-2
 unfolding ta51Call sealCall
 returns-2 c =
     let tested = c .before .before .before in
-    rw (c .refused2 .ensures, passed (tested .before .have-lengths .ensures) (tested .if1 .left), lt-leb _ _ (c .before .if2 .taken))
+    rw (c .refused2 .ensures, test-passed (tested .before .have-lengths .ensures) (tested .if1 .left), lt-leb _ _ (c .before .if2 .taken))
 
 returns-3 : tie.Need-returns-3
 unfolding ta51Call sealCall seal key16
@@ -25,7 +25,7 @@ returns-3 c =
       c .before .before .before .part10 .ensures,
       key .key16 .ensures,
       key .before .part16 .ensures,
-      passed (tested .before .have-lengths .ensures) (tested .if1 .left),
+      test-passed (tested .before .have-lengths .ensures) (tested .if1 .left),
       le-leb _ _ (fit .if2 .left),
     )
 

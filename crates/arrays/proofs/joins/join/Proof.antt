@@ -1,5 +1,5 @@
 use Rattle.standard.proofs.Prelude.{now, needs}
-use Rattle.arrays.proofs.CopyLaws.{joined}
+use Rattle.arrays.proofs.CopyLaws.{both-copied}
 use Rattle.arrays.proofs.joins.join.Tie as tie
 
 returns : tie.Need-returns
@@ -8,7 +8,7 @@ returns c =
     let first = second .before .before .before .before in
     let start = first .before .before .before .before .before in
     let x = start .args in
-    joined (x .seam) (now (x .a)) (now (x .b)) (now (x .out)) (start .pre .0) (start .pre .1) _ _ (first .copy .ensures) (second .copy2 .ensures)
+    both-copied (x .seam) (now (x .a)) (now (x .b)) (now (x .out)) (start .pre .0) (start .pre .1) _ _ (first .copy .ensures) (second .copy2 .ensures)
 
 pub join-spec : {M : Type 1} → Rattle.arrays.proofs.joins.join.Statement.statement M
 join-spec =

@@ -1,5 +1,4 @@
 -- The first i bytes of the output are those of the string; the others are as they were.
--- Assumes nothing.
 use Rattle.standard.proofs.Prelude.{_≡_, refl, ap, _∙_, List, _++_, ℕ, _-_, _≤_, zero-le, arith, length, take, drop, set, length-set, now}
 use Rattle.arrays.proofs.CopyLaws.{copy-next, copied}
 use Rattle.arrays.specs.Least.{Least}

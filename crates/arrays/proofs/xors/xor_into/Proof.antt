@@ -1,5 +1,4 @@
 -- The first i bytes of the output are the ⊕ of those of the two strings.
--- Assumes nothing.
 use Rattle.standard.proofs.Prelude.{_≡_, refl, _∙_, _-_, _≤_, zero-le, arith, length, take, length-set, now}
 use Rattle.standard.proofs.FillLaws.{fill-next, filled}
 use Rattle.standard.specs.Bytes.{_!_, _⊕_, xors}

@@ -1,9 +1,8 @@
 -- The first j of the four records stand at their places.
--- Assumes nothing.
 use Rattle.standard.proofs.Prelude.{_≡_, List, ℕ, _+_, _-_, _≤_, _<_, zero-le, arith, now}
 use Rattle.books.proofs.DirectionLaws.{both-ends, places-fit, made-length}
 use Rattle.books.specs.BothDirections.{sizeOf, outputSizeOf, kindLane, madeOf}
-use Rattle.cores_x4.specs.Lanes.{lane15}
+use Rattle.cores_x4.specs.OutputLanes.{lane15}
 use Rattle.lists.proofs.WalkLaws.{ReplacedFrom, replaced-none, replaced-more}
 use Rattle.standard.specs.Lists.{recordAt}
 use Rattle.books.proofs.convert.write_at_x4.Tie as tie

@@ -1,5 +1,4 @@
 -- The records passed have no fault, and the runs are those of the looks at them.
--- Assumes nothing.
 use Rattle.standard.proofs.Prelude.{_≡_, refl, sym, ap, ap₂, _∙_, ℕ, _+_, _-_, _≤_, zero-le, add-one, arith, now, needs}
 use Rattle.lists.proofs.WalkLaws.{ends, clean-none, clean-more, stopped-at, stopped-not}
 use Rattle.lists.specs.Walks.{Clean}

@@ -1,5 +1,4 @@
 -- The first i parts of the output are the first i records, converted.
--- Assumes nothing.
 use Rattle.standard.proofs.Prelude.{_≡_, refl, _+_, _-_, _*_, _≤_, zero-le, arith, now}
 use Rattle.lists.proofs.WalkLaws.{end-fits, first-fit}
 use Rattle.books.proofs.DirectionLaws.{runs-fit, Converted, converted-none, converted-one, converted-x4}

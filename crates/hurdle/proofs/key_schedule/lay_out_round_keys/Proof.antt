@@ -1,5 +1,4 @@
 -- The first i round keys are written, and j bytes of the next.
--- Assumes nothing.
 use Rattle.standard.proofs.Prelude.{_≡_, refl, _∙_, _+_, _-_, _*_, _≤_, zero-le, add-zero, arith, length, take, length-set, needs}
 use Rattle.hurdle.proofs.ScheduleLaws.{rotations, masks, rotation, made, made-at, all-made}
 use Rattle.standard.proofs.FillLaws.{fill-next, filled}

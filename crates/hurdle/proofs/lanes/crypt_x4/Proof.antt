@@ -8,7 +8,7 @@ returns c =
     let cut = c .before .before in
     let x = cut .before .args in
     let K = byLane (now (x .ka)) (now (x .kb)) (now (x .kc)) (now (x .kd)) in
-    c .joined-x4 .ensures ∙ crypted-x4 (x .back) K (cut .split-x4 .result) (x .x) (c .before .rounds-x4 .result)
+    c .block-of-x4 .ensures ∙ crypted-x4 (x .back) K (cut .split-x4 .result) (x .x) (c .before .rounds-x4 .result)
     (cut .split-x4 .ensures) (c .before .rounds-x4 .ensures)
 
 pub crypt-x4-spec : {M : Type 1} → Rattle.hurdle.proofs.lanes.crypt_x4.Statement.statement M

@@ -1,5 +1,4 @@
 -- i rounds are made in each lane.
--- Assumes nothing.
 use Rattle.standard.proofs.Prelude.{_≡_, refl, _-_, _≤_, zero-le, arith, now}
 use Rattle.hurdle.proofs.LaneLaws.{Turned, rounds-more-x4}
 use Rattle.hurdle.specs.Lanes.{byLane}

@@ -6,7 +6,7 @@ returns : tie.Need-returns
 returns c =
     let cut = c .before .before in
     let x = cut .before .args in
-    c .joined .ensures ∙ crypted (x .back) (now (x .keys)) (cut .split .ensures) (c .before .rounds .ensures)
+    c .block-of .ensures ∙ crypted (x .back) (now (x .keys)) (cut .split .ensures) (c .before .rounds .ensures)
 
 pub crypt-spec : {M : Type 1} → Rattle.hurdle.proofs.round.crypt.Statement.statement M
 crypt-spec = tie.close (tie.spec (λ c κs. search needs) (λ c κs. search needs) (λ c κs. search needs) returns)

@@ -1,5 +1,4 @@
 -- 2 · i rounds are made.
--- Assumes nothing.
 use Rattle.standard.proofs.Prelude.{_≡_, refl, ap, _∙_, ℕ, _+_, _-_, _*_, _≤_, zero-le, arith, now}
 use Rattle.hurdle.proofs.RoundLaws.{rounds-more}
 use Rattle.hurdle.specs.RoundSteps.{roundsOver, spreads}

@@ -1,5 +1,5 @@
 use Rattle.standard.proofs.Prelude.{needs}
-use Rattle.standard.specs.Derivation.{int}
+use Rattle.standard.specs.Keys.{int}
 use Rattle.keys.proofs.derivation.int.Tie as tie
 
 returns : tie.Need-returns

@@ -1,5 +1,5 @@
 use Rattle.standard.proofs.Prelude.{needs}
-use Rattle.standard.specs.Derivation.{ta71, ta71Key}
+use Rattle.standard.specs.Keys.{ta71, ta71Key}
 use Rattle.standard.specs.Expansions.{shr3}
 use Rattle.keys.proofs.derivation.ta71_of.Tie as tie
 

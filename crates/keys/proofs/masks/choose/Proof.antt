@@ -1,5 +1,4 @@
 -- What bits 15 to i of the mask choose stands at the front, k bytes.
--- Assumes nothing.
 use Rattle.standard.proofs.Prelude.{_≡_, refl, _∙_, _≤_, arith, length, length-set, now}
 use Rattle.keys.proofs.MaskLaws.{Gathered, gather-none, gather-more, gather-past, gather-all, going, ended}
 use Rattle.standard.specs.Bytes.{bit}

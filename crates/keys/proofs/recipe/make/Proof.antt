@@ -1,5 +1,5 @@
 use Rattle.standard.proofs.Prelude.{_≡_, needs}
-use Rattle.standard.specs.Derivation.{half1, half2}
+use Rattle.standard.specs.Keys.{half1, half2}
 use Rattle.standard.specs.Mixing.{tb4}
 use Rattle.keys.proofs.RingLaws.{ring-made}
 use Rattle.keys.proofs.recipe.make.Tie as tie

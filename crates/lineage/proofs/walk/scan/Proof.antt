@@ -1,5 +1,4 @@
 -- The records passed have no fault.
--- Assumes nothing.
 use Rattle.standard.proofs.Prelude.{sym, _∙_, _-_, _≤_, zero-le, arith, needs}
 use Rattle.lists.proofs.WalkLaws.{clean-none, clean-more, stopped-at, stopped-not}
 use Rattle.lists.specs.Walks.{Clean}

@@ -1,9 +1,8 @@
 -- Each call of itself has one place less.
--- Assumes nothing.
 use Rattle.standard.proofs.Prelude.{[], _∷_, ℕ, _+_, _-_, _/_, _%_, _<_, arith, needs}
 use borrow.Fn.Kinds.{In}
 use borrow.Fn.PlainCycle.{Measures, is, falls, and}
-use Rattle.standard.specs.Text.{digits as digitsOf}
+use Rattle.standard.specs.Lines.{digits as digitsOf}
 use Rattle.lines.proofs.LineLaws.{line-none, line-after}
 use Rattle.lines.proofs.TextLaws.{digits-none, digits-last, digits-more}
 use Rattle.lines.proofs.Line.digits.Reads as digits

@@ -1,5 +1,5 @@
 use Rattle.standard.proofs.Prelude.{needs, lt-ltb, le-ltb}
-use Rattle.lines.specs.Lines.{_▸_}
+use Rattle.lines.specs.LineStates.{_▸_}
 use Rattle.lines.proofs.Line.byte.Tie as tie
 
 returns : tie.Need-returns

@@ -1,10 +1,9 @@
 -- After i turns the first i bytes are there.
--- Assumes nothing.
 use Rattle.standard.proofs.Prelude.{_≡_, ap, _∙_, List, ℕ, _-_, _≤_, zero-le, arith, length, take, take-all, now, needs}
 use Rattle.lines.proofs.LineLaws.{line-none, line-next}
 use Rattle.lines.proofs.TextLaws.{hex-step}
-use Rattle.standard.specs.Text.{hexByte, hex}
-use Rattle.lines.specs.Lines.{_▸_}
+use Rattle.standard.specs.Lines.{hexByte, hex}
+use Rattle.lines.specs.LineStates.{_▸_}
 use Rattle.lines.proofs.Line.hex.Tie as tie
 
 abbrev Inv-loop : tie.InvT-loop

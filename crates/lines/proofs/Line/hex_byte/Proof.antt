@@ -1,5 +1,5 @@
 use Rattle.standard.proofs.Prelude.{[], _∷_, _/_, _%_, needs}
-use Rattle.standard.specs.Text.{hexDigit}
+use Rattle.standard.specs.Lines.{hexDigit}
 use Rattle.lines.proofs.LineLaws.{line-after}
 use Rattle.lines.proofs.Line.hex_byte.Tie as tie
 

@@ -1,6 +1,6 @@
 use Rattle.standard.proofs.Prelude.{arith, length-take, now, needs}
 use Rattle.lines.proofs.LineLaws.{size-most, put-past, put-copy}
-use Rattle.lines.specs.Lines.{shown}
+use Rattle.lines.specs.LineStates.{shown}
 use Rattle.lines.proofs.Line.put.Tie as tie
 
 returns : tie.Need-returns

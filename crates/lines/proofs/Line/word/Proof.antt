@@ -1,8 +1,7 @@
 -- After i turns the first i bytes of the word are there.
--- Assumes nothing.
 use Rattle.standard.proofs.Prelude.{_≡_, refl, ap, _∙_, List, [], _∷_, ℕ, _-_, _≤_, zero-le, arith, length, take, take-all, now, needs}
 use Rattle.lines.proofs.LineLaws.{line-none, line-next}
-use Rattle.lines.specs.Lines.{_▸_}
+use Rattle.lines.specs.LineStates.{_▸_}
 use Rattle.lines.proofs.Line.word.Tie as tie
 
 abbrev Inv-loop : tie.InvT-loop

@@ -1,6 +1,6 @@
 use Rattle.standard.proofs.Prelude.{arith, now, needs}
 use Rattle.lines.proofs.LineLaws.{put-length, put-over, write-short, write-whole}
-use Rattle.lines.specs.Lines.{shown}
+use Rattle.lines.specs.LineStates.{shown}
 use Rattle.lines.proofs.Line.write.Tie as tie
 
 returns : tie.Need-returns

@@ -1,5 +1,4 @@
 -- The first i bytes are those of the value, repeated to 128 bits.
--- Assumes nothing.
 use Rattle.standard.proofs.Prelude.{_≡_, refl, sym, _∙_, _-_, _*_, _≤_, zero-le, mod-lt, arith, length, take, length-set}
 use Rattle.standard.proofs.FillLaws.{fill-next, filled}
 use Rattle.standard.proofs.MixingLaws.{twice-exact, twice-fits, tb1-at}

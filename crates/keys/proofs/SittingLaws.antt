@@ -1,9 +1,8 @@
 -- The recipe's inputs, read off a sitting of the right length.
--- Assumes nothing.
 use Rattle.standard.proofs.Prelude.{_≡_, refl, _∙_, List, ℕ, _+_, _*_, length, eq-eqb}
-use Rattle.standard.proofs.DerivationLaws.{ring-long}
+use Rattle.standard.proofs.KeysLaws.{ring-long}
 use Rattle.standard.specs.Bytes.{_!_, part}
-use Rattle.standard.specs.Derivation.{ringOf, ringCall}
+use Rattle.standard.specs.Keys.{ringOf, ringCall}
 use Rattle.standard.specs.Programs.{sittingRing}
 use Rattle.standard.specs.Sizes.{sittingSize}
 use Rattle.standard.specs.declared.RingInputs.{RingInputs}

@@ -1,9 +1,9 @@
 // The ring recipe on a sitting's file: root 16 bytes, RS, RSO, RAND1, RAND2 and C 10 each, group key 12, sides 1, response mask 2,
 // key mask 2.
+use crate::ring_of;
 use arrays::part10;
 use arrays::part12;
 use arrays::part16;
-use keys::ring_of;
 use standard::RingInputs;
 use standard::RingMade;
 use standard::SITTING;

@@ -1,12 +1,11 @@
--- The printed tables (02, 13): what the request asks for, stated. The proofs are in proofs/TableLaws.
--- Assumes nothing.
+-- The printed tables (02, 13): what the request asks for, stated. The proofs are in proofs/PrintedTablesLaws.
 use mathlib.Core.List.{[], _∷_}
 use mathlib.Core.Path.{_≡_}
 use Prim.Native.Nat.{ℕ, _<_}
 use Rattle.standard.specs.Bytes.{_!_}
 use Rattle.standard.specs.Hurdle.{S, S⁻¹}
-use Rattle.standard.specs.Tables.{inverse, rotations, tableLine}
-use Rattle.standard.specs.Text.{ascii}
+use Rattle.standard.specs.PrintedTables.{inverse, rotations, tableLine}
+use Rattle.standard.specs.Lines.{ascii}
 
 -- the inverse made is the stored constant, entry for entry
 abbrev pub InverseMade : Type 0

@@ -1,5 +1,4 @@
 -- Responses and derived keys (01, Responses and derived keys; 000, 5.6, 5.7, 5.13, 5.18).
--- Assumes nothing.
 use mathlib.Core.Bool.{Bool, _&&_, not}
 use mathlib.Core.List.{List, [], _∷_, _++_}
 use Prim.Native.Nat.{ℕ, zero, suc, _+_, _-_}

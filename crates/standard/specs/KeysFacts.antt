@@ -1,11 +1,10 @@
 -- One-sided authentication (02, 1): the ring recipe by its sides, stated. The proofs are in proofs/FactLaws.
--- Assumes nothing.
 use mathlib.Core.List.{List, _∷_, _++_}
 use mathlib.Core.Path.{_≡_}
 use Prim.Native.Nat.{ℕ}
 use lib.ListN.{length}
 use Rattle.standard.specs.Bytes.{zeros}
-use Rattle.standard.specs.Derivation.{ta11, ta21, ta41, ta12Call, ta22Call, haveLengths, ringCall}
+use Rattle.standard.specs.Keys.{ta11, ta21, ta41, ta12Call, ta22Call, haveLengths, ringCall}
 use Rattle.standard.specs.Mixing.{tb4, tb7}
 use Rattle.standard.specs.Refusals.{wrongLength, maskTests, first, ringMade}
 use Rattle.standard.specs.declared.Authentication.{Authentication}

@@ -1,15 +1,14 @@
 -- The listing of 01's example, lines about answers, and the count that a call for a text answers.
--- Assumes nothing.
 use Rattle.standard.proofs.Prelude.{_≡_, refl, sym, subst, Bool, true, false, List, [], _∷_, _++_, ℕ, _≤_, arith, ltb, length, drop}
 use Rattle.standard.proofs.Prelude.{length-append}
 use Rattle.standard.specs.Books.{plainFault, checkPlain}
 use Rattle.standard.specs.Lists.{refused as refusedBook, answer}
 use Rattle.standard.specs.Bytes.{choose}
-use Rattle.standard.specs.Listing.{entryLine, entryLines, entriesLine, refusedLine, listing}
+use Rattle.standard.specs.PlainListing.{entryLine, entryLines, entriesLine, refusedLine, listing}
 use Rattle.standard.specs.Programs.{meaning, meaningText, wroteText, answerText, answerLine, countedLine}
 use Rattle.standard.specs.Refusals.{outputShort}
 use Rattle.standard.specs.Seals.{kindOf}
-use Rattle.standard.specs.Text.{ascii, digits, hexDigit, hex, textCall}
+use Rattle.standard.specs.Lines.{ascii, digits, hexDigit, hex, textCall}
 use Rattle.standard.specs.declared.TextAnswer.{TextAnswer}
 
 -- 01's book and the two lines that it prints; the same book with a byte that must be zero; the empty book

@@ -1,12 +1,11 @@
 -- The printed tables (02, 13): S's inverse, the schedule's running rotations, and the text that printtables writes.
--- Assumes nothing.
 use mathlib.Core.List.{List, [], _∷_, _++_}
 use Prim.Native.Nat.{ℕ, zero, suc, _+_, _%_}
 use lib.Dec.{eqb}
 use Rattle.standard.specs.Bytes.{_!_, table, part, choose}
 use Rattle.standard.specs.Hurdle.{S, a}
 use Rattle.standard.specs.Lists.{each}
-use Rattle.standard.specs.Text.{ascii, hexByte, textCall}
+use Rattle.standard.specs.Lines.{ascii, hexByte, textCall}
 use Rattle.standard.specs.declared.TextAnswer.{TextAnswer}
 
 -- ---- the tables

@@ -1,5 +1,4 @@
 -- The listing of a plain book (01, Program plainlist): the bytes that plainlist prints.
--- Assumes nothing.
 use mathlib.Core.List.{List, _++_}
 use Prim.Native.Nat.{ℕ, _+_, _*_, _/_}
 use lib.Dec.{eqb}
@@ -8,7 +7,7 @@ use Rattle.standard.specs.Books.{recordKind, checkPlain}
 use Rattle.standard.specs.Bytes.{_!_, part, choose}
 use Rattle.standard.specs.Lists.{recordAt, joined}
 use Rattle.standard.specs.Seals.{keyLength}
-use Rattle.standard.specs.Text.{ascii, decimal, hex}
+use Rattle.standard.specs.Lines.{ascii, decimal, hex}
 use Rattle.standard.specs.declared.Algorithm.{Algorithm}
 use Rattle.standard.specs.declared.Algorithm.the-variants.{Ta31, Ta51, Ta81, Ta91}
 

@@ -1,5 +1,4 @@
 -- Lane j of four outputs of BL1, and of BL2.
--- Assumes nothing.
 use mathlib.Core.List.{List, []}
 use Prim.Native.Nat.{ℕ}
 use lib.ListN.{getD}

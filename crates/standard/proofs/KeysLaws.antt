@@ -1,5 +1,4 @@
 -- Masks: what their tests tell, and how many bytes they choose. The ring recipe on strings of the right lengths.
--- Assumes nothing.
 use Rattle.standard.proofs.Prelude.{_≡_, refl, sym, ap, _∙_, true, List, _∷_, ℕ, zero, suc, _+_, _/_, _%_, _^_, _<_, zero-add, mod-lt}
 use Rattle.standard.proofs.Prelude.{mod-eq-of-lt, zero-lt-suc, arith, eqb, length, pow-pos, eqb-true}
 use native.Mathlib.Nat.{mod-one}
@@ -7,7 +6,7 @@ use native.Mathlib.Numerals.{one-add}
 use lib.Count.{ones, onesIn, ones-cat}
 use lib.Pow.{mod-pow-add}
 use Rattle.standard.specs.Bytes.{byte, bit, part, choose}
-use Rattle.standard.specs.Derivation.{chosenOf, chosen, ringOf, haveLengths, ringCall}
+use Rattle.standard.specs.Keys.{chosenOf, chosen, ringOf, haveLengths, ringCall}
 use Rattle.standard.specs.Refusals.{hasLength, maskTests, first}
 use Rattle.standard.proofs.BytesLaws.{length-spelled, and-split}
 use Rattle.standard.proofs.FirstLaws.{all-pass}

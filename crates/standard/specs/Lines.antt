@@ -1,5 +1,4 @@
 -- Texts, as the bytes that a program writes: fixed words, numbers, and the call that writes a text.
--- Assumes nothing.
 use mathlib.Core.List.{List, [], _∷_, _++_}
 use Prim.Native.Char.{code}
 use Prim.Native.Nat.{ℕ, zero, suc, _+_, _/_, _%_}

@@ -1,13 +1,12 @@
 -- The printed tables: the inverse made is the stored one, and each rotation stands once (02, 13).
--- Assumes nothing.
 use Rattle.standard.proofs.Prelude.{_≡_, refl, sym, ap, _∙_, Bool, true, false, _&&_, List, [], _∷_, ℕ, _+_, _*_, _≤_, _<_, arith, eqb, ltb}
 use Rattle.standard.proofs.Prelude.{length, set, length-append, length-set, eqb-true, ltb-true, ltb-false}
 use lib.Seq.{getD-set-same, getD-set-other}
 use Rattle.standard.specs.Bytes.{_!_, part}
 use Rattle.standard.specs.Hurdle.{S, S⁻¹, a}
-use Rattle.standard.specs.Tables.{placeOf, inverse, runningSum, rotations, spaced, tableLine, tableLines, tablesText}
-use Rattle.standard.specs.TablesFacts.{InverseMade, Rotations, LastLine}
-use Rattle.standard.specs.Text.{hexDigit}
+use Rattle.standard.specs.PrintedTables.{placeOf, inverse, runningSum, rotations, spaced, tableLine, tableLines, tablesText}
+use Rattle.standard.specs.PrintedTablesFacts.{InverseMade, Rotations, LastLine}
+use Rattle.standard.specs.Lines.{hexDigit}
 use Rattle.standard.proofs.BookLaws.{length-each}
 use Rattle.standard.proofs.BytesLaws.{table-same, spelled, and-split, every-at}
 use Rattle.standard.proofs.HurdleLaws.{permuted}
