@@ -3,21 +3,23 @@ use Rattle.standard.proofs.Prelude.{_≡_, refl, Bool, true, false, List, ℕ, 
 use Rattle.cores.specs.CoreOutputs.{counted15}
 use Rattle.cores.specs.declared.CoreOutput15.{CoreOutput15}
 use Rattle.cores_x4.specs.OutputLanes.{lane15}
-use Rattle.hurdle.specs.Lanes.{lanes, lane, byLane}
+use Rattle.hurdle.specs.Lanes.{lanes, byLane}
 use Rattle.lists.proofs.WalkLaws.{end-fits, first-fit, lent, Wrote, wrote-none, wrote-one, wrote-from}
 use Rattle.lists.specs.Walks.{replaceAt, replaceFrom}
 use Rattle.records.specs.RecordForms.{sealedWith, openedWith}
 use Rattle.standard.proofs.AnswerLaws.{pass-most}
 use Rattle.standard.proofs.RunLaws.{inspection-most}
-use Rattle.standard.specs.Books.{commonKey, recordKind, sealRecord, openRecord}
-use Rattle.standard.specs.Bytes.{choose}
+use Rattle.standard.specs.Books.{sealingKey, commonKey, recordKind, sealRecord, openRecord}
+use Rattle.standard.specs.Bytes.{part, choose}
+use Rattle.standard.specs.Cores.{bl2}
 use Rattle.standard.specs.Identity.{bc}
 use Rattle.standard.specs.Lists.{recordAt, each}
 use Rattle.standard.specs.Runs.{firstPass, secondPass}
-use Rattle.standard.specs.Seals.{seal, sealed, unseal, opened}
+use Rattle.standard.specs.Seals.{form, seal, unseal, sealed, opened, with8}
 use Rattle.standard.specs.declared.Kind.{Kind}
+use Rattle.texts.specs.TextCores.{sealCore}
 use Rattle.books.specs.BothDirections.{sizeOf, outputSizeOf, faultAt, inspectionOf, inspectionAt, recordOf}
-use Rattle.books.specs.BothDirections.{kindLane, keyOf, inputOf, coreOf, madeOf, convertOf, convertAt}
+use Rattle.books.specs.BothDirections.{coreOf, madeOf, convertOf, convertAt}
 use Rattle.books.specs.declared.direction.Direction.{Direction}
 use Rattle.books.specs.declared.direction.Direction.the-variants.{Sealing, Opening}
 
@@ -67,16 +69,27 @@ unfolding sealedWith openedWith
 made-length Sealing k b x o = refl
 made-length Opening k b x o = refl
 
--- four records, their kinds, keys, inputs and cores: what is made of them in each lane
-pub converted-lanes : (d : Direction) (r b xs : List ℕ) (i : ℕ) {x₀ x₁ x₂ x₃ : List ℕ} {kinds : List Kind} {keys inputs : List (List ℕ)}
-    {o : List CoreOutput15} → x₀ ≡ recordAt (sizeOf d) xs i → x₁ ≡ recordAt (sizeOf d) xs (i + 1) → x₂ ≡ recordAt (sizeOf d) xs (i + 2)
-    → x₃ ≡ recordAt (sizeOf d) xs (i + 3) → kinds ≡ lanes (λ j. recordKind (byLane x₀ x₁ x₂ x₃ j))
-    → keys ≡ lanes (λ j. keyOf r (kindLane kinds j) (byLane x₀ x₁ x₂ x₃ j))
-    → inputs ≡ lanes (λ j. inputOf d (kindLane kinds j) (byLane x₀ x₁ x₂ x₃ j))
-    → o ≡ lanes (λ j. counted15 (coreOf d (lane keys j) (lane inputs j))) → (out : List ℕ)
-    → replaceFrom (outputSizeOf d) i (λ j. madeOf d (kindLane kinds j) b (recordAt (sizeOf d) xs (i + j)) (lane15 o j .output)) 4 out
+-- what the core gives for a record x of kind k, from its key and input; and in four lanes
+module _ (r : List ℕ) (k : Kind) (x : List ℕ) {key input : List ℕ} (e : key ≡ form k .key (sealingKey k r) (part 4 2 x)) where
+  pub core-sealing : input ≡ form k .input (part 6 12 x) → counted15 (sealCore key input) ≡ counted15 (coreOf r Sealing k x)
+  unfolding sealed
+  core-sealing q = rw (q, e)
+
+  pub core-opening : input ≡ with8 (part 6 15 x) → counted15 (bl2 key input) ≡ counted15 (coreOf r Opening k x)
+  unfolding opened
+  core-opening q = rw (q, e)
+
+pub lanes-same : {a b c d a' b' c' d' : CoreOutput15} → a ≡ a' → b ≡ b' → c ≡ c' → d ≡ d' → lanes (byLane a b c d) ≡ lanes (byLane a' b' c' d')
+lanes-same p q r s = rw (p, q, r, s)
+
+-- four records from place i on, their kinds and what the cores give: what is made of them in each lane
+pub converted-lanes : (d : Direction) (r b xs : List ℕ) (i : ℕ) {x₀ x₁ x₂ x₃ : List ℕ} {k₀ k₁ k₂ k₃ : Kind} {o : List CoreOutput15}
+    → x₀ ≡ recordAt (sizeOf d) xs i → x₁ ≡ recordAt (sizeOf d) xs (i + 1) → x₂ ≡ recordAt (sizeOf d) xs (i + 2) → x₃ ≡ recordAt (sizeOf d) xs (i + 3)
+    → k₀ ≡ recordKind x₀ → k₁ ≡ recordKind x₁ → k₂ ≡ recordKind x₂ → k₃ ≡ recordKind x₃
+    → o ≡ lanes (λ j. counted15 (coreOf r d (byLane k₀ k₁ k₂ k₃ j) (byLane x₀ x₁ x₂ x₃ j))) → (out : List ℕ)
+    → replaceFrom (outputSizeOf d) i (λ j. madeOf d (byLane k₀ k₁ k₂ k₃ j) b (recordAt (sizeOf d) xs (i + j)) (lane15 o j .output)) 4 out
     ≡ replaceFrom (outputSizeOf d) i (λ j. convertAt r b d xs (i + j)) 4 out
-converted-lanes d r b xs i e₀ e₁ e₂ e₃ k key input core out = rw (core, input, key, k, e₀, e₁, e₂, e₃, add-zero)
+converted-lanes d r b xs i e₀ e₁ e₂ e₃ q₀ q₁ q₂ q₃ core out = rw (core, q₀, q₁, q₂, q₃, e₀, e₁, e₂, e₃, add-zero)
 
 pub converted-length : (r b : List ℕ) (d : Direction) (x : List ℕ) → length (convertOf r b d x) ≡ outputSizeOf d
 converted-length r b d x = made-length d _ b x _
@@ -84,7 +97,7 @@ converted-length r b d x = made-length d _ b x _
 -- from the cipher run of the ring's common key they are the records of the definitions
 pub converted-is : (r : List ℕ) (d : Direction) (n : ℕ) (xs : List ℕ)
     → each n (sizeOf d) (convertOf r (bc (commonKey r)) d) xs ≡ each n (sizeOf d) (recordOf r d) xs
-unfolding sealedWith openedWith sealRecord openRecord seal sealed unseal opened
+unfolding sealedWith openedWith sealRecord openRecord seal unseal
 converted-is r Sealing n xs = refl
 converted-is r Opening n xs = refl
 

@@ -5,14 +5,12 @@ use lib.ListN.{getD}
 use Rattle.records.specs.RecordForms.{sealedWith, openedWith}
 use Rattle.standard.specs.Books.{sealingKey, recordKind, plainFault, sealRecord, openFault, inspectionRuns, openRecord, Conversion}
 use Rattle.standard.specs.Bytes.{part}
-use Rattle.standard.specs.Cores.{bl2}
 use Rattle.standard.specs.Lists.{recordAt}
-use Rattle.standard.specs.Seals.{form, with8}
+use Rattle.standard.specs.Seals.{form, sealed, opened}
 use Rattle.standard.specs.Sizes.{plainSize, sealedSize}
 use Rattle.standard.specs.declared.Algorithm.the-variants.{Ta31}
 use Rattle.standard.specs.declared.Kind.{Kind}
 use Rattle.standard.specs.declared.RingKey.the-variants.{D}
-use Rattle.texts.specs.TextCores.{sealCore}
 use Rattle.books.specs.declared.direction.Direction.{Direction}
 use Rattle.books.specs.declared.direction.Direction.the-variants.{Sealing, Opening}
 
@@ -51,25 +49,18 @@ inspectionAt d xs i = inspectionOf d (recordAt (sizeOf d) xs i)
 abbrev pub kindLane : List Kind → ℕ → Kind
 kindLane ks j = getD ks j (record { algorithm = Ta31; under = D })
 
--- what a record of kind k becomes, from the output b of the cipher run that gives the ring's identity strings: the core's key and input
--- for it, the core, and what is made of its output
-abbrev pub keyOf : List ℕ → Kind → List ℕ → List ℕ
-keyOf r k x = form k .key (sealingKey k r) (part 4 2 x)
-
-abbrev pub inputOf : Direction → Kind → List ℕ → List ℕ
-inputOf Sealing k x = form k .input (part 6 12 x)
-inputOf Opening k x = with8 (part 6 15 x)
-
-abbrev pub coreOf : Direction → (key input : List ℕ) → List ℕ
-coreOf Sealing = sealCore
-coreOf Opening = bl2
+-- what a record of kind k becomes, from the output b of the cipher run that gives the ring's identity strings: what the core gives for it,
+-- and what is made of that
+abbrev pub coreOf : List ℕ → Direction → Kind → List ℕ → List ℕ
+coreOf r Sealing k x = sealed (form k) (form k .key (sealingKey k r) (part 4 2 x)) (part 6 12 x)
+coreOf r Opening k x = opened (form k .key (sealingKey k r) (part 4 2 x)) (part 6 15 x)
 
 abbrev pub madeOf : Direction → Kind → (b x o : List ℕ) → List ℕ
 madeOf Sealing k = sealedWith
 madeOf Opening k = openedWith k
 
 abbrev pub convertOf : List ℕ → List ℕ → Direction → List ℕ → List ℕ
-convertOf r b d x = madeOf d (recordKind x) b x (coreOf d (keyOf r (recordKind x) x) (inputOf d (recordKind x) x))
+convertOf r b d x = madeOf d (recordKind x) b x (coreOf r d (recordKind x) x)
 
 -- of record i of a book
 abbrev pub convertAt : List ℕ → List ℕ → Direction → List ℕ → ℕ → List ℕ

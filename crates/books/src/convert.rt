@@ -1,5 +1,4 @@
-// What a record becomes: its kind, the core's key and input for it, the core, and what is made of the core's output. For one record, and
-// for four whose cores run side by side.
+// What a record becomes: what the core gives for it, and what is made of that. For one record, and for four whose cores run side by side.
 use crate::direction::Direction;
 use cores::CoreOutput15;
 use cores::bl2;
@@ -21,21 +20,10 @@ ghost use lib.ListN.{length, take, drop};
 ghost use Rattle.cores.specs.CoreOutputs.{counted15};
 ghost use Rattle.cores_x4.specs.OutputLanes.{lane15};
 ghost use Rattle.lists.specs.Walks.{replaceAt, replaceFrom};
-ghost use Rattle.standard.specs.Books.{recordKind};
 ghost use Rattle.standard.specs.Lists.{recordAt};
 ghost use Rattle.standard.specs.Runs.{textRuns};
-ghost use Rattle.hurdle.specs.Lanes.{lanes, lane, byLane, eachLane};
-ghost use Rattle.books.specs.BothDirections.{sizeOf, outputSizeOf, kindLane, keyOf, inputOf, coreOf, madeOf, convertAt};
-
-// The core's input for a record of a kind.
-fn core_input(direction: Direction, kind: Kind, rec: &[u8]) -> [u8; 16]
-    ensures { λ x. ⌜ x ≡ inputOf direction kind (now (rec .entry)) ⌝ }
-{
-    match direction {
-        Direction::Sealing => sealing_input(kind, rec),
-        Direction::Opening => opening_input(rec),
-    }
-}
+ghost use Rattle.hurdle.specs.Lanes.{lanes, byLane, eachLane};
+ghost use Rattle.books.specs.BothDirections.{sizeOf, outputSizeOf, kindLane, coreOf, madeOf, convertAt};
 
 // Record i of a book, a part of it.
 pub(crate) fn record_at(direction: Direction, book: &[u8], i: usize) -> &[u8]
@@ -47,12 +35,14 @@ pub(crate) fn record_at(direction: Direction, book: &[u8], i: usize) -> &[u8]
     &book[a..a + size]
 }
 
-fn core(direction: Direction, key: [u8; 16], input: [u8; 16]) -> CoreOutput15
-    ensures { λ o. ⌜ o ≡ counted15 (coreOf direction key input) ⌝ }
+// What the core gives for a record of a kind.
+fn core(direction: Direction, kind: Kind, ring: &RingBytes, rec: &[u8]) -> CoreOutput15
+    ensures { λ o. ⌜ o ≡ counted15 (coreOf (now (ring .entry)) direction kind (now (rec .entry))) ⌝ }
 {
+    let key = core_key(kind, ring, rec);
     match direction {
-        Direction::Sealing => seal_core(key, input),
-        Direction::Opening => bl2(key, input),
+        Direction::Sealing => seal_core(key, sealing_input(kind, rec)),
+        Direction::Opening => bl2(key, opening_input(rec)),
     }
 }
 
@@ -118,65 +108,50 @@ pub(crate) fn convert_one(
 {
     let rec = record_at(direction, book, i);
     let kind = kind_at(rec);
-    let o = core(
-        direction,
-        core_key(kind, ring, rec),
-        core_input(direction, kind, rec),
-    );
+    let o = core(direction, kind, ring, rec);
     write_at(direction, kind, identity_strings, book, i, o, out);
     o.runs
 }
 
-fn kinds_x4(a: &[u8], b: &[u8], c: &[u8], d: &[u8]) -> [Kind; 4]
-    ensures { λ k. ⌜ k ≡ lanes (λ j. recordKind (byLane (now (a .entry)) (now (b .entry)) (now (c .entry)) (now (d .entry)) j)) ⌝ }
-{
-    [kind_at(a), kind_at(b), kind_at(c), kind_at(d)]
-}
-
-fn keys_x4(
+// What the cores of four records give, side by side.
+fn core_x4(
+    direction: Direction,
     kinds: [Kind; 4],
     ring: &RingBytes,
     a: &[u8],
     b: &[u8],
     c: &[u8],
     d: &[u8],
-) -> [[u8; 16]; 4]
-    ensures { λ k. ⌜ k
-        ≡ lanes (λ j. keyOf (now (ring .entry)) (kindLane kinds j) (byLane (now (a .entry)) (now (b .entry)) (now (c .entry)) (now (d .entry)) j)) ⌝ }
+) -> [CoreOutput15; 4]
+    ensures { λ o. ⌜ o
+        ≡ lanes (λ j. counted15 (coreOf (now (ring .entry)) direction (kindLane kinds j)
+        (byLane (now (a .entry)) (now (b .entry)) (now (c .entry)) (now (d .entry)) j))) ⌝ }
 {
-    [
+    let keys = [
         core_key(kinds[0], ring, a),
         core_key(kinds[1], ring, b),
         core_key(kinds[2], ring, c),
         core_key(kinds[3], ring, d),
-    ]
-}
-
-fn inputs_x4(
-    direction: Direction,
-    kinds: [Kind; 4],
-    a: &[u8],
-    b: &[u8],
-    c: &[u8],
-    d: &[u8],
-) -> [[u8; 16]; 4]
-    ensures { λ x. ⌜ x
-        ≡ lanes (λ j. inputOf direction (kindLane kinds j) (byLane (now (a .entry)) (now (b .entry)) (now (c .entry)) (now (d .entry)) j)) ⌝ }
-{
-    [
-        core_input(direction, kinds[0], a),
-        core_input(direction, kinds[1], b),
-        core_input(direction, kinds[2], c),
-        core_input(direction, kinds[3], d),
-    ]
-}
-
-fn core_x4(direction: Direction, keys: [[u8; 16]; 4], inputs: [[u8; 16]; 4]) -> [CoreOutput15; 4]
-    ensures { λ o. ⌜ o ≡ lanes (λ j. counted15 (coreOf direction (lane keys j) (lane inputs j))) ⌝ }
-{
+    ];
     match direction {
-        Direction::Sealing => seal_core_x4(keys, inputs),
-        Direction::Opening => bl2_x4(keys, inputs),
+        Direction::Sealing => seal_core_x4(
+            keys,
+            [
+                sealing_input(kinds[0], a),
+                sealing_input(kinds[1], b),
+                sealing_input(kinds[2], c),
+                sealing_input(kinds[3], d),
+            ],
+        ),
+        Direction::Opening => bl2_x4(
+            keys,
+            [
+                opening_input(a),
+                opening_input(b),
+                opening_input(c),
+                opening_input(d),
+            ],
+        ),
     }
 }
 
@@ -234,10 +209,8 @@ pub(crate) fn convert_x4(
     let b = record_at(direction, book, i + 1);
     let c = record_at(direction, book, i + 2);
     let d = record_at(direction, book, i + 3);
-    let kinds = kinds_x4(a, b, c, d);
-    let keys = keys_x4(kinds, ring, a, b, c, d);
-    let inputs = inputs_x4(direction, kinds, a, b, c, d);
-    let o = core_x4(direction, keys, inputs);
+    let kinds = [kind_at(a), kind_at(b), kind_at(c), kind_at(d)];
+    let o = core_x4(direction, kinds, ring, a, b, c, d);
     write_at_x4(direction, kinds, identity_strings, book, i, o, out);
     runs_x4(o)
 }

@@ -5,21 +5,12 @@ use Rattle.books.proofs.convert.convert_one.Tie as tie
 returns : tie.Need-returns
 returns c =
     let core = c .before .before .before .before in
-    let key = core .before .before in
-    let rec = key .before .before in (
-      rw (
-        c .before .before .write-at .ensures,
-        core .core .ensures,
-        core .before .core-input .ensures,
-        key .core-key .ensures,
-        key .before .kind-at .ensures,
-        rec .record-at .ensures,
-      ),
+    let kind = core .before in (
+      rw (c .before .before .write-at .ensures, core .core .ensures, kind .kind-at .ensures, kind .before .record-at .ensures),
       ap (λ (o : CoreOutput15). o .runs) (core .core .ensures),
     )
 
 pub convert-one-spec : {M : Type 1} → Rattle.books.proofs.convert.convert_one.Statement.statement M
 convert-one-spec =
     tie.close
-    (tie.spec (λ c κs. search needs) (λ c κs. search needs) (λ c κs. search needs) (λ c κs. search needs) (λ c κs. search needs)
-    (λ c κs. search needs) (λ c. search needs) returns)
+    (tie.spec (λ c κs. search needs) (λ c κs. search needs) (λ c κs. search needs) (λ c κs. search needs) (λ c. search needs) returns)
