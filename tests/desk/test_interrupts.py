@@ -209,7 +209,11 @@ class Command(Hearing):
         for number in range(200):
             self.file(f"class/{number}.book", books[:21] + bytes(21) + books[42:])
         pages = self.folder / "pages"
-        command = [*COMMAND, "mark", str(CLASS / "sitting.txt"), str(CLASS / "model.txt"), "class"]
+        # A signal may come between the opening of a file and its `with`: Python then closes it
+        # and, where it is told to warn of such files, says so.
+        python, *words = COMMAND
+        command = [python, *words[:2], "-W", "ignore::ResourceWarning", *words[2:]]
+        command += ["mark", str(CLASS / "sitting.txt"), str(CLASS / "model.txt"), "class"]
         command += ["--html", "pages"]
         start = time.monotonic()
         subprocess.run(command, cwd=self.folder, stdout=subprocess.DEVNULL, check=True)
