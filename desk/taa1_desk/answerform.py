@@ -3,10 +3,11 @@
 from __future__ import annotations
 
 import re
-from typing import NamedTuple, Optional
+from typing import Iterator, NamedTuple, Optional, Sequence
 
-from .keysheet import LENGTHS, SHORT, KeyFile, short
-from .paper import ARGUMENT, RECORD, ROW
+from .files import quoted
+from .keysheet import LENGTHS, MOST_WORDS, SHORT, KeyFile, short
+from .paper import ARGUMENT, GENERATIONS, RECORD, ROW, THIRD, asked
 from .records import SEALED
 
 WHAT = "an answer form"
@@ -16,13 +17,15 @@ NOTHING = "this is an answer form, and no box of it is filled in"
 
 class Filled(NamedTuple):
     """What is filled in: the records of the book by the numbers of their rows, these numbers,
-    the values of the first two generations, rows of the book that can't be read, and whether
-    versions are decimal."""
+    the values of the first two generations, rows of the book that can't be read, in words and
+    by their numbers, rows that are left blank, and whether versions are decimal."""
 
     book: bytes
     rows: tuple[int, ...]
     keys: KeyFile
     problems: tuple[str, ...]
+    unread: tuple[int, ...] = ()
+    blank: tuple[str, ...] = ()
     decimal: bool = False
 
     @property
@@ -84,6 +87,11 @@ class _Row(NamedTuple):
         return not "".join(self.boxes).strip("_")
 
     @property
+    def wants_more(self) -> bool:
+        """Whether the next line may have the rest of it."""
+        return 0 < sum(map(len, self.boxes)) < 2 * self.size and not self.is_blank
+
+    @property
     def problem(self) -> str:
         """Why the boxes can't be read."""
         digits = "".join(self.boxes)
@@ -105,8 +113,10 @@ def _head(*words: str) -> re.Pattern[str]:
 _KEYS = _head(*ROW)
 _BOOK = _head("entry", *(word for name, _ in RECORD for word in name.split()))
 _END = _head(*ARGUMENT.split())
-_VALUE = re.compile(r"\W*(?:\d+\W+)?([A-Za-z][^()]*)\(([^()]*)\)(.*)$")  # row, name (field) boxes
-_ENTRY = re.compile(r"\W*?(\d+)\b(.*)$")
+_TITLES = {short(title) for title in (THIRD, *(title for title, _ in GENERATIONS))}
+_RULE = frozenset("-=_*~+| \t")  # what lines are drawn of
+_NUMBER = "#.:)(*-"  # what may stand around a row's number
+MOST_ROWS = 9  # digits of a row's number
 
 
 def is_form(text: str) -> bool:
@@ -117,12 +127,58 @@ def is_form(text: str) -> bool:
     return any(_KEYS.match(line) or _BOOK.match(line) for line in text.splitlines())
 
 
+def asked_rows(sides: int) -> list[str]:
+    """The values that a form asks for, in the order of their rows."""
+    return [value.name for _, values in asked(sides) for value in values]
+
+
 def _boxes(text: str) -> list[str]:
     """What stands in boxes."""
     return re.sub(r"\b0[xX]|[|,;:=\[\]]", " ", text).split()
 
 
-def _rows(text: str) -> list[_Row]:
+def _number(word: str) -> Optional[int]:
+    """The number that a row begins with."""
+    digits = word.strip(_NUMBER)
+    return int(digits) if digits.isdecimal() and len(digits) <= MOST_ROWS else None
+
+
+def _names(words: list[str]) -> Iterator[tuple[str, list[str]]]:
+    """The values that the first words are names of, and the words after them: after both names
+    of a value first, then after one, since a byte may look like a name (d, as 0d)."""
+    for count in range(min(MOST_WORDS, len(words)), 0, -1):
+        name = SHORT.get(short(" ".join(words[:count])))
+        if name:
+            for more in range(min(MOST_WORDS, len(words) - count), 0, -1):
+                if SHORT.get(short(" ".join(words[count : count + more]))) == name:
+                    yield name, words[count + more :]
+            yield name, words[count:]
+
+
+def _value_row(line: int, said: str, rows_asked: Sequence[str]) -> _Row:
+    """A row of a value: in front of its boxes stand the row's number, either of its names, or
+    all of these."""
+    words = _boxes(re.sub("[()]", " ", said))
+    words = words[1:] if words and words[0].lower() == "row" else words
+    number = _number(words[0]) if words else None
+    by_number = rows_asked[number - 1] if number and number <= len(rows_asked) else ""
+    found = [*_names(words[1:]), *[(by_number, words[1:])] * bool(by_number)] if number else []
+    rows = [_Row(line, name, LENGTHS[name], boxes) for name, boxes in (*found, *_names(words))]
+    unknown = _Row(line, " ".join(words), 0, words)
+    return next((row for row in rows if row.bytes() is not None), (rows or [unknown])[0])
+
+
+def _entry_row(line: int, said: str) -> _Row:
+    """A row of the book, after its entry's number."""
+    words = _boxes(said)
+    words = words[1:] if words and words[0].lower() in ("entry", "row") else words
+    number = _number(words[0]) if words else None
+    if number is None:
+        return _Row(line, "", SEALED, words)
+    return _Row(line, f"entry {number}", SEALED, words[1:])
+
+
+def _rows(text: str, rows_asked: Sequence[str]) -> list[_Row]:
     """The rows of both tables; one that was broken in two is joined again."""
     table: Optional[re.Pattern[str]] = None
     rows: list[_Row] = []
@@ -131,26 +187,24 @@ def _rows(text: str) -> list[_Row]:
         if head:
             table = head
             continue
-        if rows and table is not _END and rows[-1].bytes() is None and not rows[-1].is_blank:
+        if table not in (_KEYS, _BOOK) or _RULE.issuperset(line) or short(line) in _TITLES:
+            continue
+        if rows and rows[-1].wants_more and rows[-1].bytes() is None:
             joined = rows[-1]._replace(boxes=rows[-1].boxes + _boxes(line))
             if joined.bytes() is not None:
                 rows[-1] = joined
                 continue
-        value = _VALUE.match(line) if table is _KEYS else None
-        entry = _ENTRY.match(line) if table is _BOOK else None
-        if value:
-            name = SHORT.get(short(value[1])) or SHORT.get(short(value[2])) or value[1].strip()
-            rows.append(_Row(number, name, LENGTHS.get(name, 0), _boxes(value[3])))
-        elif entry:
-            rows.append(_Row(number, f"entry {int(entry[1][:9])}", SEALED, _boxes(entry[2])))
+        rows.append(_value_row(number, line, rows_asked) if table is _KEYS else _entry_row(number, line))
     return rows
 
 
-def read(text: str) -> Filled:
-    """What is filled in."""
-    rows = [row for row in _rows(text) if not row.is_blank]
+def read(text: str, rows_asked: Sequence[str] = ()) -> Filled:
+    """What is filled in; the values that are asked for are known by the numbers of their rows,
+    too."""
+    every = _rows(text, rows_asked)
+    rows = [row for row in every if not row.is_blank]
     decimal = any(row.has_decimal for row in rows)
-    records, problems = [], []
+    records, problems, unread = [], [], []
     values: dict[str, bytes] = {}
     bad = []
     for row in rows:
@@ -158,8 +212,11 @@ def read(text: str) -> Filled:
         if row.entry is not None:
             records += [(row.entry, made)] if made else []
             problems += [] if made else [row.problem]
+            unread += [] if made else [row.entry]
+        elif not row.name:
+            problems.append(f"line {row.line}: no entry's number in front, so it is not read")
         elif not row.size:
-            bad.append(f"line {row.line}: the form asks for no value {row.name!r}")
+            bad.append(f"line {row.line}: the form asks for no value {quoted(row.name)}")
         elif values.get(row.name):
             bad.append(f"line {row.line}: {row.name} for the second time; the first one counts")
         else:
@@ -171,6 +228,8 @@ def read(text: str) -> Filled:
         tuple(entry for entry, _ in records),
         KeyFile(values, tuple(bad)),
         tuple(problems),
+        tuple(unread),
+        tuple(row.name for row in every if row.is_blank and row.name),
         decimal,
     )
 

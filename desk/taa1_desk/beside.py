@@ -5,7 +5,7 @@ from __future__ import annotations
 from typing import Any, NamedTuple, Optional, Sequence
 
 from .names import KIND_NAMES, both
-from .page import Html, tag, text
+from .page import Html, join, tag, text
 from .records import Entry, whole
 
 HANDED_IN, WANTED = "handed in", "wanted"
@@ -55,9 +55,9 @@ def differing(data: bytes, other: bytes, name: str) -> Html:
 
 def over(has: bytes, wants: bytes) -> Html:
     """Bytes that were handed in, if any, over those that are wanted, in one cell."""
-    lines = ((HANDED_IN, differing(has, wants, "b") or "-"), (WANTED, differing(wants, has, "u")))
-    return Html(
-        "".join(tag("div", text("i", name) + tag("span", said, class_="hex")) for name, said in lines)
+    lines = ((HANDED_IN, differing(has, wants, "b") or Html("-")), (WANTED, differing(wants, has, "u")))
+    return join(
+        tag("div", text("i", name) + tag("span", said, class_="hex")) for name, said in lines
     )
 
 
@@ -119,10 +119,10 @@ def plain_fields(has: Any, wants: Entry) -> list[Field]:
 
 def table(what: str, compared: Sequence[Field]) -> Html:
     """Fields in two rows: what was handed in over what was wanted."""
-    head = "".join(text("th", each) for each in (what, *(field.name for field in compared)))
+    head = join(text("th", each) for each in (what, *(field.name for field in compared)))
     rows = [
-        text("td", name) + "".join(field.cell(wanted) for field in compared)
+        text("td", name) + join(field.cell(wanted) for field in compared)
         for name, wanted in ((HANDED_IN, False), (WANTED, True))
     ]
-    body = "".join(tag("tr", row) for row in rows)
+    body = join(tag("tr", row) for row in rows)
     return tag("table", tag("thead", tag("tr", head)) + tag("tbody", body), class_="beside")

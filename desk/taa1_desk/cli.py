@@ -42,6 +42,12 @@ from .slips import EXCHANGES, OPENING_SLIPS, SLIPS
 from .values import IDENTITY, MASK, hexadecimal, without_0x
 
 ACCEPTED, REFUSED, WRONG_USE = 0, 1, 2
+# What a model without entries means, to the commands that want some.
+NO_ENTRY = {
+    "mark": "there is nothing to mark",
+    "paper": "there is nothing to ask for",
+    "argue": "there is no instance of a claim",
+}
 LENGTH = 11  # the refusal of an input of another length
 INDEX = "index.html"  # the class's page
 MOST_ROOM = 1 << 20  # bytes of an output that `call` makes
@@ -164,7 +170,15 @@ def _examination(args: argparse.Namespace) -> tuple[Desk, Sitting, texts.Heading
     _once(args.sitting, args.book)
     desk = Desk()
     sitting, heading = texts.read_headed(args.sitting)
-    return desk, sitting, heading, texts.read_plain(desk, args.book, args.bytes)
+    return desk, sitting, heading, _model(desk, args)
+
+
+def _model(desk: Desk, args: argparse.Namespace) -> bytes:
+    """The model, a plain book, with entries in it where the command wants some."""
+    plain = texts.read_plain(desk, args.book, args.bytes)
+    if not plain and args.command in NO_ENTRY:
+        raise Problem(f"{place(args.book)}: no entry in it, so {NO_ENTRY[args.command]}")
+    return plain
 
 
 # ---- output
@@ -512,8 +526,6 @@ def run_argue(args: argparse.Namespace) -> int:
         raise Problem("argue: --html writes the page into its file: no -o")
     desk, sitting, heading, plain = _examination(args)
     ring = texts.sitting_ring(desk, sitting, place(args.sitting))
-    if not plain:
-        raise Problem(f"{place(args.book)}: no entry in it, so there is no instance of a claim")
     sheet = argument_sheet(desk, sitting, ring, heading, plain)
     if args.html is not None:
         files.write_file(args.html, as_page(sheet).encode(), private=True)
@@ -618,9 +630,9 @@ def _keys_beside(name: str) -> Optional[keysheet.KeyFile]:
     beside = handins.keys_of(name)
     if name == STANDARD or beside == name or not os.path.lexists(beside):
         return None
-    if not os.path.isfile(beside):
+    if os.path.islink(beside) or not os.path.isfile(beside):
         what = "a folder" if os.path.isdir(beside) else "no regular file"
-        what = what if os.path.exists(beside) else "a link to no file"
+        what = "a link, which may lead to another's file" if os.path.islink(beside) else what
         return keysheet.unread(shown(beside), what)
     try:
         return keysheet.read(shown(beside), files.read(beside))
@@ -637,10 +649,7 @@ def _reader(args: argparse.Namespace) -> tuple[Union[Reader, OpenedMarker], text
     if args.opened:
         sealed = texts.read_sealed(args.book, args.bytes)
         return OpenedMarker(desk, sitting, ring, sealed, place(args.book)), heading
-    plain = texts.read_plain(desk, args.book, args.bytes)
-    if not plain:
-        raise Problem(f"{place(args.book)}: no entry in it, so there is nothing to mark")
-    return Reader(Marker(desk, sitting, ring, plain)), heading
+    return Reader(Marker(desk, sitting, ring, _model(desk, args))), heading
 
 
 def _forms(args: argparse.Namespace, names: list[str]) -> list[str]:
@@ -661,7 +670,7 @@ def _forms(args: argparse.Namespace, names: list[str]) -> list[str]:
 def _earlier_pages(folder: str) -> list[str]:
     """The candidates' pages that stand in a folder."""
     found = []
-    for path in sorted(Path(folder).glob("*.html")):
+    for path in filter(Path.is_file, sorted(Path(folder).glob("*.html"))):
         try:
             with open(path, "rb") as file:
                 if is_made_by(file.read(1024), pages.MADE_BY):

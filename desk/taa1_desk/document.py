@@ -7,7 +7,7 @@ from itertools import zip_longest
 from typing import Any, Iterable, NamedTuple, Sequence, Union
 
 from . import page
-from .page import Row, grouped, tag, text
+from .page import Html, Row, grouped, join, tag, text
 
 WIDTH = 96  # of a text's lines
 CELL = 72  # of a cell's words in it
@@ -170,7 +170,7 @@ def _in_page(value: Any) -> Any:
     """A cell for a page's table."""
     if isinstance(value, Boxes):
         box = '<i class="tick"></i>' if value.tick else "<i></i>"
-        return tag("span", box * value.number, class_="boxes")
+        return tag("span", Html(box * value.number), class_="boxes")
     return value
 
 
@@ -179,7 +179,7 @@ def _row(row: Any) -> Row:
     return Row([_in_page(value) for value in made.cells], made.class_)
 
 
-def _html(block: Block) -> str:
+def _html(block: Block) -> Html:
     """A block's HTML."""
     if isinstance(block, Head):
         return text(f"h{block.level}", block.words, class_="new" if block.new_page else "")
@@ -192,8 +192,8 @@ def _html(block: Block) -> str:
     if isinstance(block, Fields):
         return page.fields(block.names)
     if isinstance(block, Lines):
-        return '<div class="line"></div>\n' * block.number
-    return tag("section", "\n".join(map(_html, block.blocks)))
+        return Html('<div class="line"></div>\n' * block.number)
+    return tag("section", join(map(_html, block.blocks), "\n"))
 
 
 def as_page(document: Document) -> str:

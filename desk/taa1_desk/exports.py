@@ -24,7 +24,8 @@ HEADS = (
     "problem",
 )  # fmt: skip
 NOTHING = "nothing was handed in"
-FORMULA = ("=", "+", "-", "@", "\t", "\r")  # what begins a formula in a spreadsheet
+# What begins a formula in a spreadsheet; full-width signs are taken for the plain ones.
+FORMULA = ("=", "+", "-", "@", "\t", "\r", "\n", "＝", "＋", "－", "＠")
 
 
 def is_marks(start: bytes) -> bool:

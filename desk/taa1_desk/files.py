@@ -10,6 +10,7 @@ import stat
 import sys
 import tempfile
 import threading
+import time
 from contextlib import contextmanager
 from pathlib import Path
 from typing import Any, Callable, Container, Iterable, Iterator, Optional
@@ -18,6 +19,8 @@ MOST_BYTES = 1 << 20  # of one input; the longest book in lines has a tenth of i
 
 THERE = "it is there already, and draw replaces no file"
 STANDARD = "-"  # the name that stands for standard input and output
+FIRST_WRITER = 1  # seconds in which somebody has to open the other end of a pipe
+MOST_WAIT = 60  # seconds without a byte from a pipe
 
 
 class Problem(Exception):
@@ -37,6 +40,14 @@ def shown(name: str) -> str:
         else "".join(f"\\x{byte:02x}" for byte in letter.encode("utf-8", "surrogateescape"))
         for letter in name
     )
+
+
+MOST_QUOTED = 40  # letters of what somebody wrote
+
+
+def quoted(said: str) -> str:
+    """What somebody wrote, for a line of text; of very much, the start."""
+    return repr(said) if len(said) <= MOST_QUOTED else f"{said[:MOST_QUOTED]!r}.."
 
 
 def place(name: str) -> str:
@@ -84,14 +95,39 @@ def read(name: str) -> bytes:
             _remember(sys.stdin.fileno())
             data = sys.stdin.buffer.read(MOST_BYTES + 1)
         else:
-            with open(name, "rb") as file:
+            # a pipe that nobody writes to would keep an ordinary open waiting for ever
+            with open(os.open(name, os.O_RDONLY | os.O_NONBLOCK), "rb", buffering=0) as file:
                 _remember(file.fileno())
-                data = file.read(MOST_BYTES + 1)
+                data = _all(file.fileno(), stat.S_ISFIFO(os.fstat(file.fileno()).st_mode))
     except (OSError, ValueError) as error:
         said = reason(error) if isinstance(error, OSError) else str(error)
         raise Problem(f"{place(name)}: {said}") from None
     if len(data) > MOST_BYTES:
         raise Problem(f"{place(name)}: longer than {MOST_BYTES:,} bytes")
+    return data
+
+
+def _all(handle: int, pipe: bool) -> bytes:
+    """What a file holds, or the start of it that is too long; what comes through a pipe, if
+    somebody writes to it."""
+    data, last = b"", time.monotonic()
+    while len(data) <= MOST_BYTES:
+        try:
+            part = os.read(handle, MOST_BYTES + 1 - len(data))
+            most = FIRST_WRITER if pipe and not data else 0
+        except BlockingIOError:  # somebody writes, but has not yet
+            part, most = b"", MOST_WAIT
+        waited = time.monotonic() - last
+        if part:
+            data, last = data + part, time.monotonic()
+        elif waited < most:
+            time.sleep(0.01)
+        elif most == MOST_WAIT:
+            raise OSError(errno.ETIMEDOUT, f"nothing came in {MOST_WAIT} seconds: name a file")
+        else:
+            break
+    if pipe and not data:
+        raise OSError(errno.EPIPE, "a pipe to which nobody writes: name a file")
     return data
 
 

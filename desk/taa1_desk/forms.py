@@ -9,7 +9,7 @@ from typing import Callable, NamedTuple, Optional
 
 from taa1 import MOST_RECORDS
 
-from .files import MOST_BYTES, from_hex, is_printed
+from .files import MOST_BYTES, from_hex, is_printed, quoted
 from .records import SEALED
 
 BYTES = "bytes"  # the form of a file that is no text
@@ -75,7 +75,7 @@ def _without_blocks(text: str) -> str:
 
 def _word(word: str) -> bytes:
     if len(word) not in (4, 8, 16):
-        raise ValueError(f"{word!r} is no word of two, four or eight bytes")
+        raise ValueError(f"{quoted(word)} is no word of two, four or eight bytes")
     return bytes.fromhex(word)[::-1]
 
 
@@ -91,7 +91,7 @@ def _decimal(word: str) -> bytes:
     return bytes([int(word, 10)])
 
 
-ADDRESSED = re.compile(r"([0-9a-fA-F]{6,16})(:?)(?:\s+(.*))?$")
+ADDRESSED = re.compile(r"([0-9a-fA-F]{6,16})(:?)(?:\s(.*))?$")
 
 
 def dumped(text: str, value: Callable[[str], bytes]) -> bytes:
@@ -128,12 +128,13 @@ def _addressed(lines: list[str], value: Callable[[str], bytes], base: int) -> Op
         while repeated and last and len(made) < address:
             made += last
         repeated = False
-        if not found[3]:  # the length: a last word may have been filled up
+        rest = (found[3] or "").lstrip()
+        if not rest:  # the length: a last word may have been filled up
             return bytes(made[:address]) if 0 <= len(made) - address < 8 else None
         if len(made) != address:
             return None
         # the bytes as letters stand after two spaces, or between | or >
-        values = found[3].partition("  ")[0] if found[2] else re.split(r"[|>]", found[3])[0]
+        values = rest.partition("  ")[0] if found[2] else re.split(r"[|>]", rest)[0]
         last = b"".join(map(value, values.split()))
         made += last
     return bytes(made)

@@ -26,6 +26,7 @@ from .lineends import CHANGES, DAMAGED, Change, Copies
 from .mark import Marked, Marker, Sheet, Wanted
 from .page import is_made_by
 from .pages import MADE_BY
+from .pairing import too_many
 from .records import KINDS, PLAIN, SEALED, split
 from .sheets import plural
 from .texts import is_lines
@@ -35,21 +36,48 @@ READ_AS = (BYTES, *FORMS, FORM)
 MOST_IN_FRONT = 1024  # bytes of a header
 MOST_NAME = 200  # bytes of a page's name
 KEYS = ".keys"
+LINK = "left out: a link, which may lead to another's file (ask for the file itself)"
 NO_BOOK = f"left out: no hand-in beside it whose keys they are (NAME{KEYS} belongs to NAME.book)"
 
 
 # ---- looks: what a file is that is no book
 
-TEXTS = (  # by what is found in them
-    (r"\{\\rtf", "a document in rich text"),
-    (r"(?i)\s*<(!doctype )?html", "a page of HTML"),
-    (r"(?:.*\n){0,5}\s*(0{6,16}|[0-7]{7}):?\s", "a dump of bytes, but in no form that is known, or with "
-     "lines lost or doubled (od -An -v -tx1 makes one that is read)"),
-    (r"Question paper\b", "the question paper, with no answer in it"),
-    (r"Worked solution\b", "the worked solution, which is no candidate's"),
-    (r"\s*[A-Za-z][A-Za-z0-9_ ]*[0-9']?\s*=", "names and values (keys lie in NAME.keys beside a "
-     "hand-in NAME.book)"),
-)  # fmt: skip
+HEAD = 200  # letters at the start of a line, where what it is can be told
+STARTS = (  # by what a text begins with, in small letters
+    ("{\\rtf", "a document in rich text"),
+    ("<html", "a page of HTML"),
+    ("<!doctype html", "a page of HTML"),
+)
+DUMP = (
+    "a dump of bytes, but in no form that is known, or with lines lost or doubled "
+    "(od -An -v -tx1 makes one that is read)"
+)
+PAPERS = (
+    ("question paper", "the question paper, with no answer in it"),
+    ("worked solution", "the worked solution, which is no candidate's"),
+)
+VALUES = "names and values (keys lie in NAME.keys beside a hand-in NAME.book)"
+ADDRESS = re.compile(r"(?:0{6,16}|[0-7]{7}):?(?:\s|$)")  # the first one of a dump
+
+
+def looks_like(text: str) -> str:
+    """What a text is that is no book, if its first lines tell. No pattern goes over more than
+    the start of a line: a candidate may hand in whatever there is, and it must not take long."""
+    lines = [line[:HEAD].strip() for line in text[: 64 * HEAD].splitlines() if line.strip()][:6]
+    first = lines[0] if lines else ""
+    for start, what in STARTS:
+        if first.lower().startswith(start):
+            return what
+    if any(ADDRESS.match(line) for line in lines):
+        return DUMP
+    for start, what in PAPERS:
+        if first.lower().startswith(start):
+            return what
+    name, equals, _ = first.partition("=")
+    words = name.replace("_", " ").replace("'", " ").split()
+    if equals and words and words[0][0].isalpha() and all(word.isalnum() for word in words):
+        return VALUES
+    return ""
 
 
 def _latin(book: bytes) -> bytes:
@@ -84,6 +112,9 @@ class Reading(NamedTuple):
     hopeless: bool = False  # no form makes a book of it
     keys: Optional[KeyFile] = None  # that are in it, too
     rows: tuple[int, ...] = ()  # the entries of the records, where the hand-in numbers them
+    unread: tuple[int, ...] = ()  # entries whose rows can't be read
+    lost: int = 0  # lines with records that can't be read, of entries that are not known
+    blank: tuple[str, ...] = ()  # rows that are left blank
 
 
 class Reader:
@@ -99,6 +130,7 @@ class Reader:
         self.names = {PLAIN: {record[1:4] for record in plain}}
         self.sealed_names = {record[1:4] for record in marker.model}
         self.copies = Copies(marker.model)
+        self.form_rows = answerform.asked_rows(marker.keys.sitting.sides)
 
     def mark(
         self, name: str, data: bytes, form: str = "", keys: Optional[KeyFile] = None
@@ -106,11 +138,13 @@ class Reader:
         """The mark sheet of a hand-in; a form that is given is not questioned."""
         where = place(name)
         reading = self.forced(data, form) if form else self.read(data)
-        problem = reading.problem
+        problem, many = reading.problem, self._too_many(reading.book)
+        if many:
+            return self.marker.unreadable(where, f"{many}: ask for the book alone")
         if problem is None:
             keys = answerform.both(reading.keys, keys) if reading.keys else keys
             sheet = self.marker.mark(where, reading.book, keys)
-            sheet = sheet._replace(read_as=reading.how, problems=reading.problems)
+            sheet = _with_reading(sheet, reading)
             problem = None if form or not reading.book else self.strange(sheet)
             if problem is None:
                 return _numbered(sheet, reading.rows) if reading.rows else sheet
@@ -140,6 +174,10 @@ class Reader:
             (r in places) + (r[:1] + r[4:6] in self.heads or r[1:4] in names)
             for r in split(book, size)
         )
+
+    def _too_many(self, book: bytes) -> str:
+        """That a book has many times the model's records, if it has."""
+        return too_many(len(book) // SEALED, len(self.marker.model))
 
     def forced(self, data: bytes, form: str) -> Reading:
         """A file read in a form."""
@@ -186,7 +224,7 @@ class Reader:
             return by_rows
         if self.common(best.book):
             return self._look(best)
-        look = next((what for pattern, what in TEXTS if re.match(pattern, text)), "")
+        look = looks_like(text)
         if is_lines(text) and not look:
             return Reading(b"", problem=f"this looks like a plain book in lines{WANTED}")
         # nothing is proved: digits are taken for what they seem to be
@@ -216,12 +254,19 @@ class Reader:
 
     def _form(self, text: str, code: str) -> Reading:
         """An answer form that is filled in."""
-        filled = answerform.read(text)
+        filled = answerform.read(text, self.form_rows)
         if filled.is_blank:
             return Reading(b"", problem=answerform.NOTHING, hopeless=True)
         how = answerform.WHAT + code + ", its versions in decimal" * filled.decimal
         return Reading(
-            filled.book, how, FORM, problems=filled.problems, keys=filled.keys, rows=filled.rows
+            filled.book,
+            how,
+            FORM,
+            problems=filled.problems,
+            keys=filled.keys,
+            rows=filled.rows,
+            unread=filled.unread,
+            blank=filled.blank,
         )
 
     def _rows(self, text: str, code: str, best: Reading) -> Optional[Reading]:
@@ -237,6 +282,8 @@ class Reader:
     def _look(self, reading: Reading) -> Reading:
         """What the bytes look like that were read."""
         book = reading.book
+        if self._too_many(book):  # it is said where it is marked
+            return reading
         found, (whole, left) = self.common(book), divmod(len(book), SEALED)
         if found == 2 * whole and not left:
             return reading
@@ -341,6 +388,19 @@ class Reader:
         return opened.identity in self.identities or opened.key in self.entry_keys
 
 
+def _with_reading(sheet: Sheet, reading: Reading) -> Sheet:
+    """A sheet that says how the hand-in was read, and what of it was not. An entry whose record
+    may stand in a line that can't be read is not said to be missing."""
+    unread = [at for at in sheet.missing if reading.lost or at in reading.unread]
+    return sheet._replace(
+        read_as=reading.how,
+        problems=reading.problems,
+        missing=tuple(at for at in sheet.missing if at not in unread),
+        unread=tuple(unread),
+        blank=reading.blank,
+    )
+
+
 def _numbered(sheet: Sheet, rows: Sequence[int]) -> Sheet:
     """A sheet whose records have the numbers of the rows that they stand in."""
     refused = sheet.refused
@@ -431,8 +491,8 @@ def _left_out(name: str, named: Container[str]) -> Optional[LeftOut]:
         return LeftOut(name, "left out: hidden")
     if os.path.realpath(name) in named:
         return LeftOut(name, "left out here: it is named on the command line")
-    if not os.path.exists(name):
-        return LeftOut(name, "left out: a link to no file", True)
+    if os.path.islink(name):
+        return LeftOut(name, LINK, True)
     if os.path.isdir(name):
         return LeftOut(name, "left out: a folder")
     if not os.path.isfile(name):

@@ -14,6 +14,7 @@ from taa1 import Sitting
 
 from .desk import Desk
 from .explain import KEY, Found, Part, Table
+from .files import quoted
 from .forms import FILES, text_of
 from .model import sides_of
 from .names import field
@@ -34,9 +35,12 @@ PARENTS = {
 }
 
 
+MOST_WORDS = 3  # of a value's name
+
+
 def short(name: str) -> str:
-    """A name as it is compared: without spaces, in small letters."""
-    return re.sub(r"[\s_-]", "", name).lower()
+    """A name as it is compared: without spaces, in small letters, with one apostrophe."""
+    return re.sub("[\u2018\u2019\u201b\u2032\u00b4`\uff07]", "'", re.sub(r"[\s_-]", "", name)).lower()
 
 
 SHORT = {short(each): name for name in KEYS for each in (field(name), name)}
@@ -110,7 +114,7 @@ def _parted(line: str) -> tuple[str, str, str]:
     name and a value of its length are all that there is."""
     left, equals, right = re.sub(r"[=:]", "=", line, count=1).partition("=")
     words = line.split()
-    for at in range(1, 0 if equals else len(words)):
+    for at in range(1, 0 if equals else min(len(words), MOST_WORDS + 1)):
         name, digits = SHORT.get(short(" ".join(words[:at]))), "".join(map(without_0x, words[at:]))
         if name and len(digits) == 2 * LENGTHS[name] and DIGITS.issuperset(digits):
             return name, "=", digits
@@ -129,7 +133,7 @@ def parse(text: str) -> KeyFile:
         if not equals:
             problem = "no line of the form NAME = HEXADECIMAL"
         elif name is None:
-            problem = f"no name {left.strip()!r}: the names are {', '.join(KEYS)}"
+            problem = f"no name {quoted(left.strip())}: the names are {', '.join(KEYS)}"
         elif values.get(name):
             problem = f"{name} for the second time; the first one counts"
         else:

@@ -114,6 +114,8 @@ class Sheet(NamedTuple):
     keys: KeySheet = KeySheet()  # handed in beside it
     kinds: tuple[int, ...] = ()  # of the model's entries
     points: Optional[Points] = None
+    unread: tuple[int, ...] = ()  # entries without a record that may be in a line that can't be read
+    blank: tuple[str, ...] = ()  # rows of a form that are left blank
 
     @property
     def right(self) -> int:
@@ -140,7 +142,8 @@ class Sheet(NamedTuple):
     def perfect(self) -> bool:
         """Whether the book is the model, in whatever order, and every key that was handed
         in is right."""
-        whole_book = not (self.problem or self.refused or self.missing or self.left or self.again)
+        lacks = self.missing or self.unread or self.left or self.again
+        whole_book = not (self.problem or self.refused or lacks)
         keys = not self.keys.problems and all(m.state in ("right", "idle") for m in self.keys.marks)
         return whole_book and keys and all(entry.state == "right" for entry in self.entries)
 

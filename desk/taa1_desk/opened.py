@@ -32,7 +32,7 @@ from .mark import (
     explained,
     named,
 )
-from .pairing import pair
+from .pairing import pair, too_many
 from .records import KINDS, PLAIN, SEALED, Entry, Ring, split, whole
 from .sheets import failed_checks
 from .slips import EXCHANGED, open_under, opened, work_opened
@@ -150,6 +150,7 @@ class OpenedMarker:
                 f"this looks like no plain book: {len(data)} bytes, where a record has {PLAIN}"
             )
         records = split(data, PLAIN)
+        self._not_too_many(len(records))
         answers = {}
         for index, at in self._paired(records).items():
             known = records[index][0] in KINDS
@@ -157,6 +158,12 @@ class OpenedMarker:
             problem = "" if known or self.truth[at].failed else "there is no such kind"
             answers[at] = Answer(None, entry, problem)
         return Read(answers, len(records) - len(answers), how=how, in_bytes=True)
+
+    def _not_too_many(self, records: int) -> None:
+        """Raises ValueError where there are many times the entries to pair."""
+        many = too_many(records, len(self.truth))
+        if many:
+            raise ValueError(f"{many}: ask for what was opened alone")
 
     def _paired(self, records: list[bytes]) -> dict[int, int]:
         """For each plain record the entry that it is, or is most like."""
@@ -196,6 +203,7 @@ class OpenedMarker:
                     problems.append(f"line {number}: it is about no entry, and is not read")
                 continue
             lines.append(Line(index, _answer(words, number)))
+            self._not_too_many(len(lines))
         readings = [
             Read(self._numbered(lines, 0), how=how),
             Read(self._numbered(lines, 1), how=how + ", whose entries are counted from 1"),

@@ -76,6 +76,15 @@ FOOT = """
 class Html(str):
     """Text that is HTML already."""
 
+    def __add__(self, other: Html) -> Html:  # type: ignore[override]
+        """HTML after HTML; other text has to be escaped first."""
+        return Html(str.__add__(self, other))
+
+
+def join(parts: Iterable[Html], between: str = "") -> Html:
+    """HTML one after the other."""
+    return Html(between.join(parts))
+
 
 class Code(str):
     """Text with bytes in it, in their font."""
@@ -92,9 +101,9 @@ class Row(NamedTuple):
     class_: str = ""
 
 
-def tag(name: str, content: str, **attributes: Any) -> Html:
-    """An element around content that is HTML already; attributes are text, and an empty one
-    is left out."""
+def tag(name: str, content: Html, **attributes: Any) -> Html:
+    """An element around content that is HTML already, which its type says; attributes are
+    text, and an empty one is left out."""
     given = "".join(
         f' {key.rstrip("_").replace("_", "-")}="{escape(str(value))}"'
         for key, value in attributes.items()
@@ -105,7 +114,7 @@ def tag(name: str, content: str, **attributes: Any) -> Html:
 
 def text(name: str, content: str, **attributes: Any) -> Html:
     """An element around text."""
-    return tag(name, escape(content), **attributes)
+    return tag(name, Html(escape(content)), **attributes)
 
 
 def breakable(content: str) -> Html:
@@ -129,7 +138,7 @@ def _cell(value: Any, head: str, number: bool) -> Html:
     """A cell: bytes in groups, a column of numbers to the right, text as text."""
     if isinstance(value, (bytes, tuple)):
         return text("td", grouped(value), class_="hex", data_head=head)
-    said = value if isinstance(value, Html) else escape("-" if value is None else str(value))
+    said = value if isinstance(value, Html) else Html(escape("-" if value is None else str(value)))
     class_ = "code" if isinstance(value, Code) else "number" if number else ""
     return tag("td", said, class_=class_, data_head=head)
 
@@ -149,30 +158,29 @@ def table(heads: Sequence[str], rows: Iterable[Any], class_: str = "", title: st
     with the heads on each printed page."""
     made = [each if isinstance(each, Row) else Row(each) for each in rows]
     right = numbers([each.cells for each in made], len(heads))
-    head = "".join(
+    head = join(
         text("th", each, class_="number" if number else "") for each, number in zip(heads, right)
     )
     above = tag("tr", text("th", title, class_="title", colspan=len(heads)), class_="title")
-    body = "\n".join(
-        tag("tr", "".join(map(_cell, each.cells, heads, right)), class_=each.class_)
-        for each in made
+    rows_ = (
+        tag("tr", join(map(_cell, each.cells, heads, right)), class_=each.class_) for each in made
     )
+    body = join(rows_, "\n")
     classes = f"{'wide' if len(heads) > 2 else ''} {class_}".strip()
-    head = (above if title else "") + tag("tr", head)
+    head = (above if title else Html()) + tag("tr", head)
     return tag("table", tag("thead", head) + tag("tbody", body), class_=classes)
 
 
 def pairs(rows: Iterable[tuple[str, Any]], class_: str = "") -> Html:
     """A table of names and values, without heads."""
-    body = "\n".join(
-        tag("tr", text("th", name) + _cell(value, "", False)) for name, value in rows
-    )
+    made = (tag("tr", text("th", name) + _cell(value, "", False)) for name, value in rows)
+    body = join(made, "\n")
     return tag("table", tag("tbody", body), class_=f"pairs {class_}".strip())
 
 
 def fields(names: Iterable[str]) -> Html:
     """Places to write on after names."""
-    places = "".join(tag("p", text("b", name) + "<span></span>") for name in names)
+    places = join(tag("p", text("b", name) + Html("<span></span>")) for name in names)
     return tag("div", places, class_="fields")
 
 
@@ -206,7 +214,7 @@ def page(title: str, *parts: str, above: str = "", style: str = "", made_by: str
             text("title", named),
             f"<style>{STYLE}{style}{foot}</style></head>",
             "<body>",
-            tag("header", (text("p", above) if above else "") + text("h1", title)),
+            tag("header", (text("p", above) if above else Html()) + text("h1", title)),
             *parts,
             "</body>",
             "</html>\n",

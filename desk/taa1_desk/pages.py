@@ -11,7 +11,7 @@ from .keysheet import KeySheet
 from .mark import Explained, Flags, Marked, Sheet, Wanted
 from .model import entry_title, entry_values, sitting_values
 from .names import IN_SITTING, both, sealing
-from .page import Html, Number, Row, breakable, fields, page, pairs, table, tag, text
+from .page import Html, Number, Row, breakable, fields, join, page, pairs, table, tag, text
 from .records import KINDS, Entry
 from .results import key_result, result
 from .scheme import Points
@@ -55,13 +55,13 @@ def model_page(model: dict[str, Any], heading: str = "") -> str:
     ]
     return page(
         "Model answer",
-        tag("h2", "The sitting"),
+        text("h2", "The sitting"),
         pairs(sitting),
-        tag("h2", "The keys"),
+        text("h2", "The keys"),
         table(("name", "value", "made by"), keys, "keys"),
-        tag("h2", "The entries"),
+        text("h2", "The entries"),
         *entries,
-        tag("p", f"Sealing the book takes {model['runs']} cipher runs."),
+        text("p", f"Sealing the book takes {model['runs']} cipher runs."),
         above=heading,
     )
 
@@ -156,7 +156,7 @@ def _entry_section(entry: Marked, sheet: Sheet, wanted: Wanted) -> Html:
     for slip in sheet.slips:
         if entry.index in slip.entries:
             said += f" Slip: {slip.name}, at this step: {at_step(slip)}."
-    compared = "".join(_compared(entry, sheet, wanted))
+    compared = join(_compared(entry, sheet, wanted))
     return tag("section", text("h3", title) + text("p", said) + compared)
 
 
@@ -180,7 +180,7 @@ def _entries(sheet: Sheet, wanted: Wanted) -> Html:
 def _missing(sheet: Sheet, wanted: Wanted) -> Html:
     """The entries that are missing, as they are wanted, be it by their flag alone."""
     rows: list[tuple[Any, ...]] = []
-    for at in sheet.missing:
+    for at in sorted((*sheet.missing, *sheet.unread)):
         plain = wanted.plain[at]
         made = plain_fields(plain, plain)
         if wanted.sealed:
@@ -204,18 +204,19 @@ def sheet_page(sheet: Sheet, wanted: Wanted, heading: str) -> str:
     wrong = [entry for entry in sheet.entries if entry.state not in ("right", "doubled")]
     parts = [text("p", result(sheet), class_="result"), pairs(facts)]
     if sheet.slips:
-        parts += [tag("h2", "What went wrong, and at which step"), _slips(sheet)]
+        parts += [text("h2", "What went wrong, and at which step"), _slips(sheet)]
     if sheet.points and len(sheet.points.items) > 1:
-        parts += [tag("h2", "Points"), _points(sheet.points)]
+        parts += [text("h2", "Points"), _points(sheet.points)]
     if sheet.keys.marks or sheet.keys.problems:
-        parts += [tag("h2", "Keys of the first two generations"), *_keys(sheet.keys)]
+        parts += [text("h2", "Keys of the first two generations"), *_keys(sheet.keys)]
     if sheet.entries:
-        parts += [tag("h2", "Entry by entry"), _entries(sheet, wanted)]
+        parts += [text("h2", "Entry by entry"), _entries(sheet, wanted)]
     if wrong:
-        parts.append(tag("h2", "What was handed in beside what was wanted"))
+        parts.append(text("h2", "What was handed in beside what was wanted"))
         parts += [_entry_section(entry, sheet, wanted) for entry in wrong]
-    if sheet.missing and not sheet.problem:
-        parts += [tag("h2", "What is missing"), _missing(sheet, wanted)]
+    if (sheet.missing or sheet.unread) and not sheet.problem:
+        title = "What is missing, or was not read" if sheet.unread else "What is missing"
+        parts += [text("h2", title), _missing(sheet, wanted)]
     signature = fields(("Remarks", "Marked by", "Date", "Signature"))
     parts.append(tag("div", signature, class_="sign"))
     return page(sheet.candidate, *parts, above=heading, style=STYLE, made_by=MADE_BY)

@@ -6,6 +6,21 @@ from bisect import bisect_left
 from typing import Callable, Iterable, Mapping, NamedTuple, Optional, Sequence
 
 BOTH = 2  # of a record that is alike in kind and version
+MOST_TIMES, LEAST_MOST = 4, 64  # the records that a hand-in may have: times the model's, or so many
+
+
+def most_records(entries: int) -> int:
+    """How many records are paired with so many entries: pairing takes their product in time
+    and room, so that one hand-in with very many would keep a class waiting."""
+    return max(MOST_TIMES * entries, LEAST_MOST)
+
+
+def too_many(records: int, entries: int) -> str:
+    """What is said of a hand-in with too many records to be paired, if it has."""
+    most = most_records(entries)
+    if records <= most:
+        return ""
+    return f"{records:,} records, where the model has {entries:,} and at most {most:,} are compared"
 
 
 class Pairs(NamedTuple):

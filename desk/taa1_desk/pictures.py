@@ -10,7 +10,7 @@ from __future__ import annotations
 from fractions import Fraction
 from typing import Iterable, NamedTuple, Sequence
 
-from .page import Html, tag, text
+from .page import Html, join, tag, text
 
 HEIGHT = 14  # of a bar
 SIDE = 6  # of a pattern's square
@@ -43,7 +43,7 @@ def _id(name: str) -> str:
 
 
 def _svg(parts: Iterable[str], height: float, said: str = "", class_: str = "") -> Html:
-    body = (text("title", said) if said else "") + "".join(parts)
+    body = (text("title", said) if said else Html()) + Html("".join(parts))
     return tag("svg", body, class_=class_, height=height, role="img")
 
 
@@ -61,7 +61,7 @@ def fillings() -> Html:
         f'<rect width="{SIDE}" height="{SIDE}" fill="{ground}"/>{lines}</pattern>'
         for name, (ground, lines) in FILLINGS.items()
     ]
-    return tag("svg", tag("defs", "".join(made)), class_="fillings", height=0)
+    return tag("svg", tag("defs", Html("".join(made))), class_="fillings", height=0)
 
 
 class Part(NamedTuple):
@@ -86,7 +86,7 @@ def legend(names: Iterable[str]) -> Html:
     """What the fillings mean."""
     return tag(
         "ul",
-        "".join(tag("li", bar([Part(name, 1)], 1) + text("span", name)) for name in names),
+        join(tag("li", bar([Part(name, 1)], 1) + text("span", name)) for name in names),
         class_="legend",
     )
 

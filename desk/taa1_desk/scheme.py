@@ -6,7 +6,7 @@ import re
 from fractions import Fraction
 from typing import TYPE_CHECKING, Collection, Iterable, NamedTuple, Optional
 
-from .files import Problem
+from .files import Problem, quoted
 from .records import KINDS
 from .texts import lines_of
 
@@ -86,11 +86,11 @@ def _read(text: str, where: str, known: Optional[Scheme]) -> Scheme:
         if not equals:
             problem = "no line of the form NAME = POINTS, as in entry = 1"
         elif known is not None and name not in known:
-            problem = f"no name {name!r}: the names are {', '.join(known)}"
+            problem = f"no name {quoted(name)}: the names are {', '.join(known)}"
         elif name in scheme:
             problem = f"{name} for the second time"
         elif not re.fullmatch(r"[+-]?[0-9]{1,9}(\s*/\s*0*[1-9][0-9]{0,8})?", value):
-            problem = f"{name}: {value!r} is no whole number nor a fraction, as 2, 1/2 or -1"
+            problem = f"{name}: {quoted(value)} is no whole number nor a fraction, as 2, 1/2 or -1"
         else:
             scheme[name] = Fraction("".join(value.split()))
             problem = _beyond(name, scheme[name])

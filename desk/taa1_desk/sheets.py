@@ -221,6 +221,12 @@ def others(sheet: Sheet) -> list[str]:
     if sheet.missing and not sheet.problem:
         said.append(f"missing: the model's {entries_said(list(sheet.missing))}")
     said += not_read(sheet.problems)
+    if sheet.unread:
+        where = "in a line that can't be read"
+        where += ", or not there" if len(sheet.unread) > len(sheet.problems) else ""
+        said.append(f"{where}: the model's {entries_said(list(sheet.unread))}")
+    if sheet.blank:
+        said.append(f"left blank on the form: {blank_said(sheet.blank)}")
     told = {index for slip in sheet.slips for index in slip.entries}
     untold = [i for i in sheet.flags.invented if i not in told] if sheet.flags else []
     if len(untold) >= MANY_FLAGS:
@@ -233,6 +239,13 @@ def others(sheet: Sheet) -> list[str]:
         cut = f"the last record is cut short: {sheet.left} of {SEALED} bytes"
         said.append(cut if len(sheet.entries) < sheet.size else more)
     return said
+
+
+def blank_said(rows: Sequence[str]) -> str:
+    """The rows of a form that are left blank."""
+    entries = [int(row.split()[1]) for row in rows if row.startswith("entry ")]
+    values = [row for row in rows if not row.startswith("entry ")]
+    return listed([*values, *([entries_said(entries)] if entries else [])])
 
 
 def explains(slip: Explained) -> str:
@@ -373,6 +386,8 @@ def sheet_json(sheet: Sheet) -> dict[str, Any]:
         ],
         "entries": [_entry_json(entry) for entry in sheet.entries],
         "missing": list(sheet.missing),
+        "not_read": list(sheet.unread),
+        "blank": list(sheet.blank),
         "flags": sheet.flags._asdict() if sheet.flags else None,
         "lines_not_read": [*sheet.keys.problems, *sheet.problems],
         "bytes_left": sheet.left,

@@ -13,10 +13,10 @@ from taa1 import MOST_RECORDS, Refusal, Refused, Sitting
 from taa1.calls import CALLS
 
 from .desk import Desk, RefusedFile, refusals
-from .files import Problem, from_hex, place, read
+from .files import Problem, from_hex, place, quoted, read
 from .files import text as as_text
 from .names import KIND_NAMES
-from .records import KINDS, PLAIN, RING, Entry, Ring, split, whole
+from .records import KINDS, PLAIN, RING, SEALED, Entry, Ring, split, whole
 from .values import IDENTITY, MASK, decimal, hexadecimal, string, without_0x
 
 
@@ -73,7 +73,7 @@ def text_of(data: bytes, where: str) -> str:
         except UnicodeDecodeError as error:
             line = data[: error.start].count(b"\n") + 1
             raise Problem(f"{where}, line {line}: not UTF-8") from None
-    if re.search(r"\r(?!\r*(\n|\Z))", found):
+    if any("\r" in line.rstrip("\r") for line in found.split("\n")):
         raise Problem(f"{where}: {OLD_MAC}")
     return found
 
@@ -105,7 +105,7 @@ def parse_names(text: str, wanted: tuple[Name, ...], where: str) -> dict[str, by
             wrong.append(f"{where}, line {number}: no line of the form name = hexadecimal")
         elif key not in names:
             known = ", ".join(names)
-            wrong.append(f"{where}, line {number}: no name {key!r}: the names are {known}")
+            wrong.append(f"{where}, line {number}: no name {quoted(key)}: the names are {known}")
         elif key in at:
             wrong.append(f"{where}, line {number}: {key} for the second time, after line {at[key]}")
         else:
@@ -274,7 +274,7 @@ def _fields(words: list[str]) -> dict[str, list[str]]:
             fields[name] = []
             last = name
         elif not last or (fields[last] and last != "key"):
-            raise ValueError(f"{word!r} is no word of an entry: {_FORM}")
+            raise ValueError(f"{quoted(word)} is no word of an entry: {_FORM}")
         else:
             fields[last].append(word)
     return fields
@@ -304,7 +304,7 @@ def _entry(fields: dict[str, list[str]], any_number: bool = False) -> Entry:
         wanted = f"a decimal number up to {highest}"
         key_number = _named("number", decimal, word("number", wanted), highest)
     elif fields.get("number", ["-"]) != ["-"]:
-        raise ValueError(f"number {fields['number'][0]!r}: kind {number} has none: leave it out")
+        raise ValueError(f"number {quoted(fields['number'][0])}: kind {number} has none: leave it out")
     return Entry(number, identity, version, key, key_number)
 
 
@@ -348,14 +348,14 @@ def parse_lines(desk: Desk, text: str, where: str) -> bytes:
                     raise ValueError(f"entries {count}, where there are {len(records)}")
                 continue
             if {"entry", *_WORDS}.isdisjoint(map(str.lower, words)):
-                raise ValueError(f"{words[0]!r} is no word of an entry: {_FORM}")
+                raise ValueError(f"{quoted(words[0])} is no word of an entry: {_FORM}")
             records.append(b"")
             fields = _fields(words)
             wanted = str(len(records) - 1 + behind)
             index = " ".join(fields.pop("entry", [wanted]))
             if index != wanted:
                 behind += int(index[:9]) - int(wanted) if re.fullmatch("[0-9]+", index) else 0
-                raise ValueError(f"entry {index!r}, where entry {wanted} stands")
+                raise ValueError(f"entry {quoted(index)}, where entry {wanted} stands")
             record = _entry(fields).data
             desk.call("check_plain", record)
             records[-1] = record
@@ -388,8 +388,18 @@ def read_plain(desk: Desk, name: str, raw: bool = False) -> bytes:
     elif text:
         data = from_hex(text, where)
     with refusals(where):
-        desk.call("check_plain", data)
+        try:
+            desk.call("check_plain", data)
+        except Refused:
+            if seems_sealed(data):
+                raise Problem(f"{where}: this looks like a sealed book, where the plain one is wanted") from None
+            raise
     return data
+
+
+def seems_sealed(data: bytes) -> bool:
+    """Whether bytes that are no plain book are a sealed one by their length and kinds."""
+    return bool(data) and len(data) % SEALED == 0 and all(kind in KINDS for kind in data[::SEALED])
 
 
 def read_sealed(name: str, raw: bool = False) -> bytes:
@@ -442,7 +452,7 @@ def parse_sheet(text: str, where: str) -> tuple[list[str], bytes]:
 def _sheet_record(operation: str, words: list[str], index: dict[str, int]) -> bytes:
     """A record of a sheet. Raises ValueError."""
     if operation not in OPERATIONS:
-        raise ValueError(f"no operation {operation!r}: they are {', '.join(OPERATIONS)}")
+        raise ValueError(f"no operation {quoted(operation)}: they are {', '.join(OPERATIONS)}")
     code = OPERATIONS.index(operation)
     if code == 0:
         digits = "".join(map(without_0x, words))
@@ -452,7 +462,7 @@ def _sheet_record(operation: str, words: list[str], index: dict[str, int]) -> by
         raise ValueError(f"{operation} takes two parents, not {len(words)}")
     missing = [word for word in words if word not in index]
     if missing:
-        raise ValueError(f"no key {missing[0]!r}")
+        raise ValueError(f"no key {quoted(missing[0])}")
     # With an index of more than two bytes, the sheet is too long for the engine anyway.
     parents = b"".join(min(index[word], 0xFFFF).to_bytes(2, "big") for word in words)
     return bytes([code]) + parents + bytes(1 + VALUE)

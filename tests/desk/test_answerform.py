@@ -98,6 +98,11 @@ class Forms(unittest.TestCase):
         assert sheet.refused
         self.assertEqual((sheet.refused.number, sheet.refused.index), (6, 9))
         self.assertIn("  entry 9: seals no key: all 5 checks fail\n", sheet_text(sheet))
+        self.assertIn("  left blank on the form: entries 3 and 7\n", sheet_text(sheet))
+        keys = {name: value for name, value in KEYS.items() if name != "D"}
+        self.assertIn("  left blank on the form: D and entry 3\n", sheet_text(mark(filled(
+            [None if at == 3 else record for at, record in enumerate(RECORDS)], keys
+        ))))  # fmt: skip
 
     def test_bad_rows(self) -> None:
         """A row that can't be read is named, and costs itself alone."""
@@ -110,8 +115,10 @@ class Forms(unittest.TestCase):
             (text[at][:-2] + "9o", "'o' is no hexadecimal digit"),
         ):
             sheet = mark("\n".join([*text[:at], line, *text[at + 1 :]]))
-            self.assertEqual((sheet.right, sheet.missing), (11, (4,)))
+            self.assertEqual((sheet.right, sheet.missing, sheet.unread), (11, (), (4,)))
             self.assertIn(f"line {at + 1}, entry 4: {said}", others(sheet))
+            self.assertNotIn("missing: the model's", sheet_text(sheet))
+            self.assertFalse(sheet.perfect)
         for line, said in (
             (text[key][:-3], "18 hexadecimal digits, not 20"),
             (text[key][:-2] + "__", "9 of 10 boxes are filled in"),
@@ -120,6 +127,36 @@ class Forms(unittest.TestCase):
             self.assertEqual([m.name for m in sheet.keys.marks if m.state == "wrong"], ["D"])
             self.assertEqual(sheet.keys.problems, (f"line {key + 1}, D: {said}",))
             self.assertEqual(sheet.right, 12)
+
+    def test_names_of_rows(self) -> None:
+        """A row's number or either of its names is enough, with any apostrophe, in any case;
+        what names no row is named by its line."""
+        text = filled().splitlines()
+        at = {name: next(i for i, line in enumerate(text) if f" {name} (" in line) for name in KEYS}
+        for name, starts in {
+            "D": ("7", "7 D", "DCK", "d", "row 7:", "7. D (DCK)", "DCK (D)", "7 dck"),
+            "session key 2": ("2 KS\u2019", "ks\u2032", "Session Key 2", "2", "SESSION KEY 2 (KS`)"),
+            "O": ("8", "KSO", "o", "O (KSO)"),
+        }.items():
+            for start in starts:
+                for between in (" ", ""):
+                    line = f"  {start}  {KEYS[name].hex(between) if between else KEYS[name].hex()}"
+                    sheet = mark("\n".join([*text[: at[name]], line, *text[at[name] + 1 :]]))
+                    states = {mark.name: mark.state for mark in sheet.keys.marks}
+                    self.assertEqual(states, dict.fromkeys(KEYS, "right"), line)
+                    self.assertEqual(sheet.keys.problems, (), line)
+        line = f"  my key  {KEYS['D'].hex(' ')}"
+        sheet = mark("\n".join([*text[: at["D"]], line, *text[at["D"] + 1 :]]))
+        (said,) = sheet.keys.problems
+        self.assertRegex(said, f"line {at['D'] + 1}: the form asks for no value 'my key ")
+        row = next(i for i, line in enumerate(text) if line.startswith("      4  "))
+        line = text[row].replace("4", "A", 1)
+        sheet = mark("\n".join([*text[:row], line, *text[row + 1 :]]))
+        self.assertIn(f"line {row + 1}: no entry's number in front, so it is not read", others(sheet))
+        short = "  DCK  " + " ".join(["d", *(f"{byte:x}" for byte in range(9))])
+        sheet = mark("\n".join([*text[: at["D"]], short, *text[at["D"] + 1 :]]))
+        found = next(mark.has for mark in sheet.keys.marks if mark.name == "D")
+        self.assertEqual(found, bytes([0xD, *range(9)]))
 
     def test_decimal_versions(self) -> None:
         """Versions in decimal, as the paper has them, are read where one shows that they are:

@@ -64,13 +64,13 @@ class Class(Case):
 
     def test_formulas(self) -> None:
         """What a spreadsheet would work out has an apostrophe in front; commas are quoted."""
-        names = ("=1+1.book", "+a.book", "@b.book", "-c, \"d\".book", "e=f.book")
+        names = ("=1+1.book", "+a.book", "@b.book", "-c, \"d\".book", "e=f.book", "＝g.book")
         for name in names:
             self.file(name, b"".join(MODEL))
         files = [f"./{name}" for name in names]
         out = taa1("mark", *INPUTS, *files, "--csv", cwd=self.folder).out.decode()
         found = [row[0] for row in csv.reader(io.StringIO(out))][1:]
-        self.assertEqual(found, ["'=1+1", "'+a", "'@b", "'-c, \"d\"", "e=f"])
+        self.assertEqual(found, ["'=1+1", "'+a", "'@b", "'-c, \"d\"", "e=f", "'＝g"])
 
     def test_json(self) -> None:
         """The form has a number, and says of the class what the sheets say."""

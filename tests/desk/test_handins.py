@@ -2,24 +2,31 @@
 
 from __future__ import annotations
 
+import ast
 import csv
 import json
+import os
 import random
+import re
 import shutil
 import subprocess
+import threading
 import time
 import unittest
+from pathlib import Path
 from typing import Any
 
 import planted
 from common import CLASS, DESK, ENTRIES, PLAIN_BOOK, RING, SITTING, Case, here, ring_for, seal
 from taa1 import Sitting
+from taa1_desk import answerform, files, forms, handins, keysheet, opened, texts
 from taa1_desk.files import MOST_BYTES
 from taa1_desk.forms import FORMS
-from taa1_desk.handins import NO_BOOK, Reader, page_names
+from taa1_desk.handins import LINK, NO_BOOK, Reader, page_names
 from taa1_desk.mark import Marker
+from taa1_desk.opened import OpenedMarker
 from taa1_desk.records import SEALED, split
-from taa1_desk.sheets import others
+from taa1_desk.sheets import others, sheet_text
 from taa1_desk.texts import format_lines
 
 INPUTS = (CLASS / "sitting.txt", CLASS / "model.txt")
@@ -116,6 +123,9 @@ for tool, given in (
             CERTAIN[f"{tool} {options}"] = (dumped(tool, *options.split()), read_as)
 
 RECORD = bytes.fromhex("01cbf75900019a81ed3bc4fff774c3df0b6bfd5399")  # the sample's entry 0
+# A pattern's repeat: right after another one, or of a group that ends in one.
+_ONE = r"(?:\\.|\[[^\]]*\]|[^\\()\[\]|*+?{}])"
+SLOW = re.compile(rf"{_ONE}[*+]\??{_ONE}[*+]|[*+]\)[*+{{]")
 FIXED = {  # what the tools print of it, where they are not installed
     "xxd": (
         "00000000: 01cb f759 0001 9a81 ed3b c4ff f774 c3df  ...Y.....;...t..\n"
@@ -402,6 +412,66 @@ class Forms(unittest.TestCase):
             self.assertIsNotNone(READER.mark("a", data).problem, part)
         self.assertLess(time.process_time() - start, 30)
 
+    def test_in_time(self) -> None:
+        """Twice as much takes twice as long, also of what is written to be slow."""
+        reader = OpenedMarker(DESK, SITTING, RING, BOOK, "handout")
+        form = "row value bytes\n7 D " + "00 " * 1000 + "\n"
+        book = "entry kind ESI version sealed text\n0 " + "00 " * 1000 + "\n"
+        for start, part, end in (
+            ("a", " ", "!"), ("", "a", "="), ("", "a\n", ""), ("D ", "00 ", "x"), ("", "\r", ""),
+            ("a", "\r", "="), ("", "0000000 ", "x"), ("00000000", " ", ""), ("", "b'", ""),
+            ("", "{", ""), ("entry 0 ", "kind ", ""), ("", "entry 0 flag\n", ""), (form, "00\n", ""),
+            (book, "00\n", ""), (book, "x y\n", ""), ("row value bytes\n", "D (", ""),
+            ("entry kind ESI version sealed text\n", "1", "a"), ("kind,ESI,version,text\n", "1,", "a"),
+            ("", '"', ""), ("", "kind: ", ""), ("", "1;2;3;4\n", ""), ("", "/* ", ""),
+        ):  # fmt: skip
+            for read in (
+                lambda data: READER.mark("a", data),
+                lambda data: reader.mark("a", data),
+                lambda data: keysheet.read("a", data),
+            ):
+                took = []
+                most = MOST_BYTES if part == " " else MOST_BYTES // 4
+                for size in (most // 2, most):
+                    data = (start + part * (size // len(part)) + end).encode()
+                    begun = time.process_time()
+                    read(data)
+                    took.append(time.process_time() - begun)
+                with self.subTest(start=start[:20], part=part, end=end):
+                    self.assertLess(took[1], 3 * took[0] + 0.5)
+
+    def test_patterns(self) -> None:
+        """No pattern over what a candidate wrote has a repeat within another, nor two that
+        follow each other and take the same letters."""
+        count = 0
+        for module in (handins, forms, answerform, keysheet, opened, texts, files):
+            tree = ast.parse(Path(module.__file__ or "").read_text())
+            for node in ast.walk(tree):
+                if not (isinstance(node, ast.Call) and isinstance(node.func, ast.Attribute)):
+                    continue
+                if isinstance(node.func.value, ast.Name) and node.func.value.id == "re" and node.args:
+                    if isinstance(node.args[0], ast.Constant) and isinstance(node.args[0].value, str):
+                        count += 1
+                        self.assertFalse(SLOW.search(node.args[0].value), node.args[0].value)
+        self.assertGreater(count, 12)
+
+    def test_too_many(self) -> None:
+        """A book of many times the model's records is refused before it is paired, and no line
+        is echoed whole."""
+        for data in (RECORDS[0][:6] * 8 * 10_000, bytes([1]) * 21 * 30_000):
+            begun = time.process_time()
+            problem = READER.mark("a", data).problem or ""
+            self.assertIn(" records, where the model has 12 and at most 64 are compared: ask for", problem)
+            self.assertLess(time.process_time() - begun, 5)
+        self.assertEqual(READER.mark("a", BOOK * 5).right, 12)
+        long = "Z" * 900_000
+        for text in (long, f"{long} = 00", f"entry {long}", f"entry 0 {long}"):
+            said = sheet_text(READER.mark("a", BOOK, "", keysheet.read("a", text.encode())))
+            said += sheet_text(READER.mark("a", text.encode()))
+            reader = OpenedMarker(DESK, SITTING, RING, BOOK, "handout")
+            said += sheet_text(reader.mark("a", text.encode()))
+            self.assertLess(len(said), 5000)
+
     def test_forced(self) -> None:
         """A form that is given is not questioned; what can't be read so is said."""
         self.assertEqual(READER.mark("a", BOOK.hex().encode(), "bytes").problem, None)
@@ -540,7 +610,7 @@ class Folders(Case):
         done = self.mark("class", "--candidates", "names", "--json")
         said = [
             f"class/dee.keys: {NO_BOOK}",
-            "class/eve.book: left out: a link to no file",
+            f"class/eve.book: {LINK}",
             "class/notes.txt: left out: *.txt in a folder (named by itself, it is marked)",
             "nothing was handed in by Fay",
             "nothing was marked of what was handed in by Dee (class/dee.keys), Eve (class/eve.book), "
@@ -562,7 +632,7 @@ class Folders(Case):
         (self.room / "fay.keys").write_text("none of it\nworked\n")
         why = {
             "class/ann.keys": "it is no text",
-            "class/ben.keys": "a link to no file",
+            "class/ben.keys": "a link, which may lead to another's file",
             "class/cho.keys": "a folder",
             "class/dee.keys": "the file is empty",
             "class/eve.keys": "this looks like a PDF document",
@@ -647,6 +717,30 @@ class Folders(Case):
         for _ in range(2):  # the second time, the first one's sheets are there
             done = self.mark("class", "--scheme", "class/scheme", "-o", "class/marks")
             self.assertEqual((done.status, done.error), (0, ""))
+
+    def test_links_and_pipes(self) -> None:
+        """A link in a folder may be to another's book, and is named; so is a pipe. One that is
+        named by hand does not keep anybody waiting."""
+        (self.room / "mallory.book").symlink_to("ann.book")
+        (self.room / "mallory.keys").symlink_to("ann.keys")
+        (self.room / "elsewhere").symlink_to(self.room / "below")
+        os.mkfifo(self.room / "fifo")
+        done = self.mark("class", "--dry")
+        for name in ("mallory.book", "elsewhere"):
+            self.assertIn(f"class/{name}: {LINK}\n", done.out.decode())
+        self.assertIn("class/fifo: left out: no regular file\n", done.out.decode())
+        self.assertNotIn("class/mallory.book: read", done.out.decode())
+        done = self.mark("class/fifo")
+        said = "class/fifo: a pipe to which nobody writes: name a file"
+        self.assertEqual((done.status, done.error), (1, f"taa1: {said}\n"))
+        (self.room / "mallory.book").unlink()
+        (self.room / "mallory.book").write_bytes(BOOK)
+        done = self.mark("class/mallory.book")
+        self.assertIn("class/mallory.keys: a link, which may lead to another's file", done.error)
+        writer = threading.Thread(target=lambda: (self.room / "fifo").write_bytes(BOOK))
+        writer.start()
+        self.assertIn(b"12 of 12 entries right", self.mark("class/fifo").out)
+        writer.join()
 
     def test_no_hand_in(self) -> None:
         (self.folder / "none").mkdir()

@@ -7,7 +7,7 @@ import stat
 from html import unescape
 from unittest import mock
 
-from common import CLASS, DESK, ENTRIES, LINES, PLAIN_BOOK, SITTING, Case, here, taa1
+from common import CLASS, DESK, ENTRIES, LINES, PLAIN_BOOK, SITTING, Case, here, seal, taa1
 from taa1 import Sitting
 from taa1_desk import paper
 from taa1_desk.document import Document, as_page, as_text
@@ -227,10 +227,15 @@ class Paper(Case):
         self.assertEqual(len(list(pages.iterdir())), 3)
 
     def test_empty_and_long(self) -> None:
-        """A book of no entries and one of 1,024 have their papers."""
+        """A book of no entries has no paper, and one of 1,024 has; a sealed one is called so."""
         self.file("empty.txt", "entries 0\n")
-        said = self.accepted("paper", INPUTS[0], "empty.txt", cwd=self.folder).decode()
-        self.assertIn("The plain entries\n-----------------\n\nNone.\n", said)
+        said = "empty.txt: no entry in it, so there is nothing to ask for"
+        self.fails(2, said, "paper", INPUTS[0], "empty.txt", cwd=self.folder)
+        self.file("sealed", seal())
+        said = "sealed: this looks like a sealed book, where the plain one is wanted"
+        for command in ("paper", "model", "mark"):
+            more = ["sealed"] if command == "mark" else []
+            self.fails(2, said, command, INPUTS[0], "sealed", *more, cwd=self.folder)
         self.file("long.txt", format_lines(PLAIN_BOOK * 85 + PLAIN_BOOK[:72]))
         said = self.accepted("paper", INPUTS[0], "long.txt", "--part", "form", cwd=self.folder).decode()
         self.assertIn("\n   1023  __ ", said)
