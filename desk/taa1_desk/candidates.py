@@ -8,7 +8,7 @@ from __future__ import annotations
 
 import os
 from collections import Counter
-from typing import NamedTuple, Optional, Sequence
+from typing import Mapping, NamedTuple, Optional, Sequence
 
 from .files import STANDARD, Problem, place, read, shown
 from .texts import lines_of, text_of
@@ -21,6 +21,7 @@ class Named(NamedTuple):
     names: list[str]
     absent: list[str]
     left_out: dict[str, str]  # the files, by their names
+    unlisted: list[bool]  # whether each hand-in is none of the list's, where there is one
 
 
 def read_list(file: str) -> dict[str, str]:
@@ -43,20 +44,32 @@ def read_list(file: str) -> dict[str, str]:
     return found
 
 
+def key_of(file: str, listed: Mapping[str, str], folder: str = "") -> Optional[str]:
+    """The key of a hand-in in the list: the name of its candidate's folder, or its own."""
+    key = _listed(folder, listed) if folder else None
+    return _listed(os.path.basename(file), listed) if key is None else key
+
+
 def named(
-    files: Sequence[str], pages: Sequence[str], listed: dict[str, str], left_out: Sequence[str] = ()
+    files: Sequence[str],
+    pages: Sequence[str],
+    listed: dict[str, str],
+    left_out: Sequence[str] = (),
+    folders: Mapping[str, str] = {},
 ) -> Named:
     """Each hand-in's candidate. Where two have the same name, their pages' names, which
     differ, stand after it."""
-    names, used = [], {}
+    names, used, unlisted = [], {}, []
     for file in files:
-        key = _listed(os.path.basename(file), listed)
-        names.append(listed[key] if key is not None else _of_file(file))
+        folder = folders.get(file, "")
+        key = key_of(file, listed, folder)
+        names.append(listed[key] if key is not None else shown(folder) or _of_file(file))
+        unlisted.append(bool(listed) and key is None)
         if key is not None:
             used[key] = file
     _once(used, listed)
     unused = {key: name for key, name in listed.items() if key not in used}
-    left = {_listed(os.path.basename(file), unused): file for file in reversed(left_out)}
+    left = {key_of(file, unused, folders.get(file, "")): file for file in reversed(left_out)}
     often = Counter(names)
     return Named(
         [
@@ -65,6 +78,7 @@ def named(
         ],
         [name for key, name in unused.items() if key not in left],
         {name: left[key] for key, name in unused.items() if key in left},
+        unlisted,
     )
 
 
@@ -81,7 +95,7 @@ def _once(used: dict[str, str], listed: dict[str, str]) -> None:
         raise Problem(*wrong)
 
 
-def _listed(base: str, listed: dict[str, str]) -> Optional[str]:
+def _listed(base: str, listed: Mapping[str, str]) -> Optional[str]:
     """The key of a file in the list, by its whole name first."""
     while base and base not in listed:
         base = base.rpartition(".")[0]

@@ -13,7 +13,7 @@ from .pictures import STYLE, Part, bar, decimal, fillings, histogram, legend
 from .records import KINDS
 from .results import COUNTED, WRONG, average, counts, wrong_by_entry
 from .scheme import said as points_said
-from .sheets import Summary, class_numbers, entries_said, opening, plural, reason
+from .sheets import Summary, class_numbers, entries_said, opening, plural, reason, unmarked_said
 from .slips import clauses_of, in_order
 
 MOST_ENTRIES = 40  # in the picture of the entries
@@ -82,7 +82,7 @@ def _slips(sheets: Sequence[Sheet], of: Summary) -> Html:
     rows = [
         (
             name,
-            bar([Part(WRONG, count)], of.candidates),
+            bar([Part(WRONG, count)], of.candidates - of.unreadable or of.candidates),
             count,
             step_said(steps[name], in_order(clauses[name])),
         )
@@ -107,6 +107,15 @@ def _checks(of: Summary) -> Html:
     return table(heads, rows, "checks") if rows else text("p", "None.")
 
 
+def _unmarked(sheets: Sequence[Sheet], left_out: Sequence[Sequence[str]]) -> Iterable[Html]:
+    """The hand-ins that are not marked, and files that were left out: what is to be done."""
+    if sheets or left_out:
+        yield text("h2", "Not marked, for somebody to decide")
+        rows = [(breakable(f"{sheet.candidate} ({sheet.name})"), unmarked_said(sheet)) for sheet in sheets]
+        rows += [(breakable(f"{name} ({file})" if name else file), why) for name, file, why in left_out]
+        yield table(("candidate", "why, and what to do"), rows)
+
+
 def class_page(
     sheets: Sequence[Sheet],
     of: Summary,
@@ -114,31 +123,41 @@ def class_page(
     wanted: Wanted,
     heading: str,
     absent: Sequence[str] = (),
+    left_out: Sequence[Sequence[str]] = (),
 ) -> str:
     """The class."""
     numbers = f"{plural(of.candidates, 'candidate')}: {class_numbers(of)}."
+    unmarked = [sheet for sheet in sheets if sheet.problem]
     if absent:
         numbers += f" Nothing was handed in by {', '.join(absent)}."
     points = average(sheets)
+    marked = f", of the {len(sheets) - len(unmarked)} that are marked" if unmarked else ""
     pictured: list[str] = []
     if points:
         means = {"mean": points.mean, "median": points.median}
         said = ", ".join(f"{name} {decimal(value)}" for name, value in means.items())
         what = "Points, in percent of what each could reach" if points.shares else "Points"
-        numbers += f" {what}: {said} of {decimal(points.most)}."
+        whole = len(sheets) + len(absent)
+        of_how_many = f"of {len(points.values)} of {plural(whole, 'candidate')}"
+        if len(points.values) == whole:
+            of_how_many = f"of all {whole} candidates" if whole > 1 else "of the one candidate"
+        zero = f", {points.unmarked} of them not marked and counted as 0 for the book" * bool(points.unmarked)
+        numbers += f" {what}: {said} of {decimal(points.most)}, {of_how_many}{zero}."
         histogram_ = histogram(points.values, points.most, means)
-        pictured = [tag("section", text("h2", f"{what}, and how many candidates have them") + histogram_)]
+        title = f"{what}, and how many candidates have them, {of_how_many}"
+        pictured = [tag("section", text("h2", title) + histogram_)]
     return page(
         "The class",
         fillings(),
         text("p", numbers, class_="result"),
+        *_unmarked(unmarked, left_out),
         text("h2", "Candidates"),
         legend(COUNTED),
         _candidates(sheets, links),
         *pictured,
-        text("h2", "Entries, by how many candidates got them wrong"),
+        text("h2", f"Entries, by how many candidates got them wrong{marked}"),
         *_entries(sheets, wanted),
-        text("h2", "Slips, by how many candidates made them"),
+        text("h2", f"Slips, by how many candidates made them{marked}"),
         _slips(sheets, of),
         *([] if of.unopened is None else [text("h2", CHECKS), _checks(of)]),
         above=heading,

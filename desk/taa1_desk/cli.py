@@ -545,15 +545,19 @@ def run_mark(args: argparse.Namespace) -> int:
         raise Problem(f"mark: --dry says how hand-ins are read and marks none, so it takes no {given}")
     _keep_hand_ins(args)
     beside = (args.sitting, args.book, args.scheme, args.candidates, args.output)
-    handed = handins.hand_ins(args.candidate, [name for name in beside if name])
-    _once(args.sitting, args.book, *handed.names)
-    forms = _forms(args, handed.names)
+    _once(args.sitting, args.book, *args.candidate)
     listed = candidates.read_list(args.candidates) if args.candidates else {}
-    named = handins.page_names(handed.names, INDEX)
-    told = [each for each in handed.left_out if each.told]
-    who = candidates.named(handed.names, named, listed, [each.name for each in told])
     by = _scheme(args.scheme)
     reader, heading = _reader(args)
+    judge = _judge(reader, listed)
+    handed = handins.hand_ins(args.candidate, [name for name in beside if name], judge)
+    forms = _forms(args, handed.names)
+    named = handins.page_names(handed.names, INDEX, handed.folders)
+    told = [each for each in handed.left_out if each.told]
+    left_names = [each.name for each in told]
+    who = candidates.named(handed.names, named, listed, left_names, handed.folders)
+    theirs = {file: name for name, file in who.left_out.items()}
+    left_out = [(theirs.get(each.name, ""), place(each.name), each.why) for each in told]
     sheets = []
     for done, (name, form) in enumerate(zip(handed.names, forms)):
         files.progress(done, len(handed.names))
@@ -562,7 +566,7 @@ def run_mark(args: argparse.Namespace) -> int:
             sheet = reader.mark(name, files.read(name), form, keys)
         except Problem as problem:
             reason = str(problem).removeprefix(f"{place(name)}: ")
-            sheet = reader.unreadable(place(name), reason)
+            sheet = reader.unreadable(place(name), reason, keys)
         if keys and keys.unread:
             sheet = sheet._replace(keys=sheet.keys._replace(unread=keys.unread))
         if not args.dry and (sheet.problem or sheet.keys.unread):
@@ -573,43 +577,44 @@ def run_mark(args: argparse.Namespace) -> int:
     files.progress(0, 0)
     asked = reader.keys.asked
     sheets = [
-        sheet._replace(
-            candidate=name, points=None if sheet.problem else scheme.score(by, sheet, asked)
-        )
-        for sheet, name in zip(sheets, who.names)
+        sheet._replace(candidate=name, unlisted=unlisted, points=scheme.score(by, sheet, asked))
+        for sheet, name, unlisted in zip(sheets, who.names, who.unlisted)
     ]
     of = summary(sheets)
+    look = any(sheet.has_unread for sheet in sheets) or bool(told)
     files.say(*(f"{place(name)}: named more than once, and marked once" for name in handed.twice))
     files.say(*map(str, [] if args.dry else told))
     if who.absent:
         files.say(f"nothing was handed in by {', '.join(who.absent)}")
+    unlisted = [sheet.candidate for sheet in sheets if sheet.unlisted]
+    if unlisted:
+        files.say(f"not on the list of candidates: {', '.join(unlisted)}")
     if who.left_out:
         held = (f"{name} ({place(file)})" for name, file in who.left_out.items())
         files.say(f"nothing was marked of what was handed in by {', '.join(held)}")
     if args.dry:
-        left_out = [f"{each}\n" for each in handed.left_out]
-        _emit_text(args, "".join([f"{reading(sheet)}\n" for sheet in sheets] + left_out))
-        return REFUSED if of.unreadable or of.unread_keys else ACCEPTED
+        passed = [f"{each}\n" for each in handed.left_out]
+        _emit_text(args, "".join([f"{reading(sheet)}\n" for sheet in sheets] + passed))
+        return REFUSED if look else ACCEPTED
     if args.html is not None:
         content = {
             name: pages.sheet_page(sheet, reader.wanted, heading.line).encode()
             for name, sheet in zip(named, sheets)
         }
         links = [quote(os.fsencode(name)) for name in named]
-        absent = [f"{name} ({place(file)} was left out)" for name, file in who.left_out.items()]
-        index = class_page(sheets, of, links, reader.wanted, heading.line, who.absent + absent)
+        index = class_page(sheets, of, links, reader.wanted, heading.line, who.absent, left_out)
         content[INDEX] = index.encode()
         _write_pages(args.html, content, args.clean)
     if args.json:
-        _emit_text(args, _json(class_json(sheets, of, heading, [*who.absent, *who.left_out])))
+        _emit_text(args, _json(class_json(sheets, of, heading, [*who.absent, *who.left_out], left_out)))
     elif args.csv:
-        _emit_text(args, csv_text(sheets, who.absent))
+        _emit_text(args, csv_text(sheets, who.absent, left_out))
     elif args.html is not None:
         _emit_text(args, summary_text(of))
     else:
         end = summary_text(of) if len(sheets) > 1 else ""
         _emit_text(args, "".join(sheet_text(sheet, bool(listed)) for sheet in sheets) + end)
-    return REFUSED if of.unreadable or of.unread_keys else ACCEPTED
+    return REFUSED if look else ACCEPTED
 
 
 def _scheme(name: Optional[str]) -> scheme.Scheme:
@@ -623,6 +628,21 @@ def run_scheme(args: argparse.Namespace) -> int:
     """The points that marking gives, as a text to change: mark --scheme FILE."""
     _emit_text(args, scheme.DEFAULT)
     return ACCEPTED
+
+
+def _judge(reader: Union[Reader, OpenedMarker], listed: dict[str, str]) -> handins.Judge:
+    """What says why a text in a folder is no hand-in. Whose candidate is listed, or has keys
+    beside it, is one in any case."""
+
+    def judge(name: str, folder: str) -> str:
+        if candidates.key_of(name, listed, folder) is not None or os.path.isfile(handins.keys_of(name)):
+            return ""
+        try:
+            return reader.no_hand_in(files.read(name))
+        except Problem:  # it is said where it is marked
+            return ""
+
+    return judge
 
 
 def _keys_beside(name: str) -> Optional[keysheet.KeyFile]:

@@ -14,10 +14,10 @@ from typing import Any, Iterable, Sequence
 from .mark import Sheet
 from .results import COUNTED, average, counts, wrong_by_entry
 from .scheme import written
-from .sheets import Summary, sheet_json
+from .sheets import Summary, sheet_json, to_look_at
 from .texts import Heading
 
-FORM, VERSION = "taa1 mark", 2
+FORM, VERSION = "taa1 mark", 3
 
 HEADS = (
     "candidate", "file", "entries", *COUNTED, "points", "of points", "opens", "slips", "read as",
@@ -49,11 +49,15 @@ def _row(sheet: Sheet) -> Iterable[Any]:
     read_as = "" if sheet.problem else sheet.read_as or "bytes"
     points = map(written, (sheet.points.sum, sheet.points.most)) if sheet.points else ("", "")
     start = (sheet.candidate, sheet.name, sheet.size, *counts(sheet), *points)
-    return map(_cell, (*start, opens, slips, read_as, sheet.problem or sheet.keys.unread))
+    return map(_cell, (*start, opens, slips, read_as, "; ".join(to_look_at(sheet))))
 
 
 def class_json(
-    sheets: Sequence[Sheet], of: Summary, heading: Heading, absent: Sequence[str]
+    sheets: Sequence[Sheet],
+    of: Summary,
+    heading: Heading,
+    absent: Sequence[str],
+    left_out: Iterable[Sequence[str]] = (),
 ) -> dict[str, Any]:
     """The class for programs."""
     wrong, points = wrong_by_entry(sheets), average(sheets)
@@ -65,12 +69,15 @@ def class_json(
         "class": {
             **of._asdict(),
             "absent": list(absent),
+            "left_out": [{"name": name, "file": file, "why": why} for name, file, why in left_out],
             "points": points
             and {
                 "mean": str(points.mean),
                 "median": str(points.median),
                 "of": str(points.most),
                 "in_percent": points.shares,
+                "candidates": len(points.values),
+                "not_marked": points.unmarked,
             },
             "slips": [{"slip": name, "candidates": count} for name, count in of.slips],
             "checks": [
@@ -96,18 +103,22 @@ def _key(name: str) -> str:
     return name.replace(" ", "_")
 
 
-def _absent(name: str) -> Iterable[Any]:
-    """The row of a candidate who handed nothing in."""
+def _absent(name: str, file: str = "", why: str = NOTHING) -> Iterable[Any]:
+    """The row of a candidate who handed nothing in, or of a file that was left out."""
     cells = dict.fromkeys(HEADS, "")
-    cells.update(candidate=name, problem=NOTHING)
+    cells.update(candidate=name, file=file, problem=why)
     return map(_cell, cells.values())
 
 
-def csv_text(sheets: Iterable[Sheet], absent: Iterable[str] = ()) -> str:
-    """The class, a row for each candidate; who handed nothing in stands last."""
+def csv_text(
+    sheets: Iterable[Sheet], absent: Iterable[str] = (), left_out: Iterable[Sequence[str]] = ()
+) -> str:
+    """The class, a row for each candidate: first files that were left out and books that are not
+    marked, since somebody has to see to them; who handed nothing in stands last."""
     text = io.StringIO()
     writer = csv.writer(text, lineterminator="\n")
     writer.writerow(HEADS)
-    writer.writerows(_row(sheet) for sheet in sheets)
+    writer.writerows(_absent(*each) for each in left_out)
+    writer.writerows(map(_row, sorted(sheets, key=lambda sheet: not sheet.problem)))
     writer.writerows(map(_absent, absent))
     return text.getvalue()

@@ -11,6 +11,7 @@ from taa1 import MOST_RECORDS
 
 from .files import MOST_BYTES, from_hex, is_printed, quoted
 from .records import SEALED
+from .values import DIGITS
 
 BYTES = "bytes"  # the form of a file that is no text
 END = "\x1a"  # of a text, in DOS
@@ -43,6 +44,15 @@ def text_of(data: bytes) -> Optional[tuple[str, str]]:
         if all(is_printed(letter) or letter.isspace() or letter == END for letter in text):
             return text.replace(END, ""), said
     return None
+
+
+def is_meant(data: bytes) -> bool:
+    """Whether what can't be read is meant for a hand-in all the same: bytes, or a text that is
+    mostly hexadecimal digits."""
+    text = text_of(data)
+    said = "".join(text[0].split()) if text else ""
+    digits = sum(letter in DIGITS for letter in said)
+    return text is None or digits >= 2 * SEALED and 5 * digits >= 3 * len(said)
 
 
 # Each of these turns a text into bytes, or raises Problem or ValueError.

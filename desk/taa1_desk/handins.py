@@ -20,7 +20,7 @@ from . import answerform
 from taa1 import Refused
 
 from .files import ODD, STANDARD, Problem, place, reason
-from .forms import BYTES, FILES, FORMS, hexadecimal, rows, text_of
+from .forms import BYTES, FILES, FORMS, hexadecimal, is_meant, rows, text_of
 from .keysheet import KeyFile, KeyMarker
 from .lineends import CHANGES, DAMAGED, Change, Copies
 from .mark import Marked, Marker, Sheet, Wanted
@@ -37,6 +37,8 @@ MOST_IN_FRONT = 1024  # bytes of a header
 MOST_NAME = 200  # bytes of a page's name
 KEYS = ".keys"
 LINK = "left out: a link, which may lead to another's file (ask for the file itself)"
+PAGE = "left out: a page that the desk made"
+NO_HAND_IN = "no hand-in in this folder"
 NO_BOOK = f"left out: no hand-in beside it whose keys they are (NAME{KEYS} belongs to NAME.book)"
 
 
@@ -138,24 +140,52 @@ class Reader:
         """The mark sheet of a hand-in; a form that is given is not questioned."""
         where = place(name)
         reading = self.forced(data, form) if form else self.read(data)
+        keys = answerform.both(reading.keys, keys) if reading.keys else keys
         problem, many = reading.problem, self._too_many(reading.book)
         if many:
-            return self.marker.unreadable(where, f"{many}: ask for the book alone")
+            return self.marker.unreadable(where, f"{many}: ask for the book alone", keys)
         if problem is None:
-            keys = answerform.both(reading.keys, keys) if reading.keys else keys
-            sheet = self.marker.mark(where, reading.book, keys)
-            sheet = _with_reading(sheet, reading)
-            problem = None if form or not reading.book else self.strange(sheet)
+            sheet = _with_reading(self.marker.mark(where, reading.book, keys), reading)
+            strange = None if form or not reading.book else self.strange(sheet)
+            if form:
+                sheet = sheet._replace(problems=(*sheet.problems, *self._other_shows(data, form, reading)))
+            elif strange and self.is_ours(reading.book):  # who got nothing right has a number, too
+                sheet = sheet._replace(problems=(*sheet.problems, strange))
+            else:
+                problem = strange
             if problem is None:
                 return _numbered(sheet, reading.rows) if reading.rows else sheet
         if not form and not reading.hopeless:
             given = f"{shlex.quote(name)}={reading.form or BYTES}"
             problem += f"; --as {given} marks it all the same"
-        return self.marker.unreadable(where, problem)
+        return self.marker.unreadable(where, problem, keys)
 
-    def unreadable(self, name: str, problem: str) -> Sheet:
-        """The sheet of a hand-in that can't be read."""
-        return self.marker.unreadable(name, problem)
+    def no_hand_in(self, data: bytes) -> str:
+        """What a text is that can be no hand-in; nothing, if it may be one."""
+        reading = self.read(data)
+        form = reading.problem == answerform.NOTHING
+        return "" if reading.problem is None or form or is_meant(data) else reading.problem
+
+    def unreadable(self, name: str, problem: str, keys: Optional[KeyFile] = None) -> Sheet:
+        """The sheet of a hand-in that can't be read, with the keys beside it."""
+        return self.marker.unreadable(name, problem, keys)
+
+    def is_ours(self, book: bytes) -> bool:
+        """Whether a book is this sitting's: at least half of its records have a kind and version
+        of the model's, each as often as the model has it."""
+        heads = Counter(record[:1] + record[4:6] for record in split(book, SEALED))
+        wanted = Counter(record[:1] + record[4:6] for record in self.marker.model)
+        return bool(heads) and 2 * sum((heads & wanted).values()) >= sum(heads.values())
+
+    def _other_shows(self, data: bytes, form: str, reading: Reading) -> list[str]:
+        """That the form which was given shows nothing of the model, where another shows much."""
+        if self.common(reading.book):
+            return []
+        other = self.read(data)
+        if other.problem or other.form == form or not self.is_ours(other.book):
+            return []
+        how = other.how or BYTES
+        return [f"as {form}, which --as or --bytes gave, it shows nothing of the model; as {how} it does: mark it without"]
 
     @property
     def wanted(self) -> Wanted:
@@ -297,7 +327,9 @@ class Reader:
             problem = f"a book after {plural(front, 'byte')}, or one whose first record is cut short"
         problem = problem or self._other_size(book, found)
         if not problem and found and left and whole + 1 < len(self.marker.model):
-            problem = f"a book that was cut short: {plural(whole, 'record')} and {plural(left, 'byte')}"
+            problem = f"a book that was cut short (ask for it anew): {plural(whole, 'record')} and {plural(left, 'byte')}"
+        if problem and self.is_ours(book):
+            return reading._replace(problems=(*reading.problems, f"this looks like {problem}"))
         return reading._replace(problem=f"this looks like {problem}") if problem else reading
 
     def _between(self, reading: Reading) -> str:
@@ -436,32 +468,54 @@ class LeftOut(NamedTuple):
 
 
 class HandIns(NamedTuple):
-    """The files that arguments stand for, those of folders that were left out, and those
-    that were named once more."""
+    """The files that arguments stand for, those of folders that were left out, those that were
+    named once more, and of files in a candidate's folder, that folder's name."""
 
     names: list[str]
     left_out: list[LeftOut]
     twice: list[str]
+    folders: dict[str, str]
 
 
-def hand_ins(arguments: Sequence[str], beside: Sequence[str]) -> HandIns:
-    """A folder stands for its regular files, but for hidden ones, *.keys, *.txt, the desk's
+# Says of a text in a folder why it is no hand-in; nothing, if it is one. The second is the name
+# of the candidate's folder that it lies in, or nothing.
+Judge = Callable[[str, str], str]
+
+
+def hand_ins(
+    arguments: Sequence[str], beside: Sequence[str], judge: Judge = lambda name, folder: ""
+) -> HandIns:
+    """A folder stands for its regular files, and for those of the folders in it, which are
+    candidates'; but for hidden ones, *.keys, *.txt whose content is no hand-in, links, the desk's
     pages and those that are named on the command line, too. A file is taken once."""
     named = {os.path.realpath(name) for name in (*arguments, *beside)}
     found: dict[str, str] = {}
     left_out: list[LeftOut] = []
     twice = []
+    folders: dict[str, str] = {}
     for argument in arguments:
         files, why = [argument], {}
         if argument != STANDARD and os.path.isdir(argument):
-            try:
-                files = [os.path.join(argument, name) for name in sorted(os.listdir(argument))]
-            except OSError as error:
-                raise Problem(f"{place(argument)}: {reason(error)}") from None
-            why = {name: left for name in files for left in [_left_out(name, named)] if left}
+            files = _files(argument)
+            for folder in [name for name in files if _is_candidates(name)]:
+                inside = _files(folder)
+                folders.update(dict.fromkeys(inside, os.path.basename(folder)))
+                files += inside
+            why = {
+                name: left
+                for name in files
+                for left in [_left_out(name, named, folders.get(name, ""), judge)]
+                if left
+            }
+            for folder in [name for name in files if _is_candidates(name) and name not in folders]:
+                inside = [name for name in files if os.path.dirname(name) == folder]
+                read = [name for name in inside if name not in why]
+                pages = inside and all(why[name].why == PAGE for name in inside if name in why)
+                why[folder] = LeftOut(folder, "the folder of a candidate")
+                if not read:
+                    why[folder] = LeftOut(folder, "left out: no hand-in in this folder", not pages)
             if len(why) == len(files):
-                none = "no hand-in in this folder: hidden files, *.keys and *.txt are none"
-                raise Problem(f"{place(argument)}: {none}")
+                raise Problem(f"{place(argument)}: {NO_HAND_IN}", *(str(left) for left in why.values() if left.told))
             left_out += why.values()
         for name in files:
             if name not in why and _path(name) in found:
@@ -471,7 +525,21 @@ def hand_ins(arguments: Sequence[str], beside: Sequence[str]) -> HandIns:
     keys = {_path(keys_of(name)): name for name in found.values() if not name.endswith(KEYS)}
     left_out += [LeftOut(name, "") for path, name in found.items() if path in keys]
     names = [name for path, name in found.items() if path not in keys]
-    return HandIns(names, [_keys_said(each, keys) for each in left_out], twice)
+    return HandIns(names, [_keys_said(each, keys) for each in left_out], twice, folders)
+
+
+def _files(folder: str) -> list[str]:
+    """What lies in a folder."""
+    try:
+        return [os.path.join(folder, name) for name in sorted(os.listdir(folder))]
+    except OSError as error:
+        raise Problem(f"{place(folder)}: {reason(error)}") from None
+
+
+def _is_candidates(name: str) -> bool:
+    """Whether something in a folder is the folder of a candidate."""
+    hidden = os.path.basename(name).startswith(".")
+    return os.path.isdir(name) and not os.path.islink(name) and not hidden and not name.endswith(KEYS)
 
 
 def keys_of(name: str) -> str:
@@ -485,7 +553,7 @@ def _path(name: str) -> str:
     return name if name == STANDARD else os.path.join(os.path.realpath(folder), base)
 
 
-def _left_out(name: str, named: Container[str]) -> Optional[LeftOut]:
+def _left_out(name: str, named: Container[str], folder: str, judge: Judge) -> Optional[LeftOut]:
     """Why a file of a folder is no hand-in, if it is none."""
     if os.path.basename(name).startswith("."):
         return LeftOut(name, "left out: hidden")
@@ -494,15 +562,18 @@ def _left_out(name: str, named: Container[str]) -> Optional[LeftOut]:
     if os.path.islink(name):
         return LeftOut(name, LINK, True)
     if os.path.isdir(name):
-        return LeftOut(name, "left out: a folder")
+        if not folder and _is_candidates(name):
+            return None
+        return LeftOut(name, "left out: a folder (name it by itself, if hand-ins are in it)", True)
     if not os.path.isfile(name):
         return LeftOut(name, "left out: no regular file", True)
     if name.endswith(KEYS):
         return LeftOut(name, NO_BOOK, True)
-    if name.endswith(".txt"):
-        return LeftOut(name, "left out: *.txt in a folder (named by itself, it is marked)", True)
+    if name.lower().endswith(".txt"):
+        why = judge(name, folder)
+        return LeftOut(name, f"left out: {why} (named by itself, it is marked)", True) if why else None
     if name.endswith(".html") and _is_page(name):
-        return LeftOut(name, "left out: a page that the desk made")
+        return LeftOut(name, PAGE)
     return None
 
 
@@ -524,12 +595,14 @@ def _keys_said(left: LeftOut, keys: Mapping[str, str]) -> LeftOut:
     return LeftOut(left.name, f"read as the keys of {place(of)}")
 
 
-def page_names(names: Sequence[str], index: str) -> list[str]:
+def page_names(names: Sequence[str], index: str, folders: Mapping[str, str] = {}) -> list[str]:
     """A page's name for each hand-in, after its file, so that a late one renames nobody.
 
-    Equal names get their folder's in front, and a number if they are equal still.
+    A candidate's folder has its name in front. Equal names get their folder's in front, and a
+    number if they are equal still.
     """
     bases = ["standard input" if name == STANDARD else os.path.basename(name) for name in names]
+    bases = [f"{folders[name]}-{base}" if name in folders else base for name, base in zip(names, bases)]
     often = Counter(f"{base}.html".casefold() for base in (*bases, index.removesuffix(".html")))
     taken: set[str] = set()
     made = []

@@ -116,6 +116,7 @@ class Sheet(NamedTuple):
     points: Optional[Points] = None
     unread: tuple[int, ...] = ()  # entries without a record that may be in a line that can't be read
     blank: tuple[str, ...] = ()  # rows of a form that are left blank
+    unlisted: bool = False  # there is a list of candidates, and this is none of it
 
     @property
     def right(self) -> int:
@@ -137,6 +138,13 @@ class Sheet(NamedTuple):
         """How many records are no entry's own: those too many, repeats of right ones, and
         further attempts at the same entries."""
         return self.again + sum(entry.state in ("extra", "doubled") for entry in self.entries)
+
+    @property
+    def has_unread(self) -> bool:
+        """Whether somebody has to look at it: it is not marked, or something of it is named
+        that could not be read."""
+        lines = self.problems or self.keys.problems or self.keys.unread
+        return bool(self.problem or lines or self.left or self.unlisted)
 
     @property
     def perfect(self) -> bool:
@@ -254,9 +262,17 @@ class Marker:
             if record != right
         }
 
-    def unreadable(self, name: str, problem: str) -> Sheet:
-        """The sheet of a book that can't be read."""
-        return Sheet(name, problem, None, len(self.model), missing=tuple(range(len(self.model))))
+    def unreadable(self, name: str, problem: str, file: Optional[KeyFile] = None) -> Sheet:
+        """The sheet of a book that can't be read; keys beside it are marked all the same."""
+        return Sheet(
+            name,
+            problem,
+            None,
+            len(self.model),
+            missing=tuple(range(len(self.model))),
+            keys=self.keys.mark(file) if file else KeySheet(),
+            kinds=tuple(entry.kind for entry in self.entries),
+        )
 
     # ---- what a record says
 

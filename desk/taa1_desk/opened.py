@@ -18,7 +18,7 @@ from . import answerform, texts
 from .desk import Desk, RefusedFile
 from .explain import IDENTITY, KEY, TEXT, Found, Part, Table, altered, exchanges, joined, under_own
 from .files import Problem, place
-from .forms import BYTES, FORMS, text_of
+from .forms import BYTES, FORMS, is_meant, text_of
 from .keysheet import KeyFile, KeyMarker, KeySheet, own_keys
 from .lineends import DAMAGED, Copies
 from .mark import (
@@ -137,6 +137,16 @@ class OpenedMarker:
                 "`entry I kind K identity I version V key HEX number N`, or `entry I flag`)"
             )
         return self._plain(plain, how)
+
+    def no_hand_in(self, data: bytes) -> str:
+        """What a text is that can be no hand-in; nothing, if it may be one."""
+        try:
+            self.read(data)
+        except (Problem, ValueError, SyntaxError) as error:
+            text = text_of(data)
+            form = text is not None and answerform.is_form(text[0])
+            return "" if form or is_meant(data) else str(error).lstrip(", :")
+        return ""
 
     def _plain(self, data: bytes, how: str) -> Read:
         """A plain book's bytes, whose records are paired with the entries."""
@@ -260,8 +270,9 @@ class OpenedMarker:
         try:
             read = self.read(data, form)
         except (Problem, ValueError, SyntaxError) as error:
-            return self.unreadable(where, str(error).lstrip(", :"))
+            return self.unreadable(where, str(error).lstrip(", :"), file)
         keys = self.keys.mark(file) if file else KeySheet()
+        problems = (*read.problems, *(self._other_shows(data, form, read) if form else ()))
         slips, borrowed = self._explain(read.answers, keys)
         names, follow = named(slips), self._following(read.answers, keys)
         flags = self._flags(read)
@@ -289,7 +300,7 @@ class OpenedMarker:
             kinds=tuple(opened.kind for opened in self.truth),
             read_as=read.how,
             again=read.extra,
-            problems=read.problems,
+            problems=problems,
             flags=flags,
         )
 
@@ -385,11 +396,30 @@ class OpenedMarker:
         """What is wanted of each entry."""
         return Wanted((), list(map(_entry, self.truth)))
 
-    def unreadable(self, name: str, problem: str) -> Sheet:
-        """The sheet of a hand-in that can't be read."""
+    def unreadable(self, name: str, problem: str, file: Optional[KeyFile] = None) -> Sheet:
+        """The sheet of a hand-in that can't be read; keys beside it are marked all the same."""
         missing = tuple(range(len(self.truth)))
-        no_flags = Flags((), (), (), (), ())
-        return Sheet(name, problem, None, len(missing), missing=missing, flags=no_flags)
+        return Sheet(
+            name,
+            problem,
+            None,
+            len(missing),
+            missing=missing,
+            keys=self.keys.mark(file) if file else KeySheet(),
+            kinds=tuple(opened.kind for opened in self.truth),
+            flags=Flags((), (), (), (), ()),
+        )
+
+    def _other_shows(self, data: bytes, form: str, read: Read) -> list[str]:
+        """That the form which was given shows nothing of what is wanted, where another does."""
+        try:
+            other = self.read(data)
+        except (Problem, ValueError, SyntaxError):
+            return []
+        if self._likeness(read.answers)[0] or not self._likeness(other.answers)[0]:
+            return []
+        how = other.how or BYTES
+        return [f"as {form}, which --as or --bytes gave, nothing is right; as {how} something is: mark it without"]
 
     def _flags(self, read: Read) -> Flags:
         """Flags that are set, missed, invented, left out, and that the hand-in can't say."""

@@ -5,8 +5,11 @@ from __future__ import annotations
 from bisect import bisect_left
 from typing import Callable, Iterable, Mapping, NamedTuple, Optional, Sequence
 
+from taa1 import MOST_RECORDS
+
 BOTH = 2  # of a record that is alike in kind and version
-MOST_TIMES, LEAST_MOST = 4, 64  # the records that a hand-in may have: times the model's, or so many
+MOST_TIMES = 4  # the model's entries, that a hand-in may have as records
+LEAST_MOST = 2 * MOST_RECORDS  # records that a hand-in may have in any case
 
 
 def most_records(entries: int) -> int:

@@ -11,7 +11,7 @@ from .keysheet import KeyMark
 from .mark import Explained, Marked, Sheet
 from .names import both
 from .scheme import Points, said
-from .sheets import reason
+from .sheets import UNTIL, reason
 from .slips import listed
 
 WORDS = {1: "One", 2: "Two", 3: "Three", 4: "Four", 5: "Five"}
@@ -66,7 +66,8 @@ def wrong_by_entry(sheets: Iterable[Sheet]) -> dict[str, Counter[int]]:
 def result(sheet: Sheet) -> str:
     """A candidate's result in a sentence or two."""
     if sheet.problem:
-        return f"Not marked: {reason(sheet)}."
+        points = f"{sum_of(sheet.points)}. " if sheet.points else ""
+        return f"{points}{UNTIL[:1].upper()}{UNTIL[1:]}: {reason(sheet)}.{_explained(sheet, 0)}"
     of = counts(sheet)
     wrong = of.wrong + of.failing
     parts = [f"{of.right} of {sheet.size} entries right"]
@@ -113,17 +114,20 @@ class Average(NamedTuple):
     mean: Fraction
     median: Fraction
     shares: bool
+    unmarked: int  # of them, which count 0 for the book
 
 
 def average(sheets: Iterable[Sheet]) -> Optional[Average]:
     """The points of a class, if any hand-in is marked."""
-    points = [sheet.points for sheet in sheets if sheet.points]
+    scored = [sheet for sheet in sheets if sheet.points]
+    points = [sheet.points for sheet in scored if sheet.points]
     if not points:
         return None
+    unmarked = sum(bool(sheet.problem) for sheet in scored)
     shares = len({each.most for each in points}) > 1
     values = [100 * each.share if shares else each.sum for each in points]
     most = Fraction(100) if shares else points[0].most
-    return Average(values, most, mean(values), Fraction(median(values)), shares)
+    return Average(values, most, mean(values), Fraction(median(values)), shares, unmarked)
 
 
 def _explained(sheet: Sheet, wrong: int) -> str:

@@ -18,6 +18,10 @@ MOST_SPANS = 12  # of entries in one line
 MANY_FLAGS = 3  # that one slip is likely to have set
 
 
+UNLISTED = "not on the list of candidates"
+UNTIL = "the book is not marked, and counts 0 until somebody decides"
+
+
 def plural(count: int, what: str) -> str:
     """So many of something."""
     return f"{count} {what}{'s' * (count != 1)}"
@@ -35,6 +39,22 @@ def verdict(sheet: Sheet) -> str:
 def reason(sheet: Sheet) -> str:
     """Why a hand-in is not marked, without the option that marks it all the same."""
     return (sheet.problem or "").partition("; --as ")[0]
+
+
+def unmarked_said(sheet: Sheet) -> str:
+    """That a book is not marked, why, and what is to be done."""
+    ask = "" if "ask for" in (sheet.problem or "") else "; ask for the book anew"
+    return f"{UNTIL}: {sheet.problem}{ask}"
+
+
+def to_look_at(sheet: Sheet) -> list[str]:
+    """What somebody has to look at: why the book is not marked, and what could not be read."""
+    said = [unmarked_said(sheet)] if sheet.problem else []
+    said += [UNLISTED] if sheet.unlisted else []
+    said += [line for line in sheet.keys.problems if line != sheet.keys.unread]
+    said += [sheet.keys.unread] if sheet.keys.unread else []
+    said += [] if sheet.problem else unread_said(sheet)
+    return not_read(said)
 
 
 def opening(sheet: Sheet, brief: bool = False) -> str:
@@ -214,19 +234,13 @@ def sum_said(points: Points) -> str:
 
 def others(sheet: Sheet) -> list[str]:
     """What is to be said of a book as a whole."""
-    said = []
+    said = [UNLISTED] if sheet.unlisted else []
     moved = [entry.index for entry in sheet.entries if entry.moved]
     if moved:
         said.append(f"in another order: {entries_said(moved)}")
     if sheet.missing and not sheet.problem:
         said.append(f"missing: the model's {entries_said(list(sheet.missing))}")
-    said += not_read(sheet.problems)
-    if sheet.unread:
-        where = "in a line that can't be read"
-        where += ", or not there" if len(sheet.unread) > len(sheet.problems) else ""
-        said.append(f"{where}: the model's {entries_said(list(sheet.unread))}")
-    if sheet.blank:
-        said.append(f"left blank on the form: {blank_said(sheet.blank)}")
+    said += unread_said(sheet)
     told = {index for slip in sheet.slips for index in slip.entries}
     untold = [i for i in sheet.flags.invented if i not in told] if sheet.flags else []
     if len(untold) >= MANY_FLAGS:
@@ -234,6 +248,18 @@ def others(sheet: Sheet) -> list[str]:
             "what set these flags can't be told from flags alone; from the fields after them it can "
             "(entry I flag kind K identity I version V key HEX number N)"
         )
+    return said
+
+
+def unread_said(sheet: Sheet) -> list[str]:
+    """What of a hand-in is not read, or left blank."""
+    said = not_read(sheet.problems)
+    if sheet.unread:
+        where = "in a line that can't be read"
+        where += ", or not there" if len(sheet.unread) > len(sheet.problems) else ""
+        said.append(f"{where}: the model's {entries_said(list(sheet.unread))}")
+    if sheet.blank:
+        said.append(f"left blank on the form: {blank_said(sheet.blank)}")
     if sheet.left:
         more = f"{plural(sheet.left, 'more byte')} after the last record"
         cut = f"the last record is cut short: {sheet.left} of {SEALED} bytes"
@@ -302,7 +328,8 @@ def sheet_text(sheet: Sheet, named: bool = False) -> str:
     said = too_many(sheet) + keys_said(sheet.keys) + faults(sheet) + others(sheet)
     lines += [f"  {line}" for line in said]
     lines += [f"  slip: {explanation(slip, sheet)}" for slip in sheet.slips]
-    lines += [f"  {sum_said(sheet.points)}"] if sheet.points else []
+    until = f": {UNTIL}" if sheet.problem else ""
+    lines += [f"  {sum_said(sheet.points)}{until}"] if sheet.points else []
     return "\n".join(lines) + "\n"
 
 
@@ -388,6 +415,7 @@ def sheet_json(sheet: Sheet) -> dict[str, Any]:
         "missing": list(sheet.missing),
         "not_read": list(sheet.unread),
         "blank": list(sheet.blank),
+        "unlisted": sheet.unlisted,
         "flags": sheet.flags._asdict() if sheet.flags else None,
         "lines_not_read": [*sheet.keys.problems, *sheet.problems],
         "bytes_left": sheet.left,

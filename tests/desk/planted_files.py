@@ -225,11 +225,13 @@ def _dumps(of: Exam) -> Iterator[HandIn]:
     head, *rest = dumps.od(book, "x1").splitlines(keepends=True)
     for name, done, text in (
         ("od without its first line", "od's output, its first line lost", "".join(rest)),
-        ("xxd cut", "the first half of xxd's output, cut in a line", dumps.xxd(book)[:901]),
         ("od lines twice", "od's output with a line twice", head + head + "".join(rest)),
     ):
         say = "not marked: a dump, but its places don't fit"
         yield HandIn(f"dump/{name}", "bad dump", of, text.encode(), done, None, False, say)
+    done, say = "the first half of xxd's output, cut in a line", "marked, and said to be cut short"
+    text = dumps.xxd(book)[:901]
+    yield HandIn("dump/xxd cut", "cut dump", of, text.encode(), done, book[: 10 * SEALED], True, say)
     thrice = book[:SEALED] + book[:SEALED] * 2 + book[SEALED:]
     done = "od -tx1 -w21 of a book with an entry three times, written as *"
     say = "read with the repeated lines, or not marked: od's * stands for lines left out"
@@ -320,8 +322,6 @@ def _damaged(of: Exam) -> Iterator[HandIn]:
     for name, done, content, say in (
         ("lf-to-crlf", "each 0a made 0d 0a", crlf, f"{looks} changed line ends"),
         ("lf-lost", "each 0a lost", book.replace(b"\n", b""), f"{looks} changed line ends: 0a lost"),
-        ("cr-lost", "each 0d lost", book.replace(b"\r", b""), f"{looks} changed line ends: 0d lost"),
-        ("cr-to-lf", "each 0d made 0a", book.replace(b"\r", b"\n"), f"{looks} changed line ends"),
         ("byte-lost", "a byte lost in entry 7", book[:150] + book[151:], f"{looks} bytes lost within"),
         ("utf-8", "each byte from 80 on made two, as UTF-8", text.encode(), f"{looks} UTF-8"),
         (
@@ -332,9 +332,17 @@ def _damaged(of: Exam) -> Iterator[HandIn]:
         ),
         ("zeros-lost", "the zero bytes lost", book.replace(b"\0", b""), "not marked: no records"),
         ("cut-at-zero", "cut at the first zero byte", book[: book.index(0)], "not marked: short"),
-        ("cut", "cut after 100 bytes", book[:100], f"{looks} a cut book: 4 records, 16 bytes"),
     ):
         yield HandIn(f"damaged/{name}", "damaged", of, content, done, None, False, say)
+    # at least half of the records have a kind and version of the model's: it is this sitting's
+    for name, done, content, say in (
+        ("cr-lost", "each 0d lost", book.replace(b"\r", b""), "changed line ends: 0d lost"),
+        ("cr-to-lf", "each 0d made 0a", book.replace(b"\r", b"\n"), "changed line ends"),
+        ("cut", "cut after 100 bytes", book[:100], "a cut book: 4 records, 16 bytes"),
+    ):
+        whole = content[: len(content) // SEALED * SEALED]
+        say = f"marked, and this is said: it looks like {say}"
+        yield HandIn(f"damaged/{name}", "damaged", of, content, done, whole, True, say)
     seven = bytes(byte & 0x7F for byte in book)
     yield HandIn(
         "damaged/seven-bits",

@@ -51,7 +51,9 @@ class Class(Case):
         """A line of heads and one for each candidate, each entry counted as what it is."""
         done = taa1("mark", *INPUTS, *self.books, "--csv")
         rows = list(csv.DictReader(io.StringIO(done.out.decode())))
-        self.assertEqual([row["candidate"] for row in rows], list(BOOKS))
+        self.assertEqual(rows[0]["candidate"], "noise")  # which is not marked, and comes first
+        self.assertIn("the book is not marked, and counts 0 until somebody decides: ", rows[0]["problem"])
+        rows.sort(key=lambda row: list(BOOKS).index(row["candidate"]))
         for row, (_, counts) in zip(rows, BOOKS.values()):
             self.assertEqual(tuple(int(row[name]) for name in COUNTED), counts, row["candidate"])
             self.assertEqual(sum(counts[:5]), int(row["entries"]))
@@ -59,7 +61,7 @@ class Class(Case):
         self.assertEqual(opens, ["yes", "yes", "no", "yes", "yes", "yes", "no", "", "no"])
         self.assertIn("0 of 1 records begin with a kind", rows[7]["problem"])
         points = [(row["points"], row["of points"]) for row in rows]
-        wanted = [("9", "12"), ("11", "12"), ("10", "12"), ("11", "12"), ("", ""), ("5", "12")]
+        wanted = [("9", "12"), ("11", "12"), ("10", "12"), ("11", "12"), ("0", "12"), ("5", "12")]
         self.assertEqual(points[3:], wanted)
 
     def test_formulas(self) -> None:
@@ -75,7 +77,7 @@ class Class(Case):
     def test_json(self) -> None:
         """The form has a number, and says of the class what the sheets say."""
         said = json.loads(taa1("mark", *INPUTS, *self.books, "--json").out)
-        self.assertEqual((said["form"], said["version"]), ("taa1 mark", 2))
+        self.assertEqual((said["form"], said["version"]), ("taa1 mark", 3))
         counts = [tuple(sheet["counts"].values()) for sheet in said["sheets"]]
         self.assertEqual(counts, [counts for _, counts in BOOKS.values()])
         wrong = {each.pop("entry"): tuple(each.values()) for each in said["class"]["wrong_entries"]}
@@ -84,7 +86,7 @@ class Class(Case):
             {2: (2, 0, 0), 4: (0, 2, 0), 0: (0, 0, 1), 1: (0, 0, 1), 3: (0, 0, 1), 7: (0, 0, 1),
              9: (0, 0, 1), 10: (0, 0, 1), 11: (0, 0, 1)},
         )  # fmt: skip
-        points = {"mean": "10", "median": "11", "of": "12", "in_percent": False}
+        points = {"mean": "80/9", "median": "11", "of": "12", "in_percent": False, "candidates": 9, "not_marked": 1}
         self.assertEqual(said["class"]["points"], points)
         for sheet in said["sheets"]:
             self.assertEqual(sheet["extra"], sheet["counts"]["extra"], sheet["candidate"])
@@ -163,10 +165,12 @@ class Maxima(Case):
         self.assertEqual(
             self.mark(),
             ["points 12 of 12", "points 13 of 15 (entries right: 12; D: 1)",
-             f"{share}: mean 93.33, median 93.33 of 100", f"{share}, and how many candidates have them"],
+             f"{share}: mean 93.33, median 93.33 of 100, of all 2 candidates",
+             f"{share}, and how many candidates have them, of all 2 candidates"],
         )  # fmt: skip
         said = json.loads(taa1("mark", *INPUTS, *self.books, "--json").out)["class"]["points"]
-        self.assertEqual(said, {"mean": "280/3", "median": "280/3", "of": "100", "in_percent": True})
+        wanted = {"mean": "280/3", "median": "280/3", "of": "100", "in_percent": True, "candidates": 2, "not_marked": 0}
+        self.assertEqual(said, wanted)
 
     def test_asked(self) -> None:
         """Where the scheme says that keys are asked for, one maximum holds for all, and who
@@ -176,7 +180,8 @@ class Maxima(Case):
             self.mark(*asked),
             ["points 12 of 24 (entries right: 12; 9 keys not handed in: 0)",
              "points 13 of 24 (entries right: 12; D: 1; 7 keys not handed in: 0)",
-             "Points: mean 12.5, median 12.5 of 24", "Points, and how many candidates have them"],
+             "Points: mean 12.5, median 12.5 of 24, of all 2 candidates",
+             "Points, and how many candidates have them, of all 2 candidates"],
         )  # fmt: skip
         self.file("ben.keys", "".join((self.folder / "ben.keys").read_text().splitlines(True)[:1]))
         self.assertIn("points 13 of 24", self.mark(*asked)[1])
@@ -188,10 +193,10 @@ class Maxima(Case):
 class Names(Case):
     """Candidates' names, from their files or from a list."""
 
-    def names(self, *books: object, error: str = "") -> list[str]:
+    def names(self, *books: object, error: str = "", status: int = 0) -> list[str]:
         """The names on the pages."""
         done = taa1("mark", *INPUTS, *books, "--html", "pages", cwd=self.folder)
-        self.assertEqual((done.status, done.error), (0, error))
+        self.assertEqual((done.status, done.error), (status, error))
         index = (self.folder / "pages" / "index.html").read_text()
         return re.findall(r'data-head="candidate"><a href="[^"]*">(.*?)</a>', index)
 
@@ -212,8 +217,8 @@ class Names(Case):
             self.file(name, seal())
         self.file("list", "# the winter class\nann = Ann Archer\nb.c.hex = Bo & Co\ngil = Gil Hart\n")
         books = ("ann.book", "b.c.hex", "dee.book", "--candidates", "list")
-        error = "taa1: nothing was handed in by Gil Hart\n"
-        self.assertEqual(self.names(*books, error=error), ["Ann Archer", "Bo &amp; Co", "dee"])
+        error = "taa1: nothing was handed in by Gil Hart\ntaa1: not on the list of candidates: dee\n"
+        self.assertEqual(self.names(*books, error=error, status=1), ["Ann Archer", "Bo &amp; Co", "dee"])
         index = (self.folder / "pages" / "index.html").read_text()
         self.assertIn("Nothing was handed in by Gil Hart.", index)
         out = taa1("mark", *INPUTS, *books, "--json", cwd=self.folder).out

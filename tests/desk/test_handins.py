@@ -23,7 +23,7 @@ from taa1_desk import answerform, files, forms, handins, keysheet, opened, texts
 from taa1_desk.files import MOST_BYTES
 from taa1_desk.forms import FORMS
 from taa1_desk.handins import LINK, NO_BOOK, Reader, page_names
-from taa1_desk.mark import Marker
+from taa1_desk.mark import Marker, Sheet
 from taa1_desk.opened import OpenedMarker
 from taa1_desk.records import SEALED, split
 from taa1_desk.sheets import others, sheet_text
@@ -173,8 +173,6 @@ STRANGE: dict[str, tuple[bytes, str, str]] = {
         "this looks like another sitting's book: no entry and no identity is the model's",
         "bytes",
     ),
-    "another sitting's, of the same entries": (seal(OTHER), ANOTHER, "bytes"),
-    "another sitting's in digits": (seal(OTHER).hex().encode(), ANOTHER, "hex"),
     "noise": (
         bytes(range(100, 226)),
         "this looks like no sealed book: 0 of 6 records begin with a kind",
@@ -182,7 +180,6 @@ STRANGE: dict[str, tuple[bytes, str, str]] = {
     ),
     "short": (b"\1\2\3", "this looks like no sealed book: 3 bytes, where a record has 21", "bytes"),
     "comments": (b"# nothing yet\n", "this looks like a text without a digit", "bytes"),
-    "cut": (BOOK[:50], "this looks like a book that was cut short: 2 records and 8 bytes", "bytes"),
     "the first byte lost": (
         BOOK[1:],
         "this looks like a book after 20 bytes, or one whose first record is cut short",
@@ -193,7 +190,6 @@ STRANGE: dict[str, tuple[bytes, str, str]] = {
         "this looks like a book filed by columns (taa1 columns sealed --back puts it back)",
         "bytes",
     ),
-    "seven bits": (bytes(byte & 0x7F for byte in BOOK), f"{DAMAGED}: no byte is above 7f", "bytes"),
     "od's lines, one lost": (
         b"".join(dumped("od", "-tx1").splitlines(True)[1:]),
         "this looks like a dump of bytes, but in no form that is known, or with lines lost or "
@@ -217,12 +213,20 @@ STRANGE: dict[str, tuple[bytes, str, str]] = {
         "this looks like an odd number of hexadecimal digits, 3 (a record is wanted in 42 digits)",
         "bytes",
     ),
-    "another sitting's dump": (
-        dumped("od", "-tx1", data=seal(OTHER)),
-        ANOTHER,
-        "dump",
-    ),
 }
+# Books of which at least half of the records have a kind and version of the model's: they are
+# marked, with what is said beside it, and the entries that are right.
+CUT = "this looks like a book that was cut short (ask for it anew): 2 records and 8 bytes"
+OURS: dict[str, tuple[bytes, str, int]] = {
+    "another sitting's, of the same entries": (seal(OTHER), ANOTHER, 0),
+    "another sitting's in digits": (seal(OTHER).hex().encode(), ANOTHER, 0),
+    "another sitting's dump": (dumped("od", "-tx1", data=seal(OTHER)), ANOTHER, 0),
+    "zeros in every text": (b"".join(r[:1] + bytes(3) + r[4:6] + bytes(15) for r in RECORDS), ANOTHER, 0),
+    "seven bits": (bytes(byte & 0x7F for byte in BOOK), f"{DAMAGED}: no byte is above 7f", 0),
+    "cut": (BOOK[:50], CUT, 2),
+    "half of it": (b"".join(r if at < 6 else b"\x8f" * 21 for at, r in enumerate(split(seal(OTHER), SEALED))),
+                   "this looks like another sitting's book: no entry and no identity is the model's", 0),
+}  # fmt: skip
 
 
 def _with_line_ends() -> tuple[bytes, bytes]:
@@ -238,6 +242,11 @@ def _with_line_ends() -> tuple[bytes, bytes]:
         made.append(entry)
     book = b"".join(entry.data for entry in [*ENTRIES[:2], *made, *ENTRIES[3:]])
     return book, seal(plain=book)
+
+
+def noted(sheet: Sheet) -> str:
+    """Why a hand-in is not marked, or what is said beside its marks."""
+    return (sheet.problem or "; ".join(sheet.problems)).partition("; --as ")[0]
 
 
 class Forms(unittest.TestCase):
@@ -274,6 +283,31 @@ class Forms(unittest.TestCase):
                 self.assertEqual(sheet.problem, said + advice)
                 self.assertEqual((sheet.right, sheet.entries), (0, ()))
                 self.assertIsNone(READER.mark("ann.book", data, form).problem)
+
+    def test_ours(self) -> None:
+        """Who fails gets a number: a book with half of the model's kinds and versions, each as
+        often as the model has it, is this sitting's; with one fewer, or one too often, it is not."""
+        for name, (data, said, right) in OURS.items():
+            with self.subTest(name):
+                sheet = READER.mark("ann.book", data)
+                self.assertEqual((sheet.problem, sheet.problems, sheet.right), (None, (said,), right))
+                self.assertTrue(sheet.has_unread)
+        other = split(seal(OTHER), SEALED)
+        few = [record if at < 5 else b"\x8f" * SEALED for at, record in enumerate(other)]
+        often = [*other[:5], *[other[0]] * 7]
+        for records in (few, often):
+            self.assertIn("no sealed book" if records is few else "another sitting's",
+                          READER.mark("ann.book", b"".join(records)).problem or "")  # fmt: skip
+
+    def test_left_bytes(self) -> None:
+        """With bytes after the last record, at least half of the records must share something."""
+        noise = [b"\x8f" * SEALED for _ in RECORDS]
+        for shared, marked in ((6, True), (5, False)):
+            book = b"".join([*[RECORDS[0]] * shared, *noise[shared:]]) + b"??"
+            sheet = READER.mark("a", book)
+            self.assertEqual(sheet.problem is None, marked, sheet.problem)
+        whole = b"".join([RECORDS[0], *noise[1:]])
+        self.assertIsNone(READER.mark("a", whole).problem)
 
     def test_hopeless(self) -> None:
         """No form is offered for what can be no book in any."""
@@ -350,14 +384,14 @@ class Forms(unittest.TestCase):
         zeros = reader.mark("a", sealed.replace(b"\0", b"")).problem or ""
         self.assertTrue(zeros.startswith(f"{DAMAGED}: each 00 is lost;"), zeros)
         identities = b"".join(r[:1] + bytes([r[1] ^ 0x80]) + r[2:] for r in records)
-        self.assertIn("each 0d is 0a now", reader.mark("a", identities.replace(b"\r", b"\n")).problem or "")
+        self.assertIn("each 0d is 0a now", noted(reader.mark("a", identities.replace(b"\r", b"\n"))))
         for (old, new), said in changes.items():
             wrong = records[0][:6] + b"\x8f" * 15
             for book in (sealed, b"".join([wrong, *records[1:]]), b"".join(records[1:])):
                 damaged = book.replace(old, new)
                 self.assertNotEqual(damaged, book)
-                said_of = reader.mark("a", damaged).problem or ""
-                self.assertTrue(said_of.startswith(f"{DAMAGED}: its line ends were changed, and each {said};"), said_of)
+                said_of = noted(reader.mark("a", damaged))
+                self.assertIn(f"{DAMAGED}: its line ends were changed, and each {said}", said_of)
             self.assertTrue(reader.mark("a", sealed).perfect)
 
     def test_bytes_within(self) -> None:
@@ -368,10 +402,10 @@ class Forms(unittest.TestCase):
                 first, last = (at + 1, 11 - at) if len(damaged) < len(BOOK) else (at, 12 - at)
                 counted = f"records in place: {first} counted from the start, {last} counted from the end"
                 said = f"{DAMAGED}: bytes were lost or added within it; {counted}"
-                self.assertEqual(sheet.problem, f"{said}; --as a=bytes marks it all the same")
+                self.assertEqual(noted(sheet), said)
+                self.assertEqual(sheet.problem is None, 2 * first >= len(damaged) // SEALED)
                 said = f"this looks like a book with bytes lost or added within it; {counted}"
-                sheet = READER.mark("a", damaged.hex().encode())
-                self.assertEqual(sheet.problem, f"{said}; --as a=hex marks it all the same")
+                self.assertEqual(noted(READER.mark("a", damaged.hex().encode())), said)
 
     def test_truncated(self) -> None:
         """The whole records are marked, and the cut one is said."""
@@ -461,7 +495,7 @@ class Forms(unittest.TestCase):
         for data in (RECORDS[0][:6] * 8 * 10_000, bytes([1]) * 21 * 30_000):
             begun = time.process_time()
             problem = READER.mark("a", data).problem or ""
-            self.assertIn(" records, where the model has 12 and at most 64 are compared: ask for", problem)
+            self.assertIn(" records, where the model has 12 and at most 2,048 are compared: ask for", problem)
             self.assertLess(time.process_time() - begun, 5)
         self.assertEqual(READER.mark("a", BOOK * 5).right, 12)
         long = "Z" * 900_000
@@ -550,13 +584,18 @@ class Command(Case):
         self.file("ben.book", PLAIN_BOOK)
         self.assertEqual(self.mark("ann.book", "ben.book").status, 1)
         done = self.mark("ann.book", "ben.book", "--as", "ben.book=bytes")
-        self.assertEqual((done.status, done.error), (0, ""))
+        self.assertEqual((done.status, done.error), (1, ""))  # bytes are left
         self.assertIn("ann.book: 12 of 12 entries right", done.out.decode())
         self.assertIn("ben.book: 0 of 12 entries right", done.out.decode())
-        done = self.mark("ann.book", "ben.book", "--as", "bytes")
-        self.assertEqual(done.status, 0)
         done = self.mark(self.folder / "ben.book", "--as", "ben.book=bytes")
-        self.assertEqual(done.status, 0)
+        self.assertIn("ben.book: 0 of 12 entries right", done.out.decode())
+        self.file("cho.hex", BOOK.hex())
+        done = self.mark("ann.book", "cho.hex", "--as", "bytes")
+        said = "as bytes, which --as or --bytes gave, it shows nothing of the model; as hexadecimal it does"
+        self.assertEqual((done.status, done.out.decode().count(said)), (1, 1))
+        self.assertEqual(self.mark("ann.book", "--as", "bytes").status, 0)
+        rows = csv.DictReader(self.mark("ann.book", "cho.hex", "--as", "bytes", "--csv").out.decode().splitlines())
+        self.assertEqual([said in row["problem"] for row in rows], [False, True])
         known = ", ".join(["bytes", *FORMS, "form"])
         for error, form in (
             (f"mark: argument --as: no form 'hexa': they are {known}", "hexa"),
@@ -589,18 +628,54 @@ class Folders(Case):
         return here("mark", INPUTS[0], self.room / "model", *args, cwd=self.folder)
 
     def test_folder(self) -> None:
-        """Its regular, unhidden files, but for *.keys, *.txt and those named beside it."""
+        """Its regular, unhidden files and those of candidates' folders in it, but for *.keys,
+        *.txt that are no hand-ins, and those named beside it."""
+        (self.room / "notes.txt").write_text("Dear colleague,\nplease mark these.\n")
+        (self.room / "Ned.txt").write_text(BOOK.hex())
+        (self.room / "none").mkdir()
+        (self.room / "below" / "deeper").mkdir()
         done = self.mark("class", "--dry")
-        wanted = [f"class/{name}: read as bytes: 12 records" for name in ("ann.book", "ben.hex", "cho")]
+        wanted = ["class/Ned.txt: read as hexadecimal: 12 records"]
+        names = ("ann.book", "ben.hex", "cho", "below/dee.book")
+        wanted += [f"class/{name}: read as bytes: 12 records" for name in names]
+        notes = "this looks like text that is no hexadecimal: line 1, column 4: 'r' is no hexadecimal digit"
         wanted += [
             "class/.hidden: left out: hidden",
             "class/ann.keys: read as the keys of class/ann.book",
-            "class/below: left out: a folder",
             "class/model: left out here: it is named on the command line",
-            "class/notes.txt: left out: *.txt in a folder (named by itself, it is marked)",
+            f"class/notes.txt: left out: {notes} (a record is wanted in 42 digits) (named by itself, it is marked)",
+            "class/below/deeper: left out: a folder (name it by itself, if hand-ins are in it)",
+            "class/below: the folder of a candidate",
+            "class/none: left out: no hand-in in this folder",
         ]
-        self.assertEqual((done.status, done.out.decode().splitlines()), (0, wanted))
+        self.assertEqual((done.status, done.out.decode().splitlines()), (1, wanted))
         self.assertEqual(done.error, "")
+
+    def test_candidates_folders(self) -> None:
+        """A folder for each candidate, as learning platforms export them: its name is theirs.
+        Every listed candidate has a row, and who is not on the list is said to be none of it."""
+        for name, file in (("Ann Archer_17", "book.txt"), ("Ben Baker_18", "book.txt")):
+            (self.folder / "all" / name).mkdir(parents=True)
+            (self.folder / "all" / name / file).write_text(BOOK.hex())
+        (self.folder / "all" / "Ben Baker_18" / "book.keys").write_text("D = 00\n")
+        (self.folder / "all" / "readme.txt").write_text("Exported on Monday.\n")
+        done = self.mark("all", "--csv")
+        rows = list(csv.DictReader(done.out.decode().splitlines()))
+        self.assertEqual(done.status, 1)
+        self.assertEqual([row["candidate"] for row in rows], ["", "Ann Archer_17", "Ben Baker_18"])
+        self.assertIn("left out: this looks like text", rows[0]["problem"])
+        self.file("names", "Ann Archer_17 = Ann\nreadme = Ray\nfay = Fay\n")
+        options = ("all", "--candidates", "names")
+        rows = list(csv.DictReader(self.mark(*options, "--csv").out.decode().splitlines()))
+        self.assertEqual([row["candidate"] for row in rows], ["Ray", "Ann", "Ben Baker_18", "Fay"])
+        self.assertEqual(rows[2]["problem"].partition(";")[0], "not on the list of candidates")
+        said = json.loads(self.mark(*options, "--json").out)
+        self.assertEqual([sheet["unlisted"] for sheet in said["sheets"]], [False, False, True])
+        done = self.mark(*options, "--html", "pages")
+        self.assertIn("not on the list of candidates: Ben Baker_18\n", done.error)
+        index = (self.folder / "pages" / "index.html").read_text()
+        self.assertIn("Not marked, for somebody to decide", index)
+        self.assertIn("Ann Archer_17-book.txt.html", [path.name for path in (self.folder / "pages").iterdir()])
 
     def test_passed_over(self) -> None:
         """Whatever may be somebody's work and is not marked is named, and its candidate."""
@@ -611,13 +686,18 @@ class Folders(Case):
         said = [
             f"class/dee.keys: {NO_BOOK}",
             f"class/eve.book: {LINK}",
-            "class/notes.txt: left out: *.txt in a folder (named by itself, it is marked)",
             "nothing was handed in by Fay",
-            "nothing was marked of what was handed in by Dee (class/dee.keys), Eve (class/eve.book), "
-            "Ned (class/notes.txt)",
+            "not on the list of candidates: ben, cho",
+            "nothing was marked of what was handed in by Eve (class/eve.book)",
         ]
-        self.assertEqual((done.status, done.error), (0, "".join(f"taa1: {line}\n" for line in said)))
-        self.assertEqual(json.loads(done.out)["class"]["absent"], ["Fay", "Dee", "Eve", "Ned"])
+        self.assertEqual((done.status, done.error), (1, "".join(f"taa1: {line}\n" for line in said)))
+        self.assertEqual(json.loads(done.out)["class"]["absent"], ["Fay", "Eve"])
+        left_out = json.loads(done.out)["class"]["left_out"]
+        self.assertEqual([(each["name"], each["file"]) for each in left_out],
+                         [("", "class/dee.keys"), ("Eve", "class/eve.book")])  # fmt: skip
+        done = self.mark("class", "--candidates", "names", "--csv")
+        names = [row["candidate"] for row in csv.DictReader(done.out.decode().splitlines())]
+        self.assertEqual(names, ["", "Eve", "Ann", "ben", "cho", "Ned", "Dee", "Fay"])
 
     def test_keys_that_are_no_file(self) -> None:
         """A link to nothing and a folder in the place of NAME.keys are said, not passed over."""
@@ -657,7 +737,9 @@ class Folders(Case):
         page = (self.folder / "pages" / "ann.book.html").read_text()
         self.assertIn("All 12 entries right; the file of keys can&#x27;t be read.", page)
         done = self.mark(*books, "--csv")
-        self.assertEqual([row["problem"] for row in csv.DictReader(done.out.decode().splitlines())], lines)
+        problems = [row["problem"] for row in csv.DictReader(done.out.decode().splitlines())]
+        for problem, line in zip(problems, lines):
+            self.assertIn(line, problem)
         self.assertEqual(done.status, 1)
         (self.room / "ann.book").write_bytes(b"")
         self.assertIn(f"taa1: {lines[0]}\n", self.mark("class/ann.book").error)
@@ -700,6 +782,7 @@ class Folders(Case):
     def test_own_pages(self) -> None:
         """The desk's pages among the hand-ins are no hand-ins, but a candidate's is one."""
         (self.room / "notes.txt").unlink()
+        shutil.rmtree(self.room / "below")
         for _ in range(2):
             done = self.mark("class", "--html", "class")
             self.assertEqual((done.status, done.error), (0, ""))
@@ -709,10 +792,11 @@ class Folders(Case):
         self.assertIn(b"candidates 4: ", done.out)
 
     def test_named_beside_it(self) -> None:
+        (self.room / "notes.txt").unlink()
+        shutil.rmtree(self.room / "below")
         done = self.mark("class", "class/ann.book", "--json")
         names = [sheet["candidate"] for sheet in json.loads(done.out)["sheets"]]
         self.assertEqual(names, ["class/ben.hex", "class/cho", "class/ann.book"])
-        (self.room / "notes.txt").unlink()
         (self.room / "scheme").write_bytes(self.accepted("scheme"))
         for _ in range(2):  # the second time, the first one's sheets are there
             done = self.mark("class", "--scheme", "class/scheme", "-o", "class/marks")
@@ -744,7 +828,7 @@ class Folders(Case):
 
     def test_no_hand_in(self) -> None:
         (self.folder / "none").mkdir()
-        error = "none: no hand-in in this folder: hidden files, *.keys and *.txt are none"
+        error = "none: no hand-in in this folder"
         done = self.mark("none")
         self.assertEqual((done.status, done.out, done.error), (2, b"", f"taa1: {error}\n"))
 
@@ -774,6 +858,7 @@ class Folders(Case):
     def test_earlier_pages(self) -> None:
         """Pages of an earlier run are named, and removed with --clean; others are not touched."""
         (self.room / "notes.txt").unlink()
+        shutil.rmtree(self.room / "below")
         pages = self.folder / "pages"
         self.assertEqual(self.mark("class", "--html", "pages").error, "")
         for name in ("model.html", "notes.html"):

@@ -101,7 +101,7 @@ class Pages(Case):
         index = Page(pages / "index.html")
         self.assertEqual(index.links, names[:-1])
         words = "6 candidates: 1 all right, 3 do not open, 0 not marked. Points, in percent of what each could"
-        self.assertIn(f"{words} reach: mean 79.51, median 83.33 of 100.", index.texts)
+        self.assertIn(f"{words} reach: mean 79.51, median 83.33 of 100, of all 6 candidates.", index.texts)
         for word in ("RS for RSO", "opens; kind 2 for kind 5", "three zero bits"):
             self.assertIn(word, index.texts)
         at = index.texts.index("3, GCK under O (KSO)", index.texts.index("three zero bits"))
@@ -209,7 +209,7 @@ class Pages(Case):
         book = self.file("gus.book", seal())
         lines = "".join(f"{name} = {made[name].hex()}\n" for name in ("response 2", "key 2"))
         self.file("gus.keys", lines + f"O = {RING.o.hex()}\nG = hello\n")
-        page = Page(self.mark(book) / "gus.book.html")
+        page = Page(self.mark(book, status=1) / "gus.book.html")
         said = next(text for text in page.texts if "entries right" in text)
         self.assertTrue(said.endswith(
             "All 12 entries right; 3 of 4 keys wrong. One slip explains response 2 and key 2: "
