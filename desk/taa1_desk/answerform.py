@@ -134,7 +134,7 @@ def asked_rows(sides: int) -> list[str]:
 
 def _boxes(text: str) -> list[str]:
     """What stands in boxes."""
-    return re.sub(r"\b0[xX]|[|,;:=\[\]]", " ", text).split()
+    return re.sub(r"\b0[xX]|[|,;:=\"\[\]]", " ", text).split()
 
 
 def _number(word: str) -> Optional[int]:

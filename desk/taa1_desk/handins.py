@@ -20,7 +20,7 @@ from . import answerform
 from taa1 import Refused
 
 from .files import ODD, STANDARD, Problem, place, reason
-from .forms import BYTES, FILES, FORMS, hexadecimal, is_meant, rows, text_of
+from .forms import BYTES, FILES, FORMS, hexadecimal, is_meant, record_rows, rows, table, text_of
 from .keysheet import KeyFile, KeyMarker
 from .lineends import CHANGES, DAMAGED, Change, Copies
 from .mark import Marked, Marker, Sheet, Wanted
@@ -300,14 +300,20 @@ class Reader:
         )
 
     def _rows(self, text: str, code: str, best: Reading) -> Optional[Reading]:
-        """A text with a record in each line but for a few, whose digits are too few or too
-        many, if that shows more of the model than its digits as they follow each other."""
-        book, problems = rows(text)
-        whole = len(book) // SEALED
-        if not problems or whole <= len(problems) or self.common(book) <= self.common(best.book):
+        """A text with a record in each line, or in each row of a table, but for a few that can't be
+        read, if that shows more of the model than its digits as they follow each other."""
+        tables = FORMS["table"].what + code
+        readings = [
+            (rows(text), "hex", f"{FORMS['hex'].what}{code}, a record in each line"),
+            (record_rows(text), "records", FORMS["records"].what + code),
+            (table(text), "table", tables),
+            (table(text, decimal=True), "table", f"{tables}, its versions in decimal"),
+        ]
+        made, form, how = max(readings, key=lambda each: (self.common(each[0].book), -len(each[0].problems)))
+        whole = len(made.book) // SEALED
+        if whole <= len(made.problems) or self.common(made.book) <= self.common(best.book):
             return None
-        how = f"{FORMS['hex'].what}{code}, a record in each line"
-        return Reading(book, how, "hex", problems=problems)
+        return Reading(made.book, how, form, problems=made.problems, lost=made.lost)
 
     def _look(self, reading: Reading) -> Reading:
         """What the bytes look like that were read."""

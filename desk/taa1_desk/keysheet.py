@@ -14,7 +14,7 @@ from taa1 import Sitting
 
 from .desk import Desk
 from .explain import KEY, Found, Part, Table
-from .files import quoted
+from .files import Problem, quoted
 from .forms import FILES, text_of
 from .model import sides_of
 from .names import field
@@ -36,6 +36,7 @@ PARENTS = {
 
 
 MOST_WORDS = 3  # of a value's name
+NOT_AGREED = "the working, step by step, is not what the engine answers: nothing is marked"
 
 
 def short(name: str) -> str:
@@ -166,8 +167,25 @@ class KeyMarker:
         halves = [side[name] for side in (one, two) for name in ("response", "key")]
         values = (one["session_key"], two["session_key"], *halves, *ring)
         self.model: Keys = dict(zip(KEYS, values))
+        if self.steps.keys(sitting) != self.model:
+            raise Problem(NOT_AGREED)
         idle = {1: "2", 2: "1"}.get(sitting.sides, "-")
         self.asked = [name for name in KEYS if not name.endswith(idle)]
+
+    def worked(self, own: Mapping[str, bytes]) -> Keys:
+        """Every value as the engine's calls work it from a candidate's own earlier ones, and
+        from the model's where there are none."""
+        made, masks = dict(self.model), (self.sitting.response_mask, self.sitting.key_mask)
+        for side, call, challenge in (
+            ("1", "ta12", self.sitting.rand1),
+            ("2", "ta22", self.sitting.rand2),
+        ):
+            if f"session key {side}" in own:
+                answer = self.desk.call(call, own[f"session key {side}"], challenge, *masks)
+                made[f"response {side}"], made[f"key {side}"] = answer["response"], answer["key"]
+        halves = (own.get(name, made[name]) for name in ("key 1", "key 2"))
+        made["D"] = self.desk.call("tb4", *halves)["bytes"]
+        return made
 
     def mark(self, file: KeyFile) -> KeySheet:
         """The marks of a candidate's values."""
@@ -176,7 +194,7 @@ class KeyMarker:
             for name, value in file.values.items()
             if len(value) == LENGTHS[name] and name in self.asked
         }
-        worked = self.steps.keys(self.sitting, own)
+        worked = self.worked(own)
         marks = []
         for name in KEYS:
             if name in file.values:

@@ -17,12 +17,13 @@ from taa1 import Refused, Sitting
 
 from .desk import Desk
 from .explain import IDENTITY, KEY, TEXT, Found, Part, Table, altered, exchanges, joined, under_own
-from .keysheet import KeyFile, KeyMarker, KeySheet, own_keys
+from .files import Problem
+from .keysheet import NOT_AGREED, KeyFile, KeyMarker, KeySheet, own_keys
 from .pairing import Pairs, out_of_order, pair
 from .records import KINDS, PLAIN, SEALED, Entry, Ring, split, whole
 from .scheme import Points
 from .slips import work, work_under
-from .working import KEYS
+from .working import KEYS, Steps
 
 PARTS = {IDENTITY: "identities", TEXT: "texts", "flag": "flags"}
 FIELDS = {"identity": slice(1, 4), "version": slice(4, 6), "text": slice(6, SEALED)}
@@ -172,6 +173,10 @@ class Marker:
         self.entries = [Entry.of(record) for record in split(plain, PLAIN)]
         sealed = desk.call("seal_book", self.ring.data, plain)["out"]
         self.model = split(sealed, SEALED)
+        steps = Steps(desk)
+        strings = steps.k_strings(ring.c)
+        if sealed != b"".join(steps.sealed(entry, ring, strings) for entry in self.entries):
+            raise Problem(NOT_AGREED)  # the slips are that working, altered
         self.parts = [parts_of(record) for record in self.model]
         self.places: dict[bytes, list[int]] = defaultdict(list)  # of whole records
         # by bytes that stand in records, the entries of the model that they are signs of

@@ -19,7 +19,7 @@ from .desk import Desk, RefusedFile
 from .explain import IDENTITY, KEY, TEXT, Found, Part, Table, altered, exchanges, joined, under_own
 from .files import Problem, place
 from .forms import BYTES, FORMS, is_meant, text_of
-from .keysheet import KeyFile, KeyMarker, KeySheet, own_keys
+from .keysheet import NOT_AGREED, KeyFile, KeyMarker, KeySheet, own_keys
 from .lineends import DAMAGED, Copies
 from .mark import (
     Difference,
@@ -84,6 +84,8 @@ class OpenedMarker:
         self.records, self.steps = records, Steps(desk)
         self.keys = KeyMarker(desk, sitting, ring)
         self.truth = [_unsealed(desk, ring, record) for record in records]
+        if list(opened(self.steps, ring, records)) != self.truth:
+            raise Problem(NOT_AGREED)
         self.copies = Copies(_entry(opened).data for opened in self.truth)
         self.table = Table()
         truth = [_parts(each) for each in self.truth]
@@ -365,7 +367,7 @@ class OpenedMarker:
         if keys.ring is None:
             return {}
         model = self.keys.ring
-        own = opened(self.steps, keys.ring, self.records)
+        own = [_unsealed(self.steps.desk, keys.ring, record) for record in self.records]
         return {
             index: own_keys(self.truth[index].kind, keys.ring, model)
             for index, answer in answers.items()

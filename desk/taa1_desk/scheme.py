@@ -135,7 +135,7 @@ def score(scheme: Scheme, sheet: Sheet, asked: Iterable[str] = ()) -> Points:
 
     share = scheme[SHARE]
     right = [entry.model for entry in sheet.entries if entry.state == "right"]
-    following = [entry.model for entry in sheet.entries if entry.follows]
+    following = [e.model for e in sheet.entries if e.follows and e.state == "wrong"]
     items = [
         Item("entries right", full(right)),
         Item("entries right under own keys", share * full(following)),

@@ -212,8 +212,8 @@ class Forms(unittest.TestCase):
             root=bytes(range(16)), rs=bytes(10), rso=bytes(range(10)), c=bytes(range(50, 60)), group_key=bytes(12)
         )
         sheet = mark(filled(split(seal(other), SEALED), {}))
-        self.assertIn("this looks like another sitting's book", sheet.problem or "")
-        self.assertIn("; --as ann.txt=form marks it all the same", sheet.problem or "")
+        self.assertIn("this looks like another sitting's book", "".join(sheet.problems))
+        self.assertEqual((sheet.problem, sheet.right), (None, 0))
         said = "it can't be read as form: it has no table of the answer form"
         self.assertEqual(READER.mark("ann.txt", seal().hex().encode(), "form").problem, said)
         text = filled(split(seal(other), SEALED), {}).encode()

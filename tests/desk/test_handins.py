@@ -332,15 +332,52 @@ class Forms(unittest.TestCase):
             (rows, f"0x{rows[5][2:]}  # entry 5", 40),
         ):
             sheet = READER.mark("a", "\n".join([*given[:5], bad, *given[6:]]).encode())
-            self.assertEqual((sheet.problem, sheet.right, sheet.missing), (None, 11, (5,)))
+            self.assertEqual((sheet.problem, sheet.right, sheet.missing, sheet.unread), (None, 11, (), (5,)))
             self.assertIn(f"line 6 has {digits} digits, not 42", others(sheet))
+            self.assertIn("in a line that can't be read: the model's entry 5", others(sheet))
             self.assertEqual(sheet.read_as, f"{HEX}, a record in each line")
         self.assertEqual(READER.mark("a", "\n".join([*rows[:5], *rows[6:]]).encode()).read_as, HEX)
-        for line in ("Candidate 17, Ann", "kind,ESI,version,text", rows[5].replace("0", "O")):
+        for line in ("Candidate 17, Ann", "kind,ESI,version,text"):
             sheet = READER.mark("a", "\n".join([*spaced[:5], line, *spaced[6:]]).encode())
             self.assertEqual((sheet.problem, sheet.right, sheet.missing), (None, 11, (5,)))
             said = "line 6 has other than hexadecimal digits, and is not read"
             self.assertIn(said, others(sheet))
+        labelled = [f"entry {at}: {row}" for at, row in enumerate(rows)]
+        for given in (rows, spaced, labelled, [f"record {at} = {row}" for at, row in enumerate(rows)]):
+            for letter in "Olx":
+                bad = given[5][:-4] + letter + given[5][-3:]
+                sheet = READER.mark("a", "\n".join([*given[:5], bad, *given[6:]]).encode())
+                self.assertEqual((sheet.problem, sheet.right, sheet.missing, sheet.unread), (None, 11, (), (5,)))
+                self.assertIn(f"line 6: {letter!r} is no hexadecimal digit, so it is not read", others(sheet))
+                self.assertNotIn("missing", sheet_text(sheet))
+
+    def test_tables(self) -> None:
+        """A table as a spreadsheet saves it, and labelled fields."""
+        cells = [(f"{r[0]:02x}", r[1:4].hex(), r[4:6].hex(), r[6:].hex()) for r in RECORDS]
+        decimal = [(str(r[0]), r[1:4].hex(), str(int.from_bytes(r[4:6], "big")), r[6:].hex()) for r in RECORDS]
+        for given in (cells, decimal):
+            for between in (",", ";", "\t"):
+                for quote in ("", '"'):
+                    for numbered in (False, True):
+                        heads = ["entry"] * numbered + ["kind", "ESI", "version", "sealed text"]
+                        table = [[*[str(at)] * numbered, *row] for at, row in enumerate(given)]
+                        lines_ = [between.join(f"{quote}{cell}{quote}" for cell in row) for row in (heads, *table)]
+                        sheet = READER.mark("a", "\r\n".join(lines_).encode())
+                        self.assertTrue(sheet.perfect, (lines_[:2], sheet.problem, sheet.problems))
+                        self.assertEqual(sheet.problems, ())
+            for put in (
+                "Entry {}: kind {}, ESI {}, version {}, text {}\n",
+                "Entry {}\n  kind: {}\n  ESI: {}\n  version: {}\n  sealed text: {}\n",
+                "entry={}; kind={}; identity={}; version={}; text={}\n",
+            ):
+                text = "".join(put.format(at, *row) for at, row in enumerate(given))
+                sheet = READER.mark("a", text.encode())
+                self.assertTrue(sheet.perfect, (text[:90], sheet.problem, sheet.problems))
+        rows_ = ["kind;ESI;version;text", *(";".join(row) for row in cells)]
+        rows_[6] = rows_[6][:-3] + "O" + rows_[6][-2:]
+        sheet = READER.mark("a", "\n".join(rows_).encode())
+        self.assertEqual((sheet.problem, sheet.right, sheet.missing, sheet.unread), (None, 11, (), (5,)))
+        self.assertEqual(sheet.problems, ("line 7: text: 'O' is no hexadecimal digit, so it is not read",))
         head = "kind, ESI, version, text\n"
         table = head + "".join(f"{r[0]:02x}, {r[1:4].hex()}, {r[4:6].hex()}, {r[6:].hex()}\n" for r in RECORDS)
         self.assertTrue(READER.mark("a", table.encode()).perfect)

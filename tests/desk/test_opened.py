@@ -4,13 +4,16 @@ from __future__ import annotations
 
 import json
 import unittest
+from fractions import Fraction
+from unittest import mock
 
 from common import CLASS, DESK, ENTRIES, LINES, PLAIN_BOOK, RING, SITTING, Case, seal, taa1
+from taa1_desk import scheme
 from taa1_desk.damage import Damage, damaged
 from taa1_desk.files import Problem
-from taa1_desk.keysheet import KeyFile
+from taa1_desk.keysheet import KeyFile, KeyMarker
 from taa1_desk.lineends import DAMAGED as BROKEN
-from taa1_desk.mark import Sheet
+from taa1_desk.mark import Marker, Sheet
 from taa1_desk.opened import OpenedMarker
 from taa1_desk.records import KINDS, PLAIN, SEALED, split
 from taa1_desk.sheets import sheet_text
@@ -34,6 +37,50 @@ def mark(*lines: str) -> Sheet:
 def but(index: int, line: str) -> Sheet:
     """The right lines, but for one."""
     return mark(*TRUE[:index], line, *TRUE[index + 1 :])
+
+
+class FollowThrough(unittest.TestCase):
+    """What is right under the candidate's own keys, by proved calls."""
+
+    def test_once(self) -> None:
+        """An entry whose flag is set, and said, is right, and counts once, though it fails under
+        the candidate's own keys as well."""
+        own = KeyFile({"O": bytes(range(16))})
+        ring = RING._replace(o=bytes(range(16)))
+        under = [opened(Steps(DESK), ring, [record])[0] for record in split(DAMAGED, SEALED)]
+        lines = [
+            f"entry {at} flag" if each.failed else line for at, (each, line) in enumerate(zip(under, TRUE))
+        ]
+        sheet = MARKER.mark("a", "\n".join(lines).encode(), "", own)
+        states = {entry.index: entry.state for entry in sheet.entries}
+        self.assertEqual((states[2], states[6]), ("right", "right"))
+        self.assertEqual([e.index for e in sheet.entries if e.follows and e.state == "right"], [])
+        self.assertEqual(sheet.following, sum(each.failed > 0 for each in under) - 2)
+        points = scheme.score(scheme.parse(scheme.DEFAULT, ""), sheet)
+        self.assertEqual(points.of("entries right"), sheet.right)
+        self.assertEqual(points.of("entries right under own keys"), Fraction(sheet.following, 2))
+
+    def test_working_at_fault(self) -> None:
+        """A fault in the working step by step gives no marks, rather than wrong ones."""
+        for name in ("tb4", "exp1"):
+            right = getattr(Steps, name)
+            wrong = lambda self, *given, right=right: right(self, *given)[::-1]  # noqa: E731
+            with mock.patch.object(Steps, name, wrong):
+                with self.assertRaisesRegex(Problem, "is not what the engine answers"):
+                    OpenedMarker(DESK, SITTING, RING, DAMAGED, "handout")
+                with self.assertRaisesRegex(Problem, "is not what the engine answers"):
+                    Marker(DESK, SITTING, RING, PLAIN_BOOK)
+
+    def test_keys_by_calls(self) -> None:
+        """What follows from own values is what the steps give, and takes no step."""
+        marker = KeyMarker(DESK, SITTING, RING)
+        for own in (
+            {}, {"session key 1": bytes(16)}, {"session key 2": bytes(range(16)), "key 1": bytes(10)},
+            {"key 2": bytes(range(10))},
+        ):  # fmt: skip
+            self.assertEqual(marker.worked(own), Steps(DESK).keys(SITTING, own))
+            with mock.patch.object(Steps, "keys", side_effect=AssertionError):
+                marker.mark(KeyFile(own))
 
 
 class Damages(unittest.TestCase):
