@@ -2,6 +2,7 @@
 
 from __future__ import annotations
 
+import os
 from collections import Counter, defaultdict
 from typing import Iterable, Optional, Sequence
 
@@ -17,6 +18,10 @@ from .sheets import Summary, class_numbers, entries_said, opening, plural, reaso
 from .slips import clauses_of, in_order
 
 MOST_ENTRIES = 40  # in the picture of the entries
+MEANING = (
+    "Wrong: the record is not the model's, and seals another key, or has no kind. Fails a check: it is "
+    "not the model's, and what it unseals to fails a check of its redundancy, so that it seals no key."
+)
 CHECKS = "Checks of the redundancy, and how many entries fail them"
 
 PLACES = """
@@ -107,12 +112,18 @@ def _checks(of: Summary) -> Html:
     return table(heads, rows, "checks") if rows else text("p", "None.")
 
 
+def _whose(name: str, file: str) -> str:
+    """A candidate's name, and the file's without its folder."""
+    file = os.path.basename(file)
+    return f"{name} ({file})" if name else file
+
+
 def _unmarked(sheets: Sequence[Sheet], left_out: Sequence[Sequence[str]]) -> Iterable[Html]:
     """The hand-ins that are not marked, and files that were left out: what is to be done."""
     if sheets or left_out:
         yield text("h2", "Not marked, for somebody to decide")
-        rows = [(breakable(f"{sheet.candidate} ({sheet.name})"), unmarked_said(sheet)) for sheet in sheets]
-        rows += [(breakable(f"{name} ({file})" if name else file), why) for name, file, why in left_out]
+        rows = [(_whose(sheet.candidate, sheet.name), unmarked_said(sheet)) for sheet in sheets]
+        rows += [(_whose(name, file), why) for name, file, why in left_out]
         yield table(("candidate", "why, and what to do"), rows)
 
 
@@ -153,6 +164,7 @@ def class_page(
         *_unmarked(unmarked, left_out),
         text("h2", "Candidates"),
         legend(COUNTED),
+        text("p", MEANING),
         _candidates(sheets, links),
         *pictured,
         text("h2", f"Entries, by how many candidates got them wrong{marked}"),

@@ -37,7 +37,7 @@ from .opened import OpenedMarker
 from .overview import EXAMPLES, overview
 from .page import is_made_by
 from .records import KINDS, PLAIN, RING, Entry, split
-from .sheets import plural, reading, sheet_text, summary, summary_text
+from .sheets import plural, reading, sheet_text, summary, summary_text, to_look_at
 from .slips import EXCHANGES, OPENING_SLIPS, SLIPS
 from .values import IDENTITY, MASK, hexadecimal, without_0x
 
@@ -573,6 +573,10 @@ def run_mark(args: argparse.Namespace) -> int:
             files.progress(0, 0)
             book = [f"{sheet.name}: {sheet.problem}"] if sheet.problem else []
             files.say(*book, *([sheet.keys.unread] if sheet.keys.unread else []))
+        elif not args.dry and sheet.has_unread:
+            files.progress(0, 0)
+            first, *more = to_look_at(sheet)
+            files.say(f"{sheet.name}: {first}{f' (and {len(more)} more: see the sheet)' * bool(more)}")
         sheets.append(sheet)
     files.progress(0, 0)
     asked = reader.keys.asked
@@ -605,14 +609,15 @@ def run_mark(args: argparse.Namespace) -> int:
         index = class_page(sheets, of, links, reader.wanted, heading.line, who.absent, left_out)
         content[INDEX] = index.encode()
         _write_pages(args.html, content, args.clean)
+    end = summary_text(of) + "".join(f"  {each}\n" for each in told)
     if args.json:
         _emit_text(args, _json(class_json(sheets, of, heading, [*who.absent, *who.left_out], left_out)))
     elif args.csv:
         _emit_text(args, csv_text(sheets, who.absent, left_out))
     elif args.html is not None:
-        _emit_text(args, summary_text(of))
+        _emit_text(args, end)
     else:
-        end = summary_text(of) if len(sheets) > 1 else ""
+        end = end if len(sheets) > 1 or told else ""
         _emit_text(args, "".join(sheet_text(sheet, bool(listed)) for sheet in sheets) + end)
     return REFUSED if look else ACCEPTED
 

@@ -144,7 +144,8 @@ class Sheet(NamedTuple):
     def has_unread(self) -> bool:
         """Whether somebody has to look at it: it is not marked, or something of it is named
         that could not be read."""
-        lines = self.problems or self.keys.problems or self.keys.unread
+        lines = bool(self.problems or self.keys.problems or self.keys.unread)
+        lines |= any(entry.note.startswith("line ") for entry in self.entries)
         return bool(self.problem or lines or self.left or self.unlisted)
 
     @property

@@ -16,7 +16,7 @@ from .records import KINDS, Entry
 from .results import key_result, result
 from .scheme import Points
 from .scheme import said as points_said
-from .sheets import explains, fault, not_read, opening, others, too_many, was_read
+from .sheets import explains, fault, not_read, opening_words, others, too_many, was_read
 
 RESULT = """
 .result { font-size: 1.15em; margin: 0 0 .8em; }
@@ -199,7 +199,7 @@ def sheet_page(sheet: Sheet, wanted: Wanted, heading: str) -> str:
     file = os.path.basename(sheet.name)
     hand_in = file if sheet.problem else f"{file}, {was_read(sheet)}"
     facts: list[tuple[str, Any]] = [("hand-in", breakable(hand_in))]
-    facts += [] if sheet.problem else [("flags" if sheet.flags else "book", opening(sheet))]
+    facts += [] if sheet.problem else [("flags" if sheet.flags else "book", opening_words(sheet))]
     facts += [("", line) for line in too_many(sheet) + others(sheet)]
     wrong = [entry for entry in sheet.entries if entry.state not in ("right", "doubled")]
     parts = [text("p", result(sheet), class_="result"), pairs(facts)]

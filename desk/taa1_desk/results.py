@@ -138,7 +138,7 @@ def _explained(sheet: Sheet, wrong: int) -> str:
     if entries:
         much = f"{len(entries)} of the {wrong} wrong entries"
         if len(entries) == wrong:
-            much = {1: "the wrong entry", 2: "both wrong entries"}.get(
+            much = {1: "the one wrong entry", 2: "both wrong entries"}.get(
                 wrong, f"all {wrong} wrong entries"
             )
         said += _explain(of_entries, much)

@@ -5,6 +5,8 @@ from __future__ import annotations
 from fractions import Fraction
 from typing import Any, Iterable, NamedTuple, Optional, Sequence
 
+from taa1 import Refusal
+
 from .keysheet import KeySheet
 from .mark import Explained, Flags, Marked, Sheet
 from .records import KINDS, SEALED
@@ -54,6 +56,7 @@ def to_look_at(sheet: Sheet) -> list[str]:
     said += [line for line in sheet.keys.problems if line != sheet.keys.unread]
     said += [sheet.keys.unread] if sheet.keys.unread else []
     said += [] if sheet.problem else unread_said(sheet)
+    said += [entry.note for entry in sheet.entries if entry.note.startswith("line ")]
     return not_read(said)
 
 
@@ -64,6 +67,15 @@ def opening(sheet: Sheet, brief: bool = False) -> str:
         said = f"refused {refused.number} at {refused.index}"
         return said if brief else f"does not open: {said} ({refused.name})"
     return flags_said(sheet.flags) if sheet.flags else "opens"
+
+
+def opening_words(sheet: Sheet) -> str:
+    """Whether a book opens, and why not, without the engine's numbers: for candidates."""
+    refused = sheet.refused
+    if refused is None:
+        return opening(sheet)
+    at = f", first at entry {refused.index}" if refused.number == Refusal.FLAG_SET else ""
+    return f"does not open: {refused.name}{at}"
 
 
 def was_read(sheet: Sheet) -> str:
@@ -287,7 +299,8 @@ def explanation(slip: Explained, sheet: Sheet) -> str:
     wrong = sum(entry.state == "wrong" for entry in sheet.entries)
     same = f" (or: {'; '.join(slip.others)})" if slip.others else ""
     part = f", their {slip.part}" if slip.part else ""
-    what = [f"{len(slip.entries)} of {wrong} wrong entries{part}"] if slip.entries else []
+    much = "the one wrong entry" if wrong == 1 else f"{len(slip.entries)} of {wrong} wrong entries"
+    what = [f"{much}{part}"] if slip.entries else []
     what += [listed(slip.keys)] if slip.keys else []
     own = ", worked from the candidate's own keys" if slip.own else ""
     return f"{slip.name}{same}: explains {', and '.join(what)}{own}"
@@ -371,7 +384,9 @@ def summary(sheets: list[Sheet]) -> Summary:
 
 def class_numbers(of: Summary) -> str:
     """How many candidates there are, and how they did."""
-    unopened = "" if of.unopened is None else f"{of.unopened} do not open, "
+    unopened = ""
+    if of.unopened is not None:
+        unopened = f"{of.unopened} {'does' if of.unopened == 1 else 'do'} not open, "
     keys = f", keys not read {of.unread_keys}" if of.unread_keys else ""
     return f"{of.perfect} all right, {unopened}{of.unreadable} not marked{keys}"
 

@@ -350,7 +350,7 @@ class Bad(Case):
                 with self.subTest(args=given[:2], reason=reason):
                     done = here(*given, cwd=self.folder)
                     marked = args[0] == "mark" and args[-1] == "f"
-                    none = "no hand-in in this folder: hidden files, *.keys and *.txt are none"
+                    none = "no hand-in in this folder"
                     folder = marked and name == "."  # it stands for its files
                     self.said(done, 1 if marked and not folder else 2)
                     self.assertEqual(done.error, f"taa1: {name}: {none if folder else reason}\n")
@@ -525,7 +525,7 @@ class Bad(Case):
         for options in ((), ("--csv",), ("--json",), ("--dry",), ("--html", "pages")):
             for _ in range(2):  # the second time, what the first one wrote is replaced
                 done = taa1("mark", *INPUTS, "class", "-o", "class/marks", *options, cwd=self.folder)
-                self.assertEqual(done.status, 0, done.error)
+                self.assertEqual(done.status, 1, done.error)  # the link is named
 
     def test_pages_stay(self) -> None:
         """Nor does a page replace what is read."""

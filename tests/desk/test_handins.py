@@ -621,7 +621,8 @@ class Command(Case):
         self.file("ben.book", PLAIN_BOOK)
         self.assertEqual(self.mark("ann.book", "ben.book").status, 1)
         done = self.mark("ann.book", "ben.book", "--as", "ben.book=bytes")
-        self.assertEqual((done.status, done.error), (1, ""))  # bytes are left
+        said = "the last record is cut short: 6 of 21 bytes"
+        self.assertEqual((done.status, done.error), (1, f"taa1: ben.book: {said}\n"))
         self.assertIn("ann.book: 12 of 12 entries right", done.out.decode())
         self.assertIn("ben.book: 0 of 12 entries right", done.out.decode())
         done = self.mark(self.folder / "ben.book", "--as", "ben.book=bytes")

@@ -132,7 +132,7 @@ class Pages(Case):
         )
         for words in (
             "fay.book, read as hexadecimal: 12 records",
-            "does not open: refused 6 at 4 (flag set while opening a book)",
+            "does not open: flag set while opening a book, first at entry 4",
             "the entry's fields (document 01)",
             "Entry 2: kind 2, SCK under O (KSO) by TA51",
             "Entry 4: kind 3, GCK under O (KSO) by TA81",
