@@ -64,7 +64,7 @@ convert-one-requires c κs =
     let x = start .args in
     let one = test .loop-test .taken in
     let room = end-fits (outputSizeOf (x .direction)) (at .i) (x .n) _ one (start .pre .1) in
-    (end-fits (sizeOf (x .direction)) (at .i) (x .n) _ one (start .pre .0), omega (arith, room, at .inv .1 .kept))
+    (omega (arith, end-fits (sizeOf (x .direction)) (at .i) (x .n) _ one (start .pre .0)), omega (arith, room, at .inv .1 .kept))
 
 add-runs-2 : tie.Need-add-runs-2 Inv-loop μ-loop
 add-runs-2 c =
