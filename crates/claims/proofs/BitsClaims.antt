@@ -1,10 +1,11 @@
 -- Kinds 2 and 5: the three zero bits of the number byte. EXP3 takes any number byte, so that without their check eight would do.
 use Rattle.standard.proofs.Prelude.{_≡_, refl, sym, ap, _∙_, Bool, true, false, _↔_, List, [], _∷_, _++_, ℕ, _+_, _-_, _*_, _/_, _%_, _≤_, _<_, arith}
-use Rattle.standard.proofs.Prelude.{eqb, length, eqb-true, eqb-false, eq-eqb, ne-eqb}
+use Rattle.standard.proofs.Prelude.{eqb, length, eqb-true, eqb-false, eq-eqb, ne-eqb, le-leb}
 use mathlib.Core.Logic.{Iff·rfl}
 use Rattle.standard.specs.Bytes.{_!_, part, zeros, same, choose, Bytes}
 use Rattle.standard.specs.Expansions.{grouped, inserted, expected, exp3Groups, exp3, shr2}
-use Rattle.standard.specs.Seals.{form51, checks, failed, key16, opened, unseal, fails, unsealCall, ta52Call}
+use Rattle.standard.specs.Seals.{form51, checks, failed, key16, sealed, opened, seal, unseal, fails, sealCall, unsealCall, ta51Call, ta52Call}
+use Rattle.standard.specs.declared.KeyNumber.{KeyNumber}
 use Rattle.standard.specs.declared.UnsealedNumbered.{UnsealedNumbered}
 use Rattle.standard.specs.declared.Version.{Version}
 use Rattle.standard.proofs.BytesLaws.{spell, bytes-append, bytes-one, bytes-part, same-eq, same-refl}
@@ -13,6 +14,7 @@ use Rattle.standard.proofs.CheckLaws.{none-failed, failed-below}
 use Rattle.standard.proofs.CoreLaws.{sealCore, unsealCore, core}
 use Rattle.standard.proofs.ExpansionLaws.{bytes-grouped, bytes-ungrouped}
 use Rattle.standard.proofs.InverseLaws.{Inverse}
+use Rattle.claims.specs.Reasons.{OneResult}
 use Rattle.claims.specs.TrueClaims.{fifthAlone, SevenOthers, EightWithout}
 use Rattle.claims.specs.Variants.{formWithoutBits, ta52WithoutBits, BitsUnchecked}
 use Rattle.claims.proofs.OnlyLaws.{inverse-then, inverse-same, inverse-where, counted}
@@ -20,7 +22,7 @@ use Rattle.claims.proofs.TermLaws.{literal-bytes, pair}
 
 -- ---- the four inserted bytes are right
 
-abbrev Four : List ℕ → Type 0
+abbrev pub Four : List ℕ → Type 0
 Four u = same (inserted exp3Groups 0 u) (expected exp3Groups 0 u) ≡ true
 
 -- exactly on the expansions of eleven bytes
@@ -59,13 +61,13 @@ module _ (ck : List ℕ) (n low : ℕ) (hk : Bytes 10 ck) (hn : n ≤ 31) (hl : 
 
 -- ---- the checks
 
-four-pass : (u : List ℕ) → (failed formWithoutBits u ≡ 0) ↔ Four u
+pub four-pass : (u : List ℕ) → (failed formWithoutBits u ≡ 0) ↔ Four u
 four-pass u =
     let e = none-failed (inserted exp3Groups 0 u) (expected exp3Groups 0 u) refl in
     (λ z. sym e ∙ eq-eqb _ 0 z, λ f. eqb-true _ 0 (e ∙ f))
 
 -- the fifth check has the fifth bit
-fifth : (u : List ℕ) → failed form51 u ≡ failed formWithoutBits u + 16 * choose (eqb (u ! 13 / 32) 0) 0 1
+pub fifth : (u : List ℕ) → failed form51 u ≡ failed formWithoutBits u + 16 * choose (eqb (u ! 13 / 32) 0) 0 1
 fifth u = omega arith
 
 only-fifth : (u : List ℕ) → (failed form51 u ≡ fifthAlone) ↔ (Four u × (1 ≤ u ! 13 / 32))
@@ -103,15 +105,15 @@ module _ (s : List ℕ) (v : Version) (hs : length s ≡ 16) where
   abbrev coreKey : List ℕ
   coreKey = key16 s (pair v)
 
-  module _ (t : List ℕ) (h : Bytes 15 t) where
+  module _ (t : List ℕ) (ht : length t ≡ 15) where
     answered : ta52Call t s v ≡ answer (part 0 10 (shr2 (unsealCore coreKey t))) (shr2 (unsealCore coreKey t) ! 10 % 32) (failed form51 (unsealCore coreKey t))
     unfolding ta52Call unsealCall unseal fails opened unsealCore
-    answered = rw (eq-eqb _ _ (h .len), eq-eqb _ _ hs)
+    answered = rw (eq-eqb _ _ ht, eq-eqb _ _ hs)
 
     answered-without : ta52WithoutBits t s v
         ≡ answer (part 0 10 (shr2 (unsealCore coreKey t))) (shr2 (unsealCore coreKey t) ! 10 % 32) (failed formWithoutBits (unsealCore coreKey t))
     unfolding ta52WithoutBits unseal fails opened unsealCore
-    answered-without = rw (eq-eqb _ _ (h .len), eq-eqb _ _ hs)
+    answered-without = rw (eq-eqb _ _ ht, eq-eqb _ _ hs)
 
   module _ (ck : List ℕ) (n : ℕ) (hk : Bytes 10 ck) (hn : n ≤ 31) where
     -- the texts of such bytes, by the call's answer
@@ -120,17 +122,17 @@ module _ (s : List ℕ) (v : Version) (hs : length s ≡ 16) where
 
     by-call : (t : List ℕ) → Texts 1 t ↔ (Bytes 15 t × (ta52Call t s v ≡ answer ck n fifthAlone))
     by-call t = (
-      λ h. (h .0 .0, by-fields (answered t (h .0 .0)) .1 (h .1 .0, h .1 .1, only-fifth (unsealCore coreKey t) .1 (h .0 .1, h .1 .2))),
+      λ h. (h .0 .0, by-fields (answered t (h .0 .0 .len)) .1 (h .1 .0, h .1 .1, only-fifth (unsealCore coreKey t) .1 (h .0 .1, h .1 .2))),
       λ h.
-          let y = by-fields (answered t (h .0)) .0 (h .1) in
+          let y = by-fields (answered t (h .0 .len)) .0 (h .1) in
           let f = only-fifth (unsealCore coreKey t) .0 (y .2) in
           ((h .0, f .0), (y .0, y .1, f .1)),
     )
 
     by-variant : (t : List ℕ) → Texts 0 t ↔ (Bytes 15 t × (ta52WithoutBits t s v ≡ answer ck n 0))
     by-variant t = (
-      λ h. (h .0 .0, by-fields (answered-without t (h .0 .0)) .1 (h .1 .0, h .1 .1, four-pass (unsealCore coreKey t) .1 (h .0 .1))),
-      λ h. let y = by-fields (answered-without t (h .0)) .0 (h .1) in ((h .0, four-pass (unsealCore coreKey t) .0 (y .2)), (y .0, y .1, omega arith)),
+      λ h. (h .0 .0, by-fields (answered-without t (h .0 .0 .len)) .1 (h .1 .0, h .1 .1, four-pass (unsealCore coreKey t) .1 (h .0 .1))),
+      λ h. let y = by-fields (answered-without t (h .0 .len)) .0 (h .1) in ((h .0, four-pass (unsealCore coreKey t) .0 (y .2)), (y .0, y .1, omega arith)),
     )
 
 pub seven-others : SevenOthers
@@ -153,12 +155,32 @@ bits-unchecked s v hs =
     let h = c .has 0 (omega arith) in
     let e : ta52Call t s v .«failed_checks» ≡ fifthAlone = ap (λ (x : UnsealedNumbered). x .«failed_checks») (h .1) in
     let u = unsealCore (coreKey s v hs) t in
-    let f : failed form51 u ≡ fifthAlone = sym (ap (λ (x : UnsealedNumbered). x .«failed_checks») (answered s v hs t (h .0))) ∙ e in (
+    let f : failed form51 u ≡ fifthAlone = sym (ap (λ (x : UnsealedNumbered). x .«failed_checks») (answered s v hs t (h .0 .len))) ∙ e in (
       t,
       record {
         bytes = h .0;
         right = λ z. omega (arith, sym z ∙ e);
-        wrong = ap (λ (x : UnsealedNumbered). x .«failed_checks») (answered-without s v hs t (h .0)) ∙ four-pass u .1 (only-fifth u .0 f .0);
+        wrong = ap (λ (x : UnsealedNumbered). x .«failed_checks») (answered-without s v hs t (h .0 .len)) ∙ four-pass u .1 (only-fifth u .0 f .0);
         seals-none = eight-without .not-back s v t hs e;
       },
     )
+
+-- ---- a function, and yet not all that opens was sealed
+
+sealed-length : (ck : List ℕ) (v : Version) (s : List ℕ) (n : KeyNumber) → length ck ≡ 10 → length s ≡ 16 → n .0 ≤ 31
+    → length (ta51Call ck v s n .bytes) ≡ 15
+unfolding ta51Call sealCall seal sealed
+sealed-length ck v s n hk hs hn = rw (eq-eqb _ _ hk, eq-eqb _ _ hs, le-leb _ _ hn)
+
+pub one-result : OneResult
+one-result = record {
+  one = λ t s v. record { has = refl; only = λ u e. sym e };
+  back = λ s v ck n hs hk hn.
+      let t = ta51Call ck v s n .bytes in
+      let ht = sealed-length ck v s n (hk .len) hs hn in
+      let u = unsealCore (coreKey s v hs) t in
+      let y = by-fields (answered s v hs t ht) .0 (ta51-opens s v hs ck n hk hn) in
+      let none : failed formWithoutBits u ≡ 0 = omega (arith, fifth u, y .2) in
+      by-fields (answered-without s v hs t ht) .1 (y .0, y .1, none);
+  not-sealed = bits-unchecked;
+}

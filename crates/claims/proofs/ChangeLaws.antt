@@ -11,7 +11,7 @@ module _ (n i d : ℕ) (xs : List ℕ) where
   changed-at : (j : ℕ) → j < n → changed n i d xs ! j ≡ choose (eqb j i) (xs ! j ⊕ d) (xs ! j)
   changed-at j h = table-at n (λ m. choose (eqb m i) (xs ! m ⊕ d) (xs ! m)) j h
 
-  changed-here : (j : ℕ) → j < n → j ≡ i → changed n i d xs ! j ≡ xs ! j ⊕ d
+  pub changed-here : (j : ℕ) → j < n → j ≡ i → changed n i d xs ! j ≡ xs ! j ⊕ d
   changed-here j h e = changed-at j h ∙ ap (λ (t : Bool). choose t (xs ! j ⊕ d) (xs ! j)) (eq-eqb j i e)
 
   pub changed-elsewhere : (j : ℕ) → j < n → (j ≡ i → ⊥) → changed n i d xs ! j ≡ xs ! j
@@ -40,11 +40,12 @@ xor-through d x from (suc n) xs =
     ap (λ (y : ℕ). xorOn y (suc from) n xs) e ∙ xor-through d (x ⊕ xs ! from) (suc from) n xs
 
 module _ (m i d : ℕ) (xs : List ℕ) where
-  xor-after : (x from n : ℕ) → i < from → from + n ≤ m → xorOn x from n (changed m i d xs) ≡ xorOn x from n xs
-  xor-after x from zero b h = refl
-  xor-after x from (suc n) b h =
-      ap (λ (y : ℕ). xorOn (x ⊕ y) (suc from) n (changed m i d xs)) (changed-elsewhere m i d xs from (omega arith) (λ e. omega (arith, e)))
-      ∙ xor-after (x ⊕ xs ! from) (suc from) n (omega arith) (omega arith)
+  -- of bytes that the changed one is not among
+  xor-unchanged-on : (x from n : ℕ) → ((j : ℕ) → from ≤ j → j < from + n → j ≡ i → ⊥) → from + n ≤ m → xorOn x from n (changed m i d xs) ≡ xorOn x from n xs
+  xor-unchanged-on x from zero out h = refl
+  xor-unchanged-on x from (suc n) out h =
+      ap (λ (y : ℕ). xorOn (x ⊕ y) (suc from) n (changed m i d xs)) (changed-elsewhere m i d xs from (omega arith) (out from (omega arith) (omega arith)))
+      ∙ xor-unchanged-on (x ⊕ xs ! from) (suc from) n (λ j a b. out j (omega arith) (omega arith)) (omega arith)
 
   xor-changed-on : (x from n : ℕ) → from ≤ i → i < from + n → from + n ≤ m → xorOn x from n (changed m i d xs) ≡ xorOn x from n xs ⊕ d
   xor-changed-on x from zero a b h = absurd (omega arith)
@@ -54,7 +55,7 @@ module _ (m i d : ℕ) (xs : List ℕ) where
           → xorOn (x ⊕ changed m i d xs ! from) (suc from) n (changed m i d xs) ≡ xorOn (x ⊕ xs ! from) (suc from) n xs ⊕ d
       go (inl e) ih =
           ap (λ (y : ℕ). xorOn (x ⊕ y) (suc from) n (changed m i d xs)) (changed-here m i d xs from (omega arith) e)
-          ∙ xor-after (x ⊕ (xs ! from ⊕ d)) (suc from) n (omega arith) (omega arith)
+          ∙ xor-unchanged-on (x ⊕ (xs ! from ⊕ d)) (suc from) n (λ j a′ b′ z. omega (arith, e, z)) (omega arith)
           ∙ ap (λ (y : ℕ). xorOn y (suc from) n xs) (sym (xor-assoc x (xs ! from) d))
           ∙ xor-through d (x ⊕ xs ! from) (suc from) n xs
       go (inr l) ih =
@@ -64,3 +65,7 @@ module _ (m i d : ℕ) (xs : List ℕ) where
   -- of a group that has the changed byte
   pub xor-changed : (from n : ℕ) → from ≤ i → i < from + n → from + n ≤ m → xorOf from n (changed m i d xs) ≡ xorOf from n xs ⊕ d
   xor-changed from n a b h = xor-changed-on 0 from n a b h
+
+  -- of one that has not
+  pub xor-unchanged : (from n : ℕ) → ((j : ℕ) → from ≤ j → j < from + n → j ≡ i → ⊥) → from + n ≤ m → xorOf from n (changed m i d xs) ≡ xorOf from n xs
+  xor-unchanged from n out h = xor-unchanged-on 0 from n out h

@@ -7,11 +7,11 @@ use Rattle.claims.specs.FalseClaims.{FCollides, half₁, half₂}
 use Rattle.claims.specs.TrueClaims.{Undone}
 use Rattle.claims.proofs.TermLaws.{literal-bytes}
 
-length-encrypt : (k b : List ℕ) → length (encrypt k b) ≡ 8
+pub length-encrypt : (k b : List ℕ) → length (encrypt k b) ≡ 8
 unfolding encrypt
 length-encrypt k b = length-crypt _ b
 
-length-decrypt : (k b : List ℕ) → length (decrypt k b) ≡ 8
+pub length-decrypt : (k b : List ℕ) → length (decrypt k b) ≡ 8
 unfolding decrypt
 length-decrypt k b = length-crypt _ b
 

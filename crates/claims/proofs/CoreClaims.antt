@@ -1,14 +1,21 @@
 -- BL1 without byte 8: nothing is lost as long as the input ends in a zero byte.
-use Rattle.standard.proofs.Prelude.{_≡_, refl, sym, ap, ap₂, _∙_, List, [], _∷_, _++_, ℕ, _<_}
-use Rattle.standard.specs.Bytes.{_!_, part, Bytes}
+use Rattle.standard.proofs.Prelude.{_≡_, refl, sym, ap, ap₂, _∙_, List, [], _∷_, _++_, ℕ, _+_, _-_, _≤_, _<_, arith}
+use mathlib.Core.Logic.{Iff·rfl}
+use Rattle.standard.specs.Bytes.{_!_, part, xors, Bytes}
 use Rattle.standard.specs.Cores.{bl1}
+use Rattle.standard.specs.Hurdle.{decrypt}
 use Rattle.standard.specs.Seals.{without8, opened}
-use Rattle.standard.proofs.BytesLaws.{spell, bytes-append, bytes-cons, bytes-part, bytes-zero}
+use Rattle.standard.proofs.BytesLaws.{table-at, spell, bytes-append, bytes-cons, bytes-part, bytes-zero}
 use Rattle.standard.proofs.CoreLaws.{sealCore, unsealCore, core}
 use Rattle.standard.proofs.InverseLaws.{Inverse}
-use Rattle.claims.specs.TrueClaims.{NothingLost, Shared}
-use Rattle.claims.proofs.BlockLaws.{bl1-back, bl1-inverse}
-use Rattle.claims.proofs.OnlyLaws.{counted}
+use Rattle.claims.specs.Entries.{Count, withByte, ZeroAt, SameText}
+use Rattle.claims.specs.Reasons.{NoMoreInputs}
+use Rattle.claims.specs.TrueClaims.{NothingLost, Shared, Chaining}
+use Rattle.claims.specs.Variants.{bl1Unchained}
+use Rattle.claims.proofs.BlockLaws.{bl1-back, bl1-inverse, unchained-back, unchained-inverse}
+use Rattle.claims.proofs.NumberLaws.{numbered}
+use Rattle.claims.proofs.OnlyLaws.{inverse-same, counted, counted-then}
+use Rattle.claims.proofs.PlaceLaws.{zero-put-in}
 
 -- ---- with the zero byte
 
@@ -33,11 +40,7 @@ nothing-lost k t h =
           sym e ∙ ap (λ (y : List ℕ). y ++ 0 ∷ []) m;
     }
 
--- ---- without it
-
--- the text with a value in the place of the dropped byte
-abbrev withByte : ℕ → List ℕ → List ℕ
-withByte d t = part 0 7 t ++ d ∷ part 7 8 t
+-- ---- without it, by any core that can be undone on sixteen bytes: one input for each value of the dropped byte
 
 with-bytes : (d : ℕ) (t : List ℕ) → d < 256 → Bytes 15 t → Bytes 16 (withByte d t)
 with-bytes d t l h = bytes-append (bytes-part 0 7 h) (bytes-cons l (bytes-part 7 8 h))
@@ -45,30 +48,76 @@ with-bytes d t l h = bytes-append (bytes-part 0 7 h) (bytes-cons l (bytes-part 7
 rebuilt : (w t : List ℕ) (d : ℕ) → Bytes 16 w → without8 w ≡ t → w ! 7 ≡ d → withByte d t ≡ w
 rebuilt w t d h e z = ap₂ withByte (sym z) (sym e) ∙ spell h
 
-abbrev Shares : (k t x : List ℕ) → Type 0
-Shares k t x = Bytes 16 x × (without8 (bl1 k x) ≡ t)
+module _ {core back : List ℕ → List ℕ} (m : Inverse (Bytes 16) (Bytes 16) core back) where
+  shared-by : (t : List ℕ) → Bytes 15 t
+      → Inverse (λ d. d < 256) (λ x. Bytes 16 x × (without8 (core x) ≡ t)) (λ d. back (withByte d t)) (λ x. core x ! 7)
+  shared-by t h =
+      let again : (d : ℕ) → d < 256 → core (back (withByte d t)) ≡ withByte d t = λ d l. m .forth (withByte d t) (with-bytes d t l h) in
+      record {
+        to = λ d l. (m .from (withByte d t) (with-bytes d t l h), ap without8 (again d l) ∙ spell h);
+        from = λ x s. m .to x (s .0) .bound 7;
+        back = λ d l. ap (λ (y : List ℕ). y ! 7) (again d l);
+        forth = λ x s. ap back (rebuilt (core x) t (core x ! 7) (m .to x (s .0)) (s .1) refl) ∙ m .back x (s .0);
+      }
 
-shared-by : (k t : List ℕ) → Bytes 15 t → Inverse (λ d. d < 256) (Shares k t) (λ d. bl1-back k (withByte d t)) (λ x. bl1 k x ! 7)
-shared-by k t h =
-    let back : (d : ℕ) → d < 256 → bl1 k (bl1-back k (withByte d t)) ≡ withByte d t = λ d l. bl1-inverse k .forth (withByte d t) (with-bytes d t l h) in
-    record {
-      to = λ d l. (bl1-inverse k .from (withByte d t) (with-bytes d t l h), ap without8 (back d l) ∙ spell h);
-      from = λ x s. bl1-inverse k .to x (s .0) .bound 7;
-      back = λ d l. ap (λ (y : List ℕ). y ! 7) (back d l);
-      forth = λ x s.
-          ap (bl1-back k) (rebuilt (bl1 k x) t (bl1 k x ! 7) (bl1-inverse k .to x (s .0)) (s .1) refl)
-          ∙ bl1-inverse k .back x (s .0);
-    }
+  -- a zero byte at a place that the text decides is no help
+  no-help : (p : ℕ) → ((x y : List ℕ) → Bytes 16 x → Bytes 16 y → without8 (core x) ≡ without8 (core y) → x ! p ≡ y ! p)
+      → (x : List ℕ) → ZeroAt p x → Count 256 (SameText core p x)
+  no-help p same x z =
+      let w = m .to x (z .0) in
+      counted (inverse-same (λ d. Iff·rfl) (λ y. (λ s. ((s .0, same y x (s .0) (z .0) (s .1) ∙ z .1), s .1), λ s. (s .0 .0, s .1)))
+      (shared-by (without8 (core x)) (bytes-append (bytes-part 0 7 w) (bytes-part 8 8 w))))
 
 pub shared : Shared
 shared = record {
   one-each = λ k t h d l.
-      let i = shared-by k t h in (
+      let i = shared-by (bl1-inverse k) t h in (
         bl1-back k (withByte d t),
         record {
           has = (i .to d l .0, i .to d l .1, i .back d l);
           only = λ x p. sym (i .forth x (p .0, p .1)) ∙ ap (λ (e : ℕ). bl1-back k (withByte e t)) (p .2);
         },
       );
-  in-all = λ k t h. counted (shared-by k t h);
+  in-all = λ k t h. counted (shared-by (bl1-inverse k) t h);
+}
+
+-- ---- without chaining the text has the whole right block
+
+right-unchained : (k x : List ℕ) → Bytes 16 x → x ! 15 ≡ decrypt k (part 7 8 (without8 (bl1Unchained k x))) ! 7
+unfolding unchained-back
+right-unchained k x h = ap (λ (y : List ℕ). y ! 15) (sym (unchained-inverse k .back x h))
+
+pub chaining : Chaining
+chaining = record {
+  chained = λ k x z.
+      let w = bl1-inverse k .to x (z .0) in
+      let o = nothing-lost k (without8 (bl1 k x)) (bytes-append (bytes-part 0 7 w) (bytes-part 8 8 w)) in
+      record { has = (z, refl); only = λ y s. o .only y (s .0 .0, s .0 .1, s .1) ∙ sym (o .only x (z .0, z .1, refl)) };
+  unchained = λ k.
+      no-help (unchained-inverse k) 15
+      (λ x y hx hy e. right-unchained k x hx ∙ ap (λ (t : List ℕ). decrypt k (part 7 8 t) ! 7) e ∙ sym (right-unchained k y hy));
+}
+
+-- ---- with it the text has seven bytes of the right block
+
+right-part : (k x : List ℕ) → Bytes 16 x → part 8 7 x ≡ xors 7 (decrypt k (part 7 8 (without8 (bl1 k x)))) (without8 (bl1 k x))
+unfolding bl1-back
+right-part k x h = ap (part 8 7) (sym (bl1-inverse k .back x h))
+
+right-byte : (p : ℕ) (x : List ℕ) → 8 ≤ p → p < 15 → part 8 7 x ! (p - 8) ≡ x ! p
+right-byte p x l h =
+    let e : 8 + (p - 8) ≡ p = omega arith in
+    table-at 7 (λ i. x ! (8 + i)) (p - 8) (omega arith) ∙ ap (λ (i : ℕ). x ! i) e
+
+pub no-more-inputs : NoMoreInputs
+no-more-inputs = record {
+  texts = counted (numbered 15);
+  inputs = λ p h. counted-then (counted (numbered 15)) (zero-put-in p h);
+  shared = λ k p l h.
+      no-help (bl1-inverse k) p
+      (λ x y hx hy e.
+      sym (right-byte p x l h)
+      ∙ ap (λ (z : List ℕ). z ! (p - 8))
+      (right-part k x hx ∙ ap (λ (t : List ℕ). xors 7 (decrypt k (part 7 8 t)) t) e ∙ sym (right-part k y hy))
+      ∙ right-byte p y l h);
 }

@@ -1,19 +1,19 @@
 -- How many texts open: as many as there are legal bodies, which are numbered.
-use Rattle.standard.proofs.Prelude.{_≡_, refl, ap, _∙_, List, ℕ, _+_, _*_, _/_, _%_, _^_, _<_, arith, length, le-leb}
-use mathlib.Core.Logic.{Iff·rfl, Iff·symm}
+use Rattle.standard.proofs.Prelude.{_≡_, refl, ap, _∙_, List, ℕ, _+_, _*_, _/_, _%_, _^_, _<_, arith, le-leb}
+use mathlib.Core.Logic.{Iff·rfl}
 use Rattle.standard.specs.Bytes.{_!_, part, bytesOf, number, Bytes}
-use Rattle.standard.specs.Seals.{sealingSize, formOf, bodyOf, seal, unseal}
+use Rattle.standard.specs.Seals.{formOf, bodyOf}
 use Rattle.standard.specs.declared.Algorithm.{Algorithm}
 use Rattle.standard.specs.declared.Algorithm.the-variants.{Ta31, Ta51, Ta81, Ta91}
-use Rattle.standard.specs.declared.Version.{Version}
 use Rattle.standard.proofs.BytesLaws.{spell, bytes-of, bytes-append, bytes-cons, bytes-one, bytes-part, bytes-zero}
 use Rattle.standard.proofs.InverseLaws.{Inverse}
-use Rattle.standard.proofs.SealLaws.{body31-zeros, body51-number, sealing}
-use Rattle.claims.specs.Entries.{Count, Legal, Opens}
+use Rattle.standard.proofs.SealLaws.{body31-zeros, body51-number}
+use Rattle.claims.specs.Entries.{Count, Legal}
 use Rattle.claims.specs.TrueClaims.{howMany, HowMany}
+use Rattle.claims.proofs.EntryClaims.{entries}
 use Rattle.claims.proofs.NumberLaws.{numbered}
 use Rattle.claims.proofs.OnlyLaws.{inverse-then, inverse-same, counted, counted-then}
-use Rattle.claims.proofs.TermLaws.{pair, legal-body, opens-clear}
+use Rattle.claims.proofs.TermLaws.{legal-body}
 
 -- ---- legal bodies
 
@@ -55,11 +55,6 @@ bodies Ta81 = twelve-bytes Ta81 (λ b. refl)
 bodies Ta91 = twelve-bytes Ta91 (λ b. refl)
 
 -- ---- texts
-
--- sealing and unsealing, in the terms of the calls
-entries : (a : Algorithm) (s : List ℕ) (v : Version) → length s ≡ sealingSize a
-    → Inverse (Legal a) (Opens a s v) (seal (formOf a) s (pair v)) (unseal (formOf a) s (pair v))
-entries a s v hs = inverse-same (λ b. Iff·symm (legal-body a b)) (λ t. Iff·symm (opens-clear a s v t hs)) (sealing a s (pair v))
 
 pub how-many : HowMany
 how-many = record {

@@ -8,7 +8,7 @@ use Rattle.standard.proofs.BytesLaws.{Passed}
 use Rattle.standard.specs.BooksFacts.{IsSealedForm}
 use Rattle.standard.specs.SealsFacts.{sealBody}
 use Rattle.standard.specs.Lists.{answer, recordsCall}
-use Rattle.standard.specs.Seals.{sealingSize, formOf, failed, seal, unsealCall}
+use Rattle.standard.specs.Seals.{sealingSize, formOf, failed, seal, unseal, unsealCall}
 use Rattle.standard.specs.Sizes.{ringSize, plainSize, sealedSize}
 use Rattle.standard.specs.declared.Algorithm.{Algorithm}
 use Rattle.standard.specs.declared.Bytes15.{Bytes15}
@@ -18,11 +18,12 @@ use Rattle.standard.proofs.BytesLaws.{spelled, spell, part-left}
 use Rattle.standard.proofs.CallPairLaws.{sealed-by, unsealed-by}
 use Rattle.standard.proofs.CheckLaws.{clear-same}
 use Rattle.standard.proofs.Demand3Laws.{demand3}
+use Rattle.standard.proofs.InverseLaws.{Inverse, reversed}
 use Rattle.standard.proofs.RecordLaws.{Plain, Sealed, record-law}
 use Rattle.standard.proofs.SealLaws.{Body, form-law, sealing}
 use Rattle.claims.specs.Entries.{OfOne, Legal, Opens}
-use Rattle.claims.specs.TrueClaims.{ChecksExactly, OneText, OneRecord, OneBook, RecordAlone}
-use Rattle.claims.proofs.OnlyLaws.{of-image, of-one-same}
+use Rattle.claims.specs.TrueClaims.{ChecksExactly, OneText, EntriesApart, TextsApart, OneRecord, OneBook, RecordAlone}
+use Rattle.claims.proofs.OnlyLaws.{of-image, apart, of-one-same, inverse-same}
 use Rattle.claims.proofs.TermLaws.{pair, legal-body, sealing-size, unsealing-size, opens-clear}
 
 -- ---- texts
@@ -49,6 +50,24 @@ one-text a s v t = record {
   );
   one = λ o. taken a s v t (unsealing-size a s v t (o .accepted)) .one o;
 }
+
+-- sealing and unsealing, in the terms of the calls
+pub entries : (a : Algorithm) (s : List ℕ) (v : Version) → length s ≡ sealingSize a
+    → Inverse (Legal a) (Opens a s v) (seal (formOf a) s (pair v)) (unseal (formOf a) s (pair v))
+entries a s v hs = inverse-same (λ b. Iff·symm (legal-body a b)) (λ t. Iff·symm (opens-clear a s v t hs)) (sealing a s (pair v))
+
+pub entries-apart : EntriesApart
+entries-apart a s v b c hs hb hc e =
+    let text : (x : List ℕ) → Legal a x → sealBody a x v s .bytes ≡ seal (formOf a) s (pair v) x =
+    λ x h. ap (λ (y : Bytes15). y .bytes) (sealed-by a s v hs x (legal-body a x .0 h)) in
+    apart (entries a s v hs) b c hb hc (sym (text b hb) ∙ ap (λ (y : Bytes15). y .bytes) e ∙ text c hc)
+
+pub texts-apart : TextsApart
+texts-apart a s v t u ht hu e =
+    let hs = unsealing-size a s v t (ht .accepted) in
+    let body : (x : List ℕ) → Opens a s v x → unsealCall a x s v .body ≡ unseal (formOf a) s (pair v) x =
+    λ x h. ap (λ (y : UnsealedBody). y .body) (unsealed-by a s v hs x (h .bytes .len)) in
+    apart (reversed (entries a s v hs)) t u ht hu (sym (body t ht) ∙ e ∙ body u hu)
 
 -- ---- the checks of BL2's output
 

@@ -2,13 +2,17 @@ pub mod OnlyLaws
 pub mod TermLaws
 pub mod BlockLaws
 pub mod NumberLaws
+pub mod PlaceLaws
 pub mod ChangeLaws
+pub mod GroupLaws
 pub mod CipherClaims
 pub mod CoreClaims
+pub mod DroppedClaims
 pub mod EntryClaims
 pub mod CountClaims
 pub mod FlagClaims
 pub mod BitsClaims
+pub mod ChangeClaims
 pub mod KindClaims
 pub mod KeyClaims
 pub mod RingClaims

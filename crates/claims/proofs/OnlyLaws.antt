@@ -11,6 +11,10 @@ of-image m y = record {
   one = λ q. record { has = (m .from y q, m .forth y q); only = λ x h. of-one m x y (h .0) (h .1) };
 }
 
+-- what goes to the same is the same
+pub apart : {A B : Type 0} {P : A → Type 0} {Q : B → Type 0} {f : A → B} {g : B → A} → Inverse P Q f g → (x y : A) → P x → P y → f x ≡ f y → x ≡ y
+apart {g = g} m x y p q e = sym (m .back x p) ∙ ap g e ∙ m .back y q
+
 -- the same of properties that say the same
 pub of-one-same : {A : Type 0} {Q Q′ : Type 0} {P P′ : A → Type 0} {x x′ : A} → (Q ↔ Q′) → ((y : A) → P y ↔ P′ y) → (Q′ → x ≡ x′)
     → OfOne Q P x → OfOne Q′ P′ x′

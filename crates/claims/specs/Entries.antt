@@ -1,10 +1,11 @@
--- The terms in which the claims stand: exactly one, exactly so many, the body of an entry, and a text that opens. Kind 1 is TA31's, kinds 2 and 5 are TA51's, kinds 3 and 6 are TA81's, and kind 4 is TA91's.
-use mathlib.Core.List.{List}
+-- The terms in which the claims stand: exactly one, exactly so many, the body of an entry, a text that opens, and inputs that share a text.
+-- Kind 1 is TA31's, kinds 2 and 5 are TA51's, kinds 3 and 6 are TA81's, and kind 4 is TA91's.
+use mathlib.Core.List.{List, _∷_, _++_}
 use mathlib.Core.Logic.{_↔_}
 use mathlib.Core.Path.{_≡_}
 use Prim.Native.Nat.{ℕ, _+_, _<_}
-use Rattle.standard.specs.Bytes.{table, Bytes}
-use Rattle.standard.specs.Seals.{formOf, unsealCall}
+use Rattle.standard.specs.Bytes.{_!_, table, part, Bytes}
+use Rattle.standard.specs.Seals.{formOf, without8, unsealCall}
 use Rattle.standard.specs.declared.Algorithm.{Algorithm}
 use Rattle.standard.specs.declared.Version.{Version}
 
@@ -45,6 +46,20 @@ pub record Opens (a : Algorithm) (s : List ℕ) (v : Version) (t : List ℕ) : T
   pub bytes : Bytes 15 t
   pub accepted : unsealCall a t s v .refusal ≡ 0
   pub clear : unsealCall a t s v .«failed_checks» ≡ 0
+
+-- ---- byte 8, which a text leaves out
+
+-- a text with a byte in its place; `with8` puts in a zero byte
+abbrev pub withByte : ℕ → List ℕ → List ℕ
+withByte d t = part 0 7 t ++ d ∷ part 7 8 t
+
+-- sixteen bytes with a zero byte at place p, counted from 0 at the left
+abbrev pub ZeroAt : ℕ → List ℕ → Type 0
+ZeroAt p x = Bytes 16 x × (x ! p ≡ 0)
+
+-- y is such an input, too, and a core gives both the same text
+abbrev pub SameText : (List ℕ → List ℕ) → (p : ℕ) (x y : List ℕ) → Type 0
+SameText core p x y = ZeroAt p y × (without8 (core y) ≡ without8 (core x))
 
 -- ---- what examples share
 

@@ -1,23 +1,28 @@
 -- Sentences about sealed texts that are false (docs/ARGUMENT.md, 8 to 13): what is so instead, for all inputs where that can be said, or
 -- an example that the proof computes.
+use mathlib.Core.Bool.{Bool, false, _&&_, _||_}
 use mathlib.Core.List.{List, [], _∷_, _++_}
+use mathlib.Core.Logic.{_↔_}
 use mathlib.Core.Path.{_≡_}
-use Prim.Native.Nat.{ℕ, _-_, _/_, _^_, _<_}
+use Prim.Native.Nat.{ℕ, suc, _-_, _/_, _^_, _<_, _≤_}
+use lib.Dec.{eqb, leb}
 use lib.ListN.{length}
-use Rattle.standard.specs.Books.{ringKey, commonKey, WellFormed, sealedForm, openFault, openRecord}
-use Rattle.standard.specs.Bytes.{_!_, part, xors, zeros, bytesOf, Bytes}
+use Rattle.standard.specs.Books.{ringKey, commonKey, WellFormed, sealRecord, sealedForm, openFault, openRecord}
+use Rattle.standard.specs.Bytes.{_!_, part, xors, zeros, bytesOf, choose, Bytes}
 use Rattle.standard.specs.BooksFacts.{IsSealedForm}
-use Rattle.standard.specs.SealsFacts.{sealBody}
+use Rattle.standard.specs.Cores.{bl1, bl2}
+use Rattle.standard.specs.SealsFacts.{groupsOf, sealBody}
 use Rattle.standard.specs.Hurdle.{f}
 use Rattle.standard.specs.Lists.{recordAt, each}
-use Rattle.standard.specs.Seals.{sealingSize, repeated, bodyOf, unsealCall, ta52Call, ta82Call, ta92Call}
+use Rattle.standard.specs.Seals.{sealingSize, formOf, failed, without8, repeated, bodyOf, unsealCall, ta52Call, ta82Call, ta92Call}
 use Rattle.standard.specs.Sizes.{ringSize, plainSize, sealedSize}
 use Rattle.standard.specs.declared.Algorithm.{Algorithm}
-use Rattle.standard.specs.declared.Algorithm.the-variants.{Ta81}
+use Rattle.standard.specs.declared.Algorithm.the-variants.{Ta31, Ta51, Ta81, Ta91}
 use Rattle.standard.specs.declared.RingKey.the-variants.{D, O, G}
 use Rattle.standard.specs.declared.UnsealedNumbered.{UnsealedNumbered}
 use Rattle.standard.specs.declared.Version.{Version}
-use Rattle.claims.specs.Entries.{upward, version7}
+use Rattle.claims.specs.Entries.{Count, Legal, Opens, withByte, ZeroAt, upward, version7}
+use Rattle.claims.specs.TrueClaims.{fifthAlone, changed}
 
 -- ---- kinds
 
@@ -56,6 +61,79 @@ half₂ = 0x00 ∷ 0x03 ∷ 0xc1 ∷ 0x36 ∷ []
 pub record FCollides : Type 0 where
   pub same : f half₁ (zeros 12) ≡ f half₂ (zeros 12)
   pub not-undone : (g : List ℕ → List ℕ → List ℕ) → ((x k : List ℕ) → Bytes 4 x → Bytes 12 k → g (f x k) k ≡ x) → ⊥
+
+-- ---- the cores
+
+-- dropped-byte-zero: "The dropped byte is zero." It is each byte equally often: under every key, of the 256^15 inputs that end in a zero
+-- byte, exactly 256^14 have d there
+abbrev pub DroppedByte : Type 0
+DroppedByte = (k : List ℕ) (d : ℕ) → d < 256 → Count (256 ^ 14) (λ x. ZeroAt 15 x × (bl1 k x ! 7 ≡ d))
+
+-- any-byte-put-back: "Any byte may be put back at B8." Another byte gives another left part of BL2's output, and the same right part; so of
+-- all bytes the zero byte alone gives the left part that was sealed. Under every key, of every text
+pub record PutBack (k t : List ℕ) (d e : ℕ) : Type 0 where
+  pub left : (d ≡ e → ⊥) → part 0 8 (bl2 k (withByte d t)) ≡ part 0 8 (bl2 k (withByte e t)) → ⊥
+  pub right : part 8 7 (bl2 k (withByte d t)) ≡ part 8 7 (bl2 k (withByte e t))
+
+abbrev pub OtherByte : Type 0
+OtherByte = (k t : List ℕ) (d e : ℕ) → PutBack k t d e
+
+-- bl2-is-bl1-backwards: "BL2 is BL1 backwards." BL2 gives BL1's input back, without its last byte, exactly if the byte at B8 is the input's
+-- last byte: with the zero byte there, exactly if the input ends in a zero byte. Of BL1's own sixteen bytes it does so exactly if their
+-- eighth is the input's last; and under every key there is an input for which it is not
+pub record NotBackwards : Type 0 where
+  pub with-byte : (k x : List ℕ) (d : ℕ) → Bytes 16 x → (bl2 k (withByte d (without8 (bl1 k x))) ≡ part 0 15 x) ↔ (d ≡ x ! 15)
+  pub of-all : (k x : List ℕ) → Bytes 16 x → (bl2 k (bl1 k x) ≡ part 0 15 x) ↔ (bl1 k x ! 7 ≡ x ! 15)
+  pub not-always : (k : List ℕ) → (x : List ℕ) × Bytes 16 x × (bl2 k (bl1 k x) ≡ part 0 15 x → ⊥)
+
+-- ---- changes
+
+-- equal-changes: "Two equal changes in one group are noticed." Of BL2's output with no check failed, two bytes of one group, both ⊕ d: no
+-- check fails again, but for the fifth of kinds 2 and 5, which fails exactly if one of the two is the number byte and d has one of its top
+-- three bits (or a higher one)
+
+-- the number, from 0, of the group of these sizes in which place i stands; the inserted byte is the last of its group
+abbrev pub groupAt : List ℕ → ℕ → ℕ
+groupAt [] i = 0
+groupAt (n ∷ ns) i = choose (leb i n) 0 (suc (groupAt ns (i - suc n)))
+
+-- the number byte stands at place 13
+abbrev pub topBits : Algorithm → (i j d : ℕ) → Bool
+topBits Ta31 i j d = false
+topBits Ta51 i j d = (eqb i 13 || eqb j 13) && leb 32 d
+topBits Ta81 i j d = false
+topBits Ta91 i j d = false
+
+abbrev pub EqualChanges : Type 0
+EqualChanges = (a : Algorithm) (u : List ℕ) (i j d : ℕ) → failed (formOf a) u ≡ 0 → (i ≡ j → ⊥) → groupAt (groupsOf a) i ≡ groupAt (groupsOf a) j
+    → failed (formOf a) (changed 15 j d (changed 15 i d u)) ≡ choose (topBits a i j d) fifthAlone 0
+
+-- every-bit: "A key's every bit changes the whole text." A change of one of the key's bytes from the seventh on, for kinds 3, 4 and 6 from
+-- the eighth on, up to the tenth, leaves the first seven bytes of the text as they were: those before stand in the left block of BL1's
+-- input, and these do not. The changed body is a legal one, too; d is a byte, or it would not be
+abbrev pub inLeftBlock : Algorithm → ℕ
+inLeftBlock Ta31 = 6
+inLeftBlock Ta51 = 6
+inLeftBlock Ta81 = 7
+inLeftBlock Ta91 = 7
+
+pub record FrontKept (a : Algorithm) (s : List ℕ) (v : Version) (b c : List ℕ) : Type 0 where
+  pub legal : Legal a c
+  pub front : part 0 7 (sealBody a c v s .bytes) ≡ part 0 7 (sealBody a b v s .bytes)
+
+abbrev pub EveryBit : Type 0
+EveryBit = (a : Algorithm) (s : List ℕ) (v : Version) (b : List ℕ) (i d : ℕ) → length s ≡ sealingSize a → Legal a b
+    → inLeftBlock a ≤ i → i < 10 → d < 256 → FrontKept a s v b (changed 12 i d b)
+
+-- last-eight: "A change in the last eight bytes of a text is always noticed." Beside every text that opens there is another that opens and
+-- has the same first seven bytes
+pub record LastEightChanged (a : Algorithm) (s : List ℕ) (v : Version) (t u : List ℕ) : Type 0 where
+  pub opens : Opens a s v u
+  pub front : part 0 7 u ≡ part 0 7 t
+  pub other : u ≡ t → ⊥
+
+abbrev pub LastEight : Type 0
+LastEight = (a : Algorithm) (s : List ℕ) (v : Version) (t : List ℕ) → Opens a s v t → (u : List ℕ) × LastEightChanged a s v t u
 
 -- ---- sealing key and version enter by their ⊕ alone
 
@@ -100,6 +178,19 @@ pub record OtherRing (r p x : List ℕ) : Type 0 where
 
 abbrev pub RingAndVersions : Type 0
 RingAndVersions = (r p x : List ℕ) → Bytes ringSize r → WellFormed p → Bytes 2 x → OtherRing r p x
+
+-- ---- sealing keys
+
+-- other-keys-other-texts: "Other sealing keys give other texts." For kinds 2 to 6, every version and every legal body: of the 256^16 sealing
+-- keys two give the same text, since there are 256^15 texts. Kind 1 has 256^10 sealing keys, and nothing is claimed of it
+pub record KeysAlike (a : Algorithm) (v : Version) (b s s′ : List ℕ) : Type 0 where
+  pub bytes : Bytes 16 s
+  pub bytes′ : Bytes 16 s′
+  pub other : s ≡ s′ → ⊥
+  pub same : sealBody a b v s ≡ sealBody a b v s′
+
+abbrev pub TwoKeys : Type 0
+TwoKeys = (a : Algorithm) (v : Version) (b : List ℕ) → sealingSize a ≡ 16 → Legal a b → (s : List ℕ) × (s′ : List ℕ) × KeysAlike a v b s s′
 
 -- ---- examples, all of kind 3
 
@@ -147,8 +238,8 @@ pub record OneBit : Type 0 where
 -- ---- records
 
 -- 13a: "The flag protects the identity." A record that opens goes on opening with any other three bytes as its encrypted identity (and one
--- that does not goes on not opening): to another identity, with the same kind, version and body. Ring and record have to consist of bytes,
--- so that TA61 can be undone
+-- that does not goes on not opening): to another identity, with the same kind, version and body. The flag is worked from kind, version, the
+-- sealing key and the text. Ring and record have to consist of bytes, so that TA61 can be undone
 
 abbrev pub withIdentity : List ℕ → List ℕ → List ℕ
 withIdentity x t = part 0 1 t ++ part 0 3 x ++ part 4 17 t
@@ -162,8 +253,8 @@ pub record OtherIdentity (r t x : List ℕ) : Type 0 where
 abbrev pub IdentityFree : Type 0
 IdentityFree = (r t x : List ℕ) → Bytes ringSize r → Bytes sealedSize t → Bytes 3 x → (x ≡ part 1 3 t → ⊥) → OtherIdentity r t x
 
--- 13b: "A text belongs to the record in which it stands." Two records of the same kind and version may exchange their texts: each opens to
--- its own identity with the other's body. Said of t with u's text; of u with t's it is the same
+-- 13b: "Of records of the same kind and version, a text belongs to the one in which it stands." Two such records may exchange their texts:
+-- each opens to its own identity with the other's body. Said of t with u's text; of u with t's it is the same
 
 abbrev pub withText : List ℕ → List ℕ → List ℕ
 withText u t = part 0 6 t ++ part 6 15 u
@@ -171,3 +262,13 @@ withText u t = part 0 6 t ++ part 6 15 u
 abbrev pub TextsExchanged : Type 0
 TextsExchanged = (r t u : List ℕ) → t ! 0 ≡ u ! 0 → part 4 2 t ≡ part 4 2 u
     → (openFault r (withText u t) ≡ openFault r u) × (openRecord r (withText u t) ≡ part 0 6 (openRecord r t) ++ part 6 12 (openRecord r u))
+
+-- sealed-twice: "The same key sealed twice gives another text." Two plain records of the same kind, version and body have the same text in
+-- their sealed records under a ring, whatever their identities; and so in sealed books, at whatever places
+abbrev pub Alike : List ℕ → List ℕ → Type 0
+Alike p q = (p ! 0 ≡ q ! 0) × (part 4 14 p ≡ part 4 14 q)
+
+pub record SealedTwice : Type 0 where
+  pub records : (r p q : List ℕ) → Alike p q → part 6 15 (sealRecord r p) ≡ part 6 15 (sealRecord r q)
+  pub books : (r p q : List ℕ) (i j : ℕ) → i < length p / plainSize → j < length q / plainSize → Alike (recordAt plainSize p i) (recordAt plainSize q j)
+      → part 6 15 (recordAt sealedSize (sealedForm r p) i) ≡ part 6 15 (recordAt sealedSize (sealedForm r q) j)

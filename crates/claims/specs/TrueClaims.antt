@@ -7,7 +7,7 @@ use Prim.Native.Nat.{ℕ, _*_, _/_, _^_, _<_, _≤_}
 use lib.Dec.{eqb}
 use lib.ListN.{length, take, drop}
 use Rattle.standard.specs.Books.{plainFault, sealRecord, openFault, openRecord, openBook}
-use Rattle.standard.specs.Bytes.{_!_, _⊕_, part, table, choose, Bytes}
+use Rattle.standard.specs.Bytes.{_!_, _⊕_, bit, part, table, choose, Bytes}
 use Rattle.standard.specs.Cores.{bl1}
 use Rattle.standard.specs.BooksFacts.{IsSealedForm}
 use Rattle.standard.specs.SealsFacts.{sealBody}
@@ -18,8 +18,8 @@ use Rattle.standard.specs.declared.Algorithm.{Algorithm}
 use Rattle.standard.specs.declared.Algorithm.the-variants.{Ta31, Ta51, Ta81, Ta91}
 use Rattle.standard.specs.declared.KeyNumber.{KeyNumber}
 use Rattle.standard.specs.declared.Version.{Version}
-use Rattle.claims.specs.Entries.{Only, OfOne, ExactlyOne, Count, Legal, Opens}
-use Rattle.claims.specs.Variants.{ta52WithoutBits}
+use Rattle.claims.specs.Entries.{Only, OfOne, ExactlyOne, Count, Legal, Opens, ZeroAt, SameText}
+use Rattle.claims.specs.Variants.{ta52WithoutBits, bl1Unchained}
 
 -- 1: "Decryption undoes encryption." And encryption undoes decryption. The lengths are those that the calls take; others are refused
 -- with 11
@@ -38,6 +38,12 @@ pub record Shared : Type 0 where
   pub one-each : (k t : List ℕ) → Bytes 15 t → (d : ℕ) → d < 256 → ExactlyOne (λ x. Bytes 16 x × (without8 (bl1 k x) ≡ t) × (bl1 k x ! 7 ≡ d))
   pub in-all : (k t : List ℕ) → Bytes 15 t → Count 256 (λ x. Bytes 16 x × (without8 (bl1 k x) ≡ t))
 
+-- chaining: "The chaining brings the dropped byte back." With it no other input that ends in a zero byte gives the same text; without it
+-- exactly 256 such inputs give each text that one of them gives. Under every key
+pub record Chaining : Type 0 where
+  pub chained : (k x : List ℕ) → ZeroAt 15 x → Only (SameText (bl1 k) 15 x) x
+  pub unchained : (k x : List ℕ) → ZeroAt 15 x → Count 256 (SameText (bl1Unchained k) 15 x)
+
 -- 3: "The checks pass exactly on the expansions of legal bodies, and shrinking gives the body." Said of BL2's output, 15 bytes: with a
 -- zero byte after them they are BL1's input of one body alone. What is no string of bytes may pass the checks and be no expansion
 abbrev pub ChecksExactly : Type 0
@@ -50,14 +56,27 @@ abbrev pub OneText : Type 0
 OneText = (a : Algorithm) (s : List ℕ) (v : Version) (t : List ℕ)
     → OfOne (Opens a s v t) (λ b. Legal a b × (sealBody a b v s ≡ record { refusal = 0; bytes = t })) (unsealCall a t s v .body)
 
--- 4b: "A sealed record opens exactly if it is the sealed form of a plain record, of one and no other, its identity included." Here the
--- ring has to consist of bytes, since those of C go into the identity, and so has the record, whose identity else comes from no other
+-- entries-never-share: "Two entries never share a text." For a given kind, ring and version. The sealing key has its length, or both
+-- would be refused alike
+abbrev pub EntriesApart : Type 0
+EntriesApart = (a : Algorithm) (s : List ℕ) (v : Version) (b c : List ℕ) → length s ≡ sealingSize a → Legal a b → Legal a c
+    → sealBody a b v s ≡ sealBody a c v s → b ≡ c
+
+-- texts-never-share: "Two texts never open to one entry." For a given kind, ring and version
+abbrev pub TextsApart : Type 0
+TextsApart = (a : Algorithm) (s : List ℕ) (v : Version) (t u : List ℕ) → Opens a s v t → Opens a s v u
+    → unsealCall a t s v .body ≡ unsealCall a u s v .body → t ≡ u
+
+-- 4b: "Under a given ring a sealed record opens exactly if it is the sealed form of a plain record, of one and no other, its identity
+-- included." The ring has to consist of bytes, since those of C go into the identity, and so has the record, whose identity else comes from
+-- no other
 abbrev pub OneRecord : Type 0
 OneRecord = (r t : List ℕ) → Bytes ringSize r → Bytes sealedSize t
     → OfOne (openFault r t ≡ 0) (λ p. Bytes plainSize p × (plainFault p ≡ 0) × (sealRecord r p ≡ t)) (openRecord r t)
 
--- 4c: "A book opens exactly if it is what sealing makes of a well-formed plain book, of one and no other." Whatever its length; that one is
--- what opening writes. Ring and book consist of bytes, as in 4b; the output has to be long enough, or opening is refused with 12
+-- 4c: "Under a given ring a book opens exactly if it is what sealing makes of a well-formed plain book, of one and no other." Whatever its
+-- length; that one is what opening writes. Ring and book consist of bytes, as in 4b; the output has to be long enough, or opening is
+-- refused with 12
 abbrev pub OneBook : Type 0
 OneBook = (r s out : List ℕ) → Bytes ringSize r → ((i : ℕ) → s ! i < 256) → plainSize * (length s / sealedSize) ≤ length out
     → OfOne (openBook r s out .0 .refusal ≡ 0) (λ p. IsSealedForm r p s) (take (openBook r s out .0 .written) (openBook r s out .1))
@@ -113,6 +132,21 @@ pub record EightWithout : Type 0 where
   pub not-back : (s : List ℕ) (v : Version) (t : List ℕ) → length s ≡ 16 → ta52Call t s v .«failed_checks» ≡ fifthAlone
       → (ck : List ℕ) (n : KeyNumber) → Bytes 10 ck → n .0 ≤ 31 → ta51Call ck v s n .bytes ≡ t → ⊥
 
+-- without-any-check: "Without any check exactly 256^5 texts (kind 1), 8 · 256^4 (kinds 2 and 5), 256^3 (kinds 3, 4 and 6) unseal to one
+-- entry." To each legal body; one of them is its sealed text. For kinds 2 and 5 it is 256^4 if the fifth check, of the three zero bits, is
+-- still made: bit 4 of the failed checks is that one's
+abbrev pub unsealingAlike : Algorithm → ℕ
+unsealingAlike Ta31 = 256 ^ 5
+unsealingAlike Ta51 = 8 * 256 ^ 4
+unsealingAlike Ta81 = 256 ^ 3
+unsealingAlike Ta91 = 256 ^ 3
+
+pub record WithoutChecks : Type 0 where
+  pub of-any : (a : Algorithm) (s : List ℕ) (v : Version) (b : List ℕ) → length s ≡ sealingSize a → Legal a b
+      → Count (unsealingAlike a) (λ t. Bytes 15 t × (unsealCall a t s v .body ≡ b))
+  pub of-inserted : (s : List ℕ) (v : Version) (b : List ℕ) → length s ≡ 16 → Legal Ta51 b
+      → Count (256 ^ 4) (λ t. Bytes 15 t × (unsealCall Ta51 t s v .body ≡ b) × (bit 4 (unsealCall Ta51 t s v .«failed_checks») ≡ 0))
+
 -- 7a: "A change of one byte, of a text's first seven, goes into the right part of BL2's output as it is." Whether the text opens or not.
 -- The change is byte i ⊕ d; i counts from 0 at the left
 abbrev pub changed : (n i d : ℕ) → List ℕ → List ℕ
@@ -121,9 +155,9 @@ changed n i d xs = table n (λ j. choose (eqb j i) (xs ! j ⊕ d) (xs ! j))
 abbrev pub Carried : Type 0
 Carried = (k t : List ℕ) (i d : ℕ) → i < 7 → part 8 7 (opened k (changed 15 i d t)) ≡ changed 7 i d (part 8 7 (opened k t))
 
--- 7b: "The flag notices each change of one byte from the second to the seventh for kind 1, from the fourth for kinds 2 and 5, from the
--- third for kinds 3, 4 and 6." There the byte's group stands wholly in the right part of BL2's output. A d of 0 would be no change. Of the
--- other bytes nothing is claimed: 12 has a change of the second byte of kind 3 that the flag does not notice
+-- 7b: "Of a text that opens, the flag notices each change of one byte from the second to the seventh for kind 1, from the fourth for kinds
+-- 2 and 5, from the third for kinds 3, 4 and 6." There the byte's group stands wholly in the right part of BL2's output. A d of 0 would be
+-- no change. Of the other bytes nothing is claimed: 12 has a change of the second byte of kind 3 that the flag does not notice
 abbrev pub noticedFrom : Algorithm → ℕ
 noticedFrom Ta31 = 1
 noticedFrom Ta51 = 3
@@ -133,3 +167,7 @@ noticedFrom Ta91 = 2
 abbrev pub Noticed : Type 0
 Noticed = (a : Algorithm) (s : List ℕ) (v : Version) (t : List ℕ) (i d : ℕ) → Opens a s v t
     → noticedFrom a ≤ i → i < 7 → (d ≡ 0 → ⊥) → unsealCall a (changed 15 i d t) s v .«failed_checks» ≡ 0 → ⊥
+
+-- one-byte-of-output: "One changed byte of BL2's output is always noticed." Of an output of which no check fails. A d of 0 would be no change
+abbrev pub OneOfOutput : Type 0
+OneOfOutput = (a : Algorithm) (u : List ℕ) (i d : ℕ) → failed (formOf a) u ≡ 0 → i < 15 → (d ≡ 0 → ⊥) → failed (formOf a) (changed 15 i d u) ≡ 0 → ⊥

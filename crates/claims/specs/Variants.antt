@@ -1,5 +1,5 @@
--- The four mistakes that 01 lists, each as a wrong variant beside the right definition (docs/ARGUMENT.md, 14): an input on which the
--- variant answers otherwise, and what would be false if the engine did so.
+-- Wrong variants beside the right definitions. The four mistakes that 01 lists (docs/ARGUMENT.md, 14): an input on which the variant answers
+-- otherwise, and what would be false if the engine did so. And BL1 without chaining, of which another claim speaks.
 use mathlib.Core.Bool.{_&&_, not}
 use mathlib.Core.List.{List, [], _∷_, _++_}
 use mathlib.Core.Path.{_≡_}
@@ -9,6 +9,7 @@ use lib.ListN.{length}
 use Rattle.standard.specs.Bytes.{_!_, _⊕_, table, part, bytesOf, Bytes}
 use Rattle.standard.specs.Cores.{bl1, bl2}
 use Rattle.standard.specs.BooksFacts.{Demand3}
+use Rattle.standard.specs.Hurdle.{encrypt}
 use Rattle.standard.specs.Keys.{half, ring, ta22Call, ta12Call, ta41Call}
 use Rattle.standard.specs.Expansions.{inserted, expected, exp3Groups, xorOf, exp1, exp2}
 use Rattle.standard.specs.Mixing.{tb4, tb7}
@@ -138,3 +139,8 @@ pub record StillHolds : Type 0 where
   pub right : (x : RingInputs) → ringWith exp2 (λ c. c) x ≡ ring x
   pub challenge-reversed : (x : RingInputs) → InputBytes x → HoldsOf (ringWith exp2 reversed x)
   pub last-byte-xored : (x : RingInputs) → InputBytes x → HoldsOf (ringWith exp2ByXor (λ c. c) x)
+
+-- ---- BL1 without chaining: each block encrypted by itself (right: `bl1`, which takes the left output into the right block)
+
+unfoldable pub bl1Unchained : List ℕ → List ℕ → List ℕ
+bl1Unchained k x = part 0 8 (encrypt k (part 0 8 x)) ++ part 0 8 (encrypt k (part 8 8 x))
