@@ -12,6 +12,7 @@ pub mod EntryClaims
 pub mod CountClaims
 pub mod FlagClaims
 pub mod BitsClaims
+pub mod UncheckedClaims
 pub mod ChangeClaims
 pub mod KindClaims
 pub mod KeyClaims
