@@ -33,7 +33,7 @@ last-left-out Ta81 u x = refl
 last-left-out Ta91 u x = refl
 
 -- x ⊕ 1 is not x
-not-itself : (x : ℕ) → x ≡ x ⊕ 1 → ⊥
+pub not-itself : (x : ℕ) → x ≡ x ⊕ 1 → ⊥
 not-itself x e =
     let z : _≡_ {A = ℕ} 0 1 = sym (xor-self x) ∙ ap (_⊕_ x) e ∙ xor-cancel-l x 1 in
     omega arith

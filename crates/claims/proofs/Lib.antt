@@ -11,6 +11,7 @@ pub mod DroppedClaims
 pub mod EntryClaims
 pub mod CountClaims
 pub mod FlagClaims
+pub mod FrontClaims
 pub mod BitsClaims
 pub mod UncheckedClaims
 pub mod ChangeClaims

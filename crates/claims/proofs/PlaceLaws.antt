@@ -6,7 +6,7 @@ use Rattle.standard.proofs.BytesLaws.{table-at, table-same, spell, bytes-table}
 use Rattle.standard.proofs.InverseLaws.{Inverse}
 use Rattle.claims.specs.Entries.{ZeroAt}
 
-choose-byte : (t : Bool) (x y : ℕ) → x < 256 → y < 256 → choose t x y < 256
+pub choose-byte : (t : Bool) (x y : ℕ) → x < 256 → y < 256 → choose t x y < 256
 choose-byte true x y hx hy = hx
 choose-byte false x y hx hy = hy
 
