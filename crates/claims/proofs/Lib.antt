@@ -6,6 +6,7 @@ pub mod PlaceLaws
 pub mod ChangeLaws
 pub mod GroupLaws
 pub mod CipherClaims
+pub mod RoundClaims
 pub mod CoreClaims
 pub mod DroppedClaims
 pub mod EntryClaims
