@@ -1,11 +1,14 @@
--- The flag is of the text alone: it knows neither the identity of a record nor whose text it is.
-use Rattle.standard.proofs.Prelude.{_≡_, refl, sym, ap, _∙_, List, ℕ}
-use Rattle.standard.specs.Books.{commonKey, openFault, openRecord}
+-- The flag is of the text alone: it knows neither the identity of a record nor whose text it is. Nor does the text.
+use Rattle.standard.proofs.Prelude.{_≡_, refl, sym, ap, ap₂, _∙_, List, ℕ}
+use Rattle.standard.specs.Books.{sealingKey, commonKey, named, sealRecord, openFault, openRecord}
 use Rattle.standard.specs.Bytes.{part, Bytes}
 use Rattle.standard.specs.Identity.{ta61, ta61⁻¹}
+use Rattle.standard.specs.Seals.{kindOf, form, seal}
+use Rattle.standard.specs.declared.Kind.{Kind}
 use Rattle.standard.proofs.BytesLaws.{spell, bytes-part}
 use Rattle.standard.proofs.IdentityLaws.{identity-law}
-use Rattle.claims.specs.FalseClaims.{IdentityFree, TextsExchanged}
+use Rattle.claims.specs.FalseClaims.{IdentityFree, TextsExchanged, Alike, SealedTwice}
+use Rattle.claims.proofs.RingClaims.{sealed-at}
 
 -- other bytes, another identity
 other-identity : (a x y : List ℕ) → Bytes 10 a → Bytes 3 x → Bytes 3 y → part 0 3 (ta61⁻¹ a x) ≡ part 0 3 (ta61⁻¹ a y) → x ≡ y
@@ -27,3 +30,15 @@ identity-free r t x hr ht hx other = record {
 pub texts-exchanged : TextsExchanged
 unfolding openFault openRecord
 texts-exchanged r t u e₀ e₁ = rw (e₀, e₁) (refl, refl)
+
+-- a text is made of kind, version and body
+same-text : (r p q : List ℕ) → Alike p q → part 6 15 (sealRecord r p) ≡ part 6 15 (sealRecord r q)
+unfolding sealRecord
+same-text r p q e =
+    ap₂ (λ (x : ℕ) (y : List ℕ). let k : Kind = named (kindOf x) in part 0 15 (seal (form k) (sealingKey k r) (part 0 2 y) (part 2 12 y))) (e .0) (e .1)
+
+pub sealed-twice : SealedTwice
+sealed-twice = record {
+  records = same-text;
+  books = λ r p q i j hi hj e. ap (part 6 15) (sealed-at r p i hi) ∙ same-text r _ _ e ∙ sym (ap (part 6 15) (sealed-at r q j hj));
+}

@@ -1,15 +1,21 @@
--- Sealing key and version enter by their ⊕ alone.
-use Rattle.standard.proofs.Prelude.{_≡_, refl, sym, ap, _∙_, List, ℕ, arith, xor-comm, xor-self, length, eq-eqb}
-use Rattle.standard.specs.Bytes.{_!_, _⊕_}
+-- Sealing key and version enter by their ⊕ alone; and there are more sealing keys than texts.
+use Rattle.standard.proofs.Prelude.{_≡_, refl, sym, ap, _∙_, List, ℕ, suc, _^_, _<_, arith, xor-comm, xor-self, length, eq-eqb}
+use native.Mathlib.Nat.{one-le-pow, pow-suc}
+use Rattle.standard.specs.Bytes.{_!_, _⊕_, Bytes}
 use Rattle.standard.specs.SealsFacts.{sealBody}
 use Rattle.standard.specs.Seals.{formOf, failed, key10, key16, sealed, opened, seal, unseal, fails}
 use Rattle.standard.specs.Seals.{sealingSize, sealCall, unsealCall}
 use Rattle.standard.specs.declared.Algorithm.{Algorithm}
 use Rattle.standard.specs.declared.Algorithm.the-variants.{Ta31, Ta51, Ta81, Ta91}
 use Rattle.standard.specs.declared.Version.{Version}
+use Rattle.standard.proofs.CallPairLaws.{sealed-by}
+use Rattle.standard.proofs.SealLaws.{sealing}
 use Rattle.standard.proofs.XorLaws.{xor-assoc, xor-cancel-l, xor-cancel-r}
-use Rattle.claims.specs.FalseClaims.{otherKey, KeyAndVersion}
-use Rattle.claims.proofs.TermLaws.{pair}
+use Rattle.claims.specs.FalseClaims.{otherKey, KeyAndVersion, TwoKeys}
+use Rattle.claims.proofs.NumberLaws.{numbered}
+use Rattle.claims.proofs.OnlyLaws.{counted}
+use Rattle.claims.proofs.PigeonholeLaws.{two-alike}
+use Rattle.claims.proofs.TermLaws.{pair, legal-body}
 
 -- what the other key has of both versions: one goes, the other stays
 exchanged : (s v w : ℕ) → w ⊕ (s ⊕ (v ⊕ w)) ≡ v ⊕ s
@@ -83,3 +89,26 @@ key-and-version a s v w hs = record {
   unseals = same-unsealing a s v w hs;
   another = λ hv hw other e. let z = same-version a s v w e in other (omega (arith, z .0, z .1));
 }
+
+-- ---- more keys than texts
+
+more-bytes : (n : ℕ) → 256 ^ n < 256 ^ suc n
+more-bytes n = let e = pow-suc 256 n in omega (arith, one-le-pow n 256 (omega arith))
+
+pub two-keys : TwoKeys
+two-keys a v b size h =
+    let text : List ℕ → List ℕ = λ s. seal (formOf a) s (pair v) b in
+    let body = legal-body a b .0 h in
+    let t = two-alike (counted (numbered 16)) (counted (numbered 15)) (more-bytes 15) text (λ s l. sealing a s (pair v) .to b body .bytes) in
+    let s = t .0 in
+    let s′ = t .1 in
+    let by : (x : List ℕ) → Bytes 16 x → sealBody a b v x ≡ record { refusal = 0; bytes = text x } = λ x l. sealed-by a x v (l .len ∙ sym size) b body in (
+      s,
+      s′,
+      record {
+        bytes = t .2;
+        bytes′ = t .3;
+        other = t .4;
+        same = by s (t .2) ∙ ap (λ (x : List ℕ). record { refusal = 0; bytes = x }) (t .5) ∙ sym (by s′ (t .3));
+      },
+    )

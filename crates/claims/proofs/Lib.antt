@@ -2,6 +2,7 @@ pub mod OnlyLaws
 pub mod TermLaws
 pub mod BlockLaws
 pub mod NumberLaws
+pub mod PigeonholeLaws
 pub mod PlaceLaws
 pub mod ChangeLaws
 pub mod GroupLaws

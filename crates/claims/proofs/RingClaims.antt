@@ -50,7 +50,14 @@ module _ (x r : List ℕ) where
   unfolding sealRecord seal
   same-record p = rw (same-core (part 4 2 p) (p ! 0))
 
--- ---- a book: p with the other versions is p′, its sealed form under the ring r is s
+-- ---- a book
+
+-- a record of a sealed form is the sealed record of the plain one
+pub sealed-at : (r p : List ℕ) (i : ℕ) → i < length p / plainSize → recordAt sealedSize (sealedForm r p) i ≡ sealRecord r (recordAt plainSize p i)
+unfolding sealedForm sealRecord
+sealed-at r p i h = joined-at sealedSize (λ j. sealRecord r (recordAt plainSize p j)) (length p / plainSize) (λ j l. refl) i h
+
+-- p with the other versions is p′, its sealed form under the ring r is s
 
 module _ (r p x : List ℕ) (hr : Bytes ringSize r) (w : WellFormed p) (hx : Bytes 2 x) where
   abbrev n : ℕ
@@ -85,10 +92,6 @@ module _ (r p x : List ℕ) (hr : Bytes ringSize r) (w : WellFormed p) (hx : Byt
   unfolding sealedForm sealRecord
   s-length = joined-length sealedSize (λ i. sealRecord r (recordAt plainSize p i)) n (λ i l. refl)
 
-  s-at : (i : ℕ) → i < n → recordAt sealedSize (sealedForm r p) i ≡ sealRecord r (recordAt plainSize p i)
-  unfolding sealedForm sealRecord
-  s-at i h = joined-at sealedSize (λ i. sealRecord r (recordAt plainSize p i)) n (λ i l. refl) i h
-
   -- as many records
   s-count : length (sealedForm r p) / sealedSize ≡ n
   s-count = omega (arith, s-length)
@@ -118,7 +121,7 @@ module _ (r p x : List ℕ) (hr : Bytes ringSize r) (w : WellFormed p) (hx : Byt
   same-form =
       ap (λ (m : ℕ). each m plainSize (sealRecord (otherRing x r)) p′) p′-count
       ∙ joined-same n (λ i. sealRecord (otherRing x r) (recordAt plainSize p′ i)) (λ i. otherVersion sealedSize x (recordAt sealedSize (sealedForm r p) i))
-      (λ i h. ap (sealRecord (otherRing x r)) (p′-at i h) ∙ same-record x r (recordAt plainSize p i) ∙ ap (otherVersion sealedSize x) (sym (s-at i h)))
+      (λ i h. ap (sealRecord (otherRing x r)) (p′-at i h) ∙ same-record x r (recordAt plainSize p i) ∙ ap (otherVersion sealedSize x) (sym (sealed-at r p i h)))
       ∙ ap (λ (m : ℕ). each m sealedSize (otherVersion sealedSize x) (sealedForm r p)) (sym s-count)
 
   -- x ⊕ a byte is that byte only if x is 0
