@@ -10,32 +10,14 @@ use Rattle.standard.specs.Seals.{formOf, failed}
 use Rattle.standard.specs.SealsFacts.{groupsOf}
 use Rattle.standard.specs.declared.Algorithm.{Algorithm}
 use Rattle.standard.specs.declared.Algorithm.the-variants.{Ta31, Ta51, Ta81, Ta91}
-use Rattle.standard.proofs.BytesLaws.{same-eq, same-refl}
+use Rattle.standard.proofs.BytesLaws.{same-refl}
 use Rattle.standard.proofs.CheckLaws.{clear-same}
-use Rattle.standard.proofs.ExpansionLaws.{full}
 use Rattle.claims.specs.FalseClaims.{groupAt, topBits, EqualChanges}
 use Rattle.claims.specs.TrueClaims.{fifthAlone, changed, OneOfOutput}
 use Rattle.claims.specs.Variants.{formWithoutBits}
 use Rattle.claims.proofs.BitsClaims.{four-pass, fifth}
 use Rattle.claims.proofs.ChangeLaws.{changed-here, changed-elsewhere}
-use Rattle.claims.proofs.GroupLaws.{Even, right-even, even-right, no-change, alike}
-
--- what the check finds is what it wants, if none fails
-found-wanted : (a : Algorithm) (u : List ℕ) → failed (formOf a) u ≡ 0 → formOf a .found u ≡ formOf a .wanted u
-found-wanted a u z = same-eq (formOf a .found u) (formOf a .wanted u) (sym (clear-same a u) ∙ eq-eqb _ 0 z)
-
--- so the groups are right
-groups-even : (a : Algorithm) (u : List ℕ) → failed (formOf a) u ≡ 0 → Even (groupsOf a) 0 u
-groups-even Ta31 u z = right-even exp1Groups 0 u (found-wanted Ta31 u z)
-groups-even Ta51 u z = right-even exp3Groups 0 u (ap (part 0 4) (found-wanted Ta51 u z))
-groups-even Ta81 u z = right-even x16Groups 0 u (found-wanted Ta81 u z)
-groups-even Ta91 u z = right-even x16Groups 0 u (found-wanted Ta91 u z)
-
-fifteen : (a : Algorithm) → full (groupsOf a) ≡ 15
-fifteen Ta31 = refl
-fifteen Ta51 = refl
-fifteen Ta81 = refl
-fifteen Ta91 = refl
+use Rattle.claims.proofs.GroupLaws.{Even, even-right, found-wanted, groups-even, fifteen, no-change, alike}
 
 pub one-of-output : OneOfOutput
 one-of-output a u i d z h other z′ =

@@ -12,10 +12,9 @@ use Rattle.standard.specs.Seals.{sealingSize, formOf, failed, seal, unseal, uns
 use Rattle.standard.specs.Sizes.{ringSize, plainSize, sealedSize}
 use Rattle.standard.specs.declared.Algorithm.{Algorithm}
 use Rattle.standard.specs.declared.Bytes15.{Bytes15}
-use Rattle.standard.specs.declared.UnsealedBody.{UnsealedBody}
 use Rattle.standard.specs.declared.Version.{Version}
 use Rattle.standard.proofs.BytesLaws.{spelled, spell, part-left}
-use Rattle.standard.proofs.CallPairLaws.{sealed-by, unsealed-by}
+use Rattle.standard.proofs.CallPairLaws.{sealed-by}
 use Rattle.standard.proofs.CheckLaws.{clear-same}
 use Rattle.standard.proofs.Demand3Laws.{demand3}
 use Rattle.standard.proofs.InverseLaws.{Inverse, reversed}
@@ -24,7 +23,7 @@ use Rattle.standard.proofs.SealLaws.{Body, form-law, sealing}
 use Rattle.claims.specs.Entries.{OfOne, Legal, Opens}
 use Rattle.claims.specs.TrueClaims.{ChecksExactly, OneText, EntriesApart, TextsApart, OneRecord, OneBook, RecordAlone}
 use Rattle.claims.proofs.OnlyLaws.{of-image, apart, of-one-same, inverse-same}
-use Rattle.claims.proofs.TermLaws.{pair, legal-body, sealing-size, unsealing-size, opens-clear}
+use Rattle.claims.proofs.TermLaws.{pair, legal-body, sealing-size, unsealing-size, text-by, body-by, opens-clear}
 
 -- ---- texts
 
@@ -40,7 +39,7 @@ taken : (a : Algorithm) (s : List ℕ) (v : Version) (t : List ℕ) → length s
     → OfOne (Opens a s v t) (λ b. Legal a b × (sealBody a b v s ≡ record { refusal = 0; bytes = t })) (unsealCall a t s v .body)
 taken a s v t hs =
     of-one-same (Iff·symm (opens-clear a s v t hs)) (seals-to a s v t hs)
-    (λ o. ap (λ (u : UnsealedBody). u .body) (sym (unsealed-by a s v hs t (o .bytes .len)))) (of-image (sealing a s (pair v)) t)
+    (λ o. sym (body-by a s v t hs (o .bytes .len))) (of-image (sealing a s (pair v)) t)
 
 pub one-text : OneText
 one-text a s v t = record {
@@ -58,16 +57,12 @@ entries a s v hs = inverse-same (λ b. Iff·symm (legal-body a b)) (λ t. Iff·s
 
 pub entries-apart : EntriesApart
 entries-apart a s v b c hs hb hc e =
-    let text : (x : List ℕ) → Legal a x → sealBody a x v s .bytes ≡ seal (formOf a) s (pair v) x =
-    λ x h. ap (λ (y : Bytes15). y .bytes) (sealed-by a s v hs x (legal-body a x .0 h)) in
-    apart (entries a s v hs) b c hb hc (sym (text b hb) ∙ ap (λ (y : Bytes15). y .bytes) e ∙ text c hc)
+    apart (entries a s v hs) b c hb hc (sym (text-by a s v hs b hb) ∙ ap (λ (x : Bytes15). x .bytes) e ∙ text-by a s v hs c hc)
 
 pub texts-apart : TextsApart
 texts-apart a s v t u ht hu e =
     let hs = unsealing-size a s v t (ht .accepted) in
-    let body : (x : List ℕ) → Opens a s v x → unsealCall a x s v .body ≡ unseal (formOf a) s (pair v) x =
-    λ x h. ap (λ (y : UnsealedBody). y .body) (unsealed-by a s v hs x (h .bytes .len)) in
-    apart (reversed (entries a s v hs)) t u ht hu (sym (body t ht) ∙ e ∙ body u hu)
+    apart (reversed (entries a s v hs)) t u ht hu (sym (body-by a s v t hs (ht .bytes .len)) ∙ e ∙ body-by a s v u hs (hu .bytes .len))
 
 -- ---- the checks of BL2's output
 

@@ -3,25 +3,26 @@ use Rattle.standard.proofs.Prelude.{_≡_, refl, sym, ap, _∙_, subst, Bool, t
 use Rattle.standard.proofs.Prelude.{xor-self, xor-zero-r, ltb, length, eqb-true, eq-eqb, le-leb, ltb-true, ltb-false}
 use Rattle.standard.specs.Bytes.{_!_, _⊕_, part, xors, Bytes}
 use Rattle.standard.specs.Cores.{bl2}
-use Rattle.standard.specs.Expansions.{xorOf, exp1Groups, exp3Groups, x16Groups, shr2}
+use Rattle.standard.specs.Expansions.{exp1Groups, exp3Groups, x16Groups, shr2}
 use Rattle.standard.specs.Hurdle.{decrypt}
 use Rattle.standard.specs.Seals.{sealingSize, unsealCall, formOf, failed, seal, unseal, fails, opened}
+use Rattle.standard.specs.SealsFacts.{groupsOf}
 use Rattle.standard.specs.declared.Algorithm.{Algorithm}
 use Rattle.standard.specs.declared.Algorithm.the-variants.{Ta31, Ta51, Ta81, Ta91}
-use Rattle.standard.specs.declared.Bytes15.{Bytes15}
 use Rattle.standard.specs.declared.UnsealedBody.{UnsealedBody}
 use Rattle.standard.specs.declared.Version.{Version}
 use Rattle.standard.proofs.BytesLaws.{table-same, same-eq, bytes-append, bytes-cons, bytes-part, bytes-one, bytes-zero}
-use Rattle.standard.proofs.CallPairLaws.{sealed-by, unsealed-by}
+use Rattle.standard.proofs.CallPairLaws.{unsealed-by}
 use Rattle.standard.proofs.CheckLaws.{clear-same}
 use Rattle.standard.proofs.CoreLaws.{sealCore, unsealCore, core}
-use Rattle.standard.proofs.ExpansionLaws.{bytes-ungrouped}
+use Rattle.standard.proofs.ExpansionLaws.{full, bytes-ungrouped}
 use Rattle.standard.proofs.SealLaws.{form-law, sealing}
 use Rattle.standard.proofs.XorLaws.{xor-cancel-l, xor-byte}
 use Rattle.claims.specs.Entries.{Legal}
 use Rattle.claims.specs.TrueClaims.{Another, UnsealsAllTheSame, changed, Carried, Noticed, noticedFrom}
-use Rattle.claims.proofs.ChangeLaws.{changed-elsewhere, changed-xors, xor-changed}
-use Rattle.claims.proofs.TermLaws.{pair, legal-body, unsealing-size, opened-bytes, failed-by}
+use Rattle.claims.proofs.ChangeLaws.{changed-elsewhere, changed-xors}
+use Rattle.claims.proofs.GroupLaws.{Even, no-change, groups-even}
+use Rattle.claims.proofs.TermLaws.{pair, legal-body, unsealing-size, text-by, opened-bytes, failed-by}
 
 -- ---- the last inserted byte changed
 
@@ -79,7 +80,7 @@ another a s v b hs h =
         same = ap (λ (x : UnsealedBody). x .body) c ∙ ap (formOf a .shrink) e ∙ spoilt-body a k b h;
         set = set;
         other = λ z.
-            let y : seal (formOf a) s (pair v) b ≡ t = ap (λ (x : Bytes15). x .bytes) (sym (sealed-by a s v hs b (legal-body a b .0 h))) ∙ z in
+            let y : seal (formOf a) s (pair v) b ≡ t = sym (text-by a s v hs b h) ∙ z in
             let p = sealing a s (pair v) .to b (legal-body a b .0 h) .passed in
             set (ap (λ (x : UnsealedBody). x .«failed_checks») c ∙ ap (fails (formOf a) s (pair v)) (sym y) ∙ eqb-true _ 0 p);
       },
@@ -123,52 +124,34 @@ carried k t i d h =
     ∙ changed-xors 7 15 i d (decrypt k (part 7 8 t)) t (omega arith)
     ∙ ap (changed 7 i d) (sym (right-part k t))
 
--- the groups that stand wholly in the right part: where each starts there, and how many bytes it has with its inserted byte
-abbrev rightGroups : Algorithm → List (ℕ × ℕ)
-rightGroups Ta31 = (1, 3) ∷ (4, 3) ∷ []
-rightGroups Ta51 = (3, 4) ∷ []
-rightGroups Ta81 = (2, 5) ∷ []
-rightGroups Ta91 = (2, 5) ∷ []
+-- the sizes of the groups that stand wholly in the right part; the first starts at the first byte whose change is noticed
+abbrev rightGroups : Algorithm → List ℕ
+rightGroups Ta31 = 2 ∷ 2 ∷ []
+rightGroups Ta51 = 3 ∷ []
+rightGroups Ta81 = 4 ∷ []
+rightGroups Ta91 = 4 ∷ []
 
--- the ⊕ of each is 0 ..
-abbrev Even : List (ℕ × ℕ) → List ℕ → Type 0
-Even [] w = Unit {0}
-Even (g ∷ gs) w = (xorOf (g .0) (g .1) w ≡ 0) × Even gs w
+to-the-end : (a : Algorithm) → noticedFrom a + full (rightGroups a) ≡ 7
+to-the-end Ta31 = refl
+to-the-end Ta51 = refl
+to-the-end Ta81 = refl
+to-the-end Ta91 = refl
 
--- .. if no check fails
-right-even : (a : Algorithm) (u : List ℕ) → failed (formOf a) u ≡ 0 → Even (rightGroups a) (part 8 7 u)
-right-even a u z = go a (same-eq (formOf a .found u) (formOf a .wanted u) (sym (clear-same a u) ∙ eq-eqb _ 0 z))
-  where
-    even : (x y : ℕ) → y ≡ x → x ⊕ y ≡ 0
-    even x y e = ap (_⊕_ x) e ∙ xor-self x
-
-    go : (a : Algorithm) → formOf a .found u ≡ formOf a .wanted u → Even (rightGroups a) (part 8 7 u)
-    go Ta31 e = (even (xorOf 9 2 u) (u ! 11) (ap (λ (l : List ℕ). l ! 3) e), (even (xorOf 12 2 u) (u ! 14) (ap (λ (l : List ℕ). l ! 4) e), tt))
-    go Ta51 e = (even (xorOf 11 3 u) (u ! 14) (ap (λ (l : List ℕ). l ! 3) e), tt)
-    go Ta81 e = (even (xorOf 10 4 u) (u ! 14) (ap (λ (l : List ℕ). l ! 2) e), tt)
-    go Ta91 e = (even (xorOf 10 4 u) (u ! 14) (ap (λ (l : List ℕ). l ! 2) e), tt)
-
--- a byte of such a group changed, and the ⊕ still 0: it was no change
-module _ (w : List ℕ) (i d : ℕ) where
-  no-change : (from n : ℕ) → xorOf from n w ≡ 0 → xorOf from n (changed 7 i d w) ≡ 0 → from ≤ i → i < from + n → from + n ≤ 7 → d ≡ 0
-  no-change from n e e′ a b h =
-      sym (xor-comm 0 d ∙ xor-zero-r d) ∙ ap (λ (x : ℕ). x ⊕ d) (sym e) ∙ sym (xor-changed 7 i d w from n a b h) ∙ e′
-
-  which-group : (a : Algorithm) → Even (rightGroups a) w → Even (rightGroups a) (changed 7 i d w) → noticedFrom a ≤ i → i < 7 → d ≡ 0
-  which-group Ta31 e e′ l h = go (ltb i 4) refl
-    where
-      go : (t : Bool) → ltb i 4 ≡ t → d ≡ 0
-      go true z = no-change 1 3 (e .0) (e′ .0) l (ltb-true i 4 z) (omega arith)
-      go false z = no-change 4 3 (e .1 .0) (e′ .1 .0) (ltb-false i 4 z) h (omega arith)
-  which-group Ta51 e e′ l h = no-change 3 4 (e .0) (e′ .0) l h (omega arith)
-  which-group Ta81 e e′ l h = no-change 2 5 (e .0) (e′ .0) l h (omega arith)
-  which-group Ta91 e e′ l h = no-change 2 5 (e .0) (e′ .0) l h (omega arith)
+-- the last two of kind 1's groups, and the last of the others'
+right-groups : (a : Algorithm) (u : List ℕ) → Even (groupsOf a) 0 u → Even (rightGroups a) (noticedFrom a) (part 8 7 u)
+right-groups Ta31 u e = e .1 .1 .1
+right-groups Ta51 u e = e .1 .1 .1
+right-groups Ta81 u e = e .1 .1
+right-groups Ta91 u e = e .1 .1
 
 pub noticed : Noticed
 unfolding fails
 noticed a s v t i d o l h other z =
     let hs = unsealing-size a s v t (o .accepted) in
     let k = formOf a .key s (pair v) in
-    let before = right-even a (opened k t) (sym (failed-by a s v t hs (o .bytes .len)) ∙ o .clear) in
-    let after = right-even a (opened k (changed 15 i d t)) (sym (failed-by a s v (changed 15 i d t) hs refl) ∙ z) in
-    other (which-group (part 8 7 (opened k t)) i d a before (subst (Even (rightGroups a)) (carried k t i d h) after) l h)
+    let w = part 8 7 (opened k t) in
+    let before = right-groups a (opened k t) (groups-even a (opened k t) (sym (failed-by a s v t hs (o .bytes .len)) ∙ o .clear)) in
+    let t′ = changed 15 i d t in
+    let after = right-groups a (opened k t′) (groups-even a (opened k t′) (sym (failed-by a s v t′ hs refl) ∙ z)) in
+    other (no-change 7 i d w (rightGroups a) (noticedFrom a) before (subst (Even (rightGroups a) (noticedFrom a)) (carried k t i d h) after) l
+    (rw (to-the-end a) h) (rw (to-the-end a) (omega arith)))

@@ -1,11 +1,17 @@
 -- Groups of bytes with their inserted bytes: the ⊕ of each is 0 exactly if the inserted byte is right. One byte changed spoils it, and two
 -- equal changes in one group do not.
-use Rattle.standard.proofs.Prelude.{_≡_, refl, sym, ap, ap₂, _∙_, Bool, true, false, List, [], _∷_, ℕ, zero, suc, _+_, _-_, _≤_, _<_, suc-inj, suc-ne-zero, arith}
-use Rattle.standard.proofs.Prelude.{xor-comm, xor-self, xor-zero-r, leb, ltb, leb-true, ltb-true, ltb-false, add-zero, add-suc}
+use Rattle.standard.proofs.Prelude.{_≡_, refl, sym, ap, ap₂, _∙_, Bool, true, false, List, [], _∷_, ℕ, zero, suc, _+_, _-_, _≤_, _<_, add-zero, add-suc}
+use Rattle.standard.proofs.Prelude.{suc-inj, suc-ne-zero, arith, xor-comm, xor-self, xor-zero-r, leb, ltb, leb-true, ltb-true, ltb-false, eq-eqb}
 use native.Mathlib.Nat.{suc-add}
 use borrow.Author.Tests.{leb-false}
-use Rattle.standard.specs.Bytes.{_!_, _⊕_, choose}
-use Rattle.standard.specs.Expansions.{xorOn, xorOf, inserted, expected}
+use Rattle.standard.specs.Bytes.{_!_, _⊕_, part, choose}
+use Rattle.standard.specs.Expansions.{xorOn, xorOf, inserted, expected, exp1Groups, exp3Groups, x16Groups}
+use Rattle.standard.specs.Seals.{formOf, failed}
+use Rattle.standard.specs.SealsFacts.{groupsOf}
+use Rattle.standard.specs.declared.Algorithm.{Algorithm}
+use Rattle.standard.specs.declared.Algorithm.the-variants.{Ta31, Ta51, Ta81, Ta91}
+use Rattle.standard.proofs.BytesLaws.{same-eq}
+use Rattle.standard.proofs.CheckLaws.{clear-same}
 use Rattle.standard.proofs.ExpansionLaws.{full}
 use Rattle.standard.proofs.XorLaws.{xor-cancel-r}
 use Rattle.claims.specs.FalseClaims.{groupAt}
@@ -38,6 +44,25 @@ even-right (n ∷ ns) from u e =
     let y = u ! (from + n) in
     let same : y ≡ x = sym (sym (xor-cancel-r x y) ∙ ap (λ (z : ℕ). z ⊕ y) (sym (xor-last 0 from n u) ∙ e .0)) in
     ap₂ _∷_ same (even-right ns (suc (from + n)) u (e .1))
+
+-- ---- of an algorithm
+
+-- what the check finds is what it wants, if none fails
+pub found-wanted : (a : Algorithm) (u : List ℕ) → failed (formOf a) u ≡ 0 → formOf a .found u ≡ formOf a .wanted u
+found-wanted a u z = same-eq (formOf a .found u) (formOf a .wanted u) (sym (clear-same a u) ∙ eq-eqb _ 0 z)
+
+-- so the groups are right
+pub groups-even : (a : Algorithm) (u : List ℕ) → failed (formOf a) u ≡ 0 → Even (groupsOf a) 0 u
+groups-even Ta31 u z = right-even exp1Groups 0 u (found-wanted Ta31 u z)
+groups-even Ta51 u z = right-even exp3Groups 0 u (ap (part 0 4) (found-wanted Ta51 u z))
+groups-even Ta81 u z = right-even x16Groups 0 u (found-wanted Ta81 u z)
+groups-even Ta91 u z = right-even x16Groups 0 u (found-wanted Ta91 u z)
+
+pub fifteen : (a : Algorithm) → full (groupsOf a) ≡ 15
+fifteen Ta31 = refl
+fifteen Ta51 = refl
+fifteen Ta81 = refl
+fifteen Ta91 = refl
 
 -- ---- one byte changed
 

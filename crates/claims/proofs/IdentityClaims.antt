@@ -7,7 +7,7 @@ use Rattle.standard.specs.Seals.{kindOf, form, seal}
 use Rattle.standard.specs.declared.Kind.{Kind}
 use Rattle.standard.proofs.BytesLaws.{spell, bytes-part}
 use Rattle.standard.proofs.IdentityLaws.{identity-law}
-use Rattle.claims.specs.FalseClaims.{IdentityFree, TextsExchanged, Alike, SealedTwice}
+use Rattle.claims.specs.FalseClaims.{IdentityFree, TextsExchanged, SameEntry, SealedTwice}
 use Rattle.claims.proofs.RingClaims.{sealed-at}
 
 -- other bytes, another identity
@@ -32,7 +32,7 @@ unfolding openFault openRecord
 texts-exchanged r t u e₀ e₁ = rw (e₀, e₁) (refl, refl)
 
 -- a text is made of kind, version and body
-same-text : (r p q : List ℕ) → Alike p q → part 6 15 (sealRecord r p) ≡ part 6 15 (sealRecord r q)
+same-text : (r p q : List ℕ) → SameEntry p q → part 6 15 (sealRecord r p) ≡ part 6 15 (sealRecord r q)
 unfolding sealRecord
 same-text r p q e =
     ap₂ (λ (x : ℕ) (y : List ℕ). let k : Kind = named (kindOf x) in part 0 15 (seal (form k) (sealingKey k r) (part 0 2 y) (part 2 12 y))) (e .0) (e .1)

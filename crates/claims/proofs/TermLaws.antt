@@ -4,12 +4,13 @@ use Rattle.standard.proofs.Prelude.{ltb-true}
 use Rattle.standard.specs.Bytes.{_!_, bytesOf, Bytes}
 use Rattle.standard.specs.SealsFacts.{sealBody}
 use Rattle.standard.specs.Refusals.{hasLength, wrongLength, first}
-use Rattle.standard.specs.Seals.{keyLength, sealingSize, formOf, opened, fails, bodyKey, bodyNumber, numberTests, sealCall, unsealCall}
+use Rattle.standard.specs.Seals.{keyLength, sealingSize, formOf, opened, seal, unseal, fails, bodyKey, bodyNumber, numberTests, sealCall, unsealCall}
 use Rattle.standard.specs.declared.Algorithm.{Algorithm}
+use Rattle.standard.specs.declared.Bytes15.{Bytes15}
 use Rattle.standard.specs.declared.UnsealedBody.{UnsealedBody}
 use Rattle.standard.specs.declared.Version.{Version}
 use Rattle.standard.proofs.BytesLaws.{and-split, every}
-use Rattle.standard.proofs.CallPairLaws.{unsealed-by}
+use Rattle.standard.proofs.CallPairLaws.{sealed-by, unsealed-by}
 use Rattle.standard.proofs.CoreLaws.{unsealCore, core}
 use Rattle.standard.proofs.SealLaws.{Body, Clear}
 use Rattle.claims.specs.Entries.{Legal, Opens}
@@ -50,14 +51,23 @@ pub unsealing-size : (a : Algorithm) (s : List ℕ) (v : Version) (t : List ℕ)
 unfolding unsealCall
 unsealing-size a s v t e = eqb-true _ _ (and-split (hasLength 15 t) (hasLength (sealingSize a) s) (first-passed _ [] e) .1)
 
--- ---- unsealing
+-- ---- sealing and unsealing
+
+-- the sealed text of a legal body
+pub text-by : (a : Algorithm) (s : List ℕ) (v : Version) → length s ≡ sealingSize a → (b : List ℕ) → Legal a b
+    → sealBody a b v s .bytes ≡ seal (formOf a) s (pair v) b
+text-by a s v hs b h = ap (λ (x : Bytes15). x .bytes) (sealed-by a s v hs b (legal-body a b .0 h))
 
 -- what a text opens to, before it is shrunk: bytes, whatever the text
 pub opened-bytes : (k t : List ℕ) → Bytes 15 t → Bytes 15 (opened k t)
 unfolding opened unsealCore
 opened-bytes k t h = core k .from t h
 
--- the failed checks of any fifteen numbers
+-- the body and the failed checks of any fifteen numbers
+pub body-by : (a : Algorithm) (s : List ℕ) (v : Version) (t : List ℕ) → length s ≡ sealingSize a → length t ≡ 15
+    → unsealCall a t s v .body ≡ unseal (formOf a) s (pair v) t
+body-by a s v t hs h = ap (λ (u : UnsealedBody). u .body) (unsealed-by a s v hs t h)
+
 pub failed-by : (a : Algorithm) (s : List ℕ) (v : Version) (t : List ℕ) → length s ≡ sealingSize a → length t ≡ 15
     → unsealCall a t s v .«failed_checks» ≡ fails (formOf a) s (pair v) t
 failed-by a s v t hs h = ap (λ (u : UnsealedBody). u .«failed_checks») (unsealed-by a s v hs t h)

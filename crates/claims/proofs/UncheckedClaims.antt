@@ -7,10 +7,8 @@ use Rattle.standard.specs.Expansions.{inserted, exp1Groups, exp3Groups, x16Grou
 use Rattle.standard.specs.Seals.{sealingSize, form31, form51, form81, formOf, failed, opened, unseal, fails, unsealCall}
 use Rattle.standard.specs.declared.Algorithm.{Algorithm}
 use Rattle.standard.specs.declared.Algorithm.the-variants.{Ta31, Ta51, Ta81, Ta91}
-use Rattle.standard.specs.declared.UnsealedBody.{UnsealedBody}
 use Rattle.standard.specs.declared.Version.{Version}
 use Rattle.standard.proofs.BytesLaws.{spell, bytes-nil, bytes-append, bytes-cons, bytes-one, bytes-of, bytes-part}
-use Rattle.standard.proofs.CallPairLaws.{unsealed-by}
 use Rattle.standard.proofs.CheckLaws.{failed-at}
 use Rattle.standard.proofs.CoreLaws.{sealCore, unsealCore, core}
 use Rattle.standard.proofs.ExpansionLaws.{full}
@@ -20,7 +18,7 @@ use Rattle.claims.specs.Entries.{Count, Legal}
 use Rattle.claims.specs.TrueClaims.{unsealingAlike, WithoutChecks}
 use Rattle.claims.proofs.NumberLaws.{numbered}
 use Rattle.claims.proofs.OnlyLaws.{inverse-then, inverse-same, inverse-where, counted, counted-then}
-use Rattle.claims.proofs.TermLaws.{pair, legal-body}
+use Rattle.claims.proofs.TermLaws.{pair, legal-body, body-by, failed-by}
 
 -- ---- groups with any bytes after them
 
@@ -123,11 +121,11 @@ module _ (a : Algorithm) (s : List ℕ) (v : Version) (hs : length s ≡ sealing
 
   body-by-core : (t : List ℕ) → Bytes 15 t → unsealCall a t s v .body ≡ formOf a .shrink (unsealCore coreKey t)
   unfolding unseal opened unsealCore
-  body-by-core t h = ap (λ (x : UnsealedBody). x .body) (unsealed-by a s v hs t (h .len))
+  body-by-core t h = body-by a s v t hs (h .len)
 
   failed-by-core : (t : List ℕ) → Bytes 15 t → unsealCall a t s v .«failed_checks» ≡ failed (formOf a) (unsealCore coreKey t)
   unfolding fails opened unsealCore
-  failed-by-core t h = ap (λ (x : UnsealedBody). x .«failed_checks») (unsealed-by a s v hs t (h .len))
+  failed-by-core t h = failed-by a s v t hs (h .len)
 
 -- bit 4 is that of the three bits
 fifth-bit : (u : List ℕ) → bit 4 (failed form51 u) ≡ choose (eqb (u ! 13 / 32) 0) 0 1
@@ -142,13 +140,13 @@ fifth-passes u = (λ z. fifth-bit u ∙ rw z, λ z. go (eqb (u ! 13 / 32) 0) ref
 
 pub without-checks : WithoutChecks
 without-checks = record {
-  of-any = λ a s v b hs h.
+  unchecked = λ a s v b hs h.
       let k = coreKey a s v hs in
       let body = body-by-core a s v hs in
       counted-then (shrinking a b h)
       (inverse-same (λ u. Iff·rfl) (λ t. (λ p. (p .0, body t (p .0) ∙ p .1), λ p. (p .0, sym (body t (p .0)) ∙ p .1)))
       (inverse-where (λ u. formOf a .shrink u ≡ b) (core k)));
-  of-inserted = λ s v b hs h.
+  bits-checked = λ s v b hs h.
       let k = coreKey Ta51 s v hs in
       let body = body-by-core Ta51 s v hs in
       let flag = failed-by-core Ta51 s v hs in

@@ -14,7 +14,7 @@ use Rattle.standard.specs.Cores.{bl1, bl2}
 use Rattle.standard.specs.SealsFacts.{groupsOf, sealBody}
 use Rattle.standard.specs.Hurdle.{f}
 use Rattle.standard.specs.Lists.{recordAt, each}
-use Rattle.standard.specs.Seals.{sealingSize, formOf, failed, without8, repeated, bodyOf, unsealCall, ta52Call, ta82Call, ta92Call}
+use Rattle.standard.specs.Seals.{keyLength, sealingSize, formOf, failed, without8, repeated, bodyOf, unsealCall, ta52Call, ta82Call, ta92Call}
 use Rattle.standard.specs.Sizes.{ringSize, plainSize, sealedSize}
 use Rattle.standard.specs.declared.Algorithm.{Algorithm}
 use Rattle.standard.specs.declared.Algorithm.the-variants.{Ta31, Ta51, Ta81, Ta91}
@@ -89,8 +89,8 @@ pub record NotBackwards : Type 0 where
 -- ---- changes
 
 -- equal-changes: "Two equal changes in one group are noticed." Of BL2's output with no check failed, two bytes of one group, both ⊕ d: no
--- check fails again, but for the fifth of kinds 2 and 5, which fails exactly if one of the two is the number byte and d has one of its top
--- three bits (or a higher one)
+-- check fails again, but for the fifth of kinds 2 and 5, which fails exactly if one of the two is the number byte and d is 32 or more, so
+-- that it touches the top three bits
 
 -- the number, from 0, of the group of these sizes in which place i stands; the inserted byte is the last of its group
 abbrev pub groupAt : List ℕ → ℕ → ℕ
@@ -109,8 +109,8 @@ EqualChanges = (a : Algorithm) (u : List ℕ) (i j d : ℕ) → failed (formOf a
     → failed (formOf a) (changed 15 j d (changed 15 i d u)) ≡ choose (topBits a i j d) fifthAlone 0
 
 -- every-bit: "A key's every bit changes the whole text." A change of one of the key's bytes from the seventh on, for kinds 3, 4 and 6 from
--- the eighth on, up to the tenth, leaves the first seven bytes of the text as they were: those before stand in the left block of BL1's
--- input, and these do not. The changed body is a legal one, too; d is a byte, or it would not be
+-- the eighth on, leaves the first seven bytes of the text as they were: the bytes before stand in the left block of BL1's input, and these
+-- do not. The changed body is a legal one, too; d is a byte, or it would not be
 abbrev pub inLeftBlock : Algorithm → ℕ
 inLeftBlock Ta31 = 6
 inLeftBlock Ta51 = 6
@@ -123,7 +123,7 @@ pub record FrontKept (a : Algorithm) (s : List ℕ) (v : Version) (b c : List �
 
 abbrev pub EveryBit : Type 0
 EveryBit = (a : Algorithm) (s : List ℕ) (v : Version) (b : List ℕ) (i d : ℕ) → length s ≡ sealingSize a → Legal a b
-    → inLeftBlock a ≤ i → i < 10 → d < 256 → FrontKept a s v b (changed 12 i d b)
+    → inLeftBlock a ≤ i → i < keyLength a → d < 256 → FrontKept a s v b (changed 12 i d b)
 
 -- last-eight: "A change in the last eight bytes of a text is always noticed." Beside every text that opens there is another that opens and
 -- has the same first seven bytes
@@ -265,10 +265,10 @@ TextsExchanged = (r t u : List ℕ) → t ! 0 ≡ u ! 0 → part 4 2 t ≡ part 
 
 -- sealed-twice: "The same key sealed twice gives another text." Two plain records of the same kind, version and body have the same text in
 -- their sealed records under a ring, whatever their identities; and so in sealed books, at whatever places
-abbrev pub Alike : List ℕ → List ℕ → Type 0
-Alike p q = (p ! 0 ≡ q ! 0) × (part 4 14 p ≡ part 4 14 q)
+abbrev pub SameEntry : List ℕ → List ℕ → Type 0
+SameEntry p q = (p ! 0 ≡ q ! 0) × (part 4 14 p ≡ part 4 14 q)
 
 pub record SealedTwice : Type 0 where
-  pub records : (r p q : List ℕ) → Alike p q → part 6 15 (sealRecord r p) ≡ part 6 15 (sealRecord r q)
-  pub books : (r p q : List ℕ) (i j : ℕ) → i < length p / plainSize → j < length q / plainSize → Alike (recordAt plainSize p i) (recordAt plainSize q j)
+  pub records : (r p q : List ℕ) → SameEntry p q → part 6 15 (sealRecord r p) ≡ part 6 15 (sealRecord r q)
+  pub books : (r p q : List ℕ) (i j : ℕ) → i < length p / plainSize → j < length q / plainSize → SameEntry (recordAt plainSize p i) (recordAt plainSize q j)
       → part 6 15 (recordAt sealedSize (sealedForm r p) i) ≡ part 6 15 (recordAt sealedSize (sealedForm r q) j)

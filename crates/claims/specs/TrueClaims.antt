@@ -142,9 +142,9 @@ unsealingAlike Ta81 = 256 ^ 3
 unsealingAlike Ta91 = 256 ^ 3
 
 pub record WithoutChecks : Type 0 where
-  pub of-any : (a : Algorithm) (s : List ℕ) (v : Version) (b : List ℕ) → length s ≡ sealingSize a → Legal a b
+  pub unchecked : (a : Algorithm) (s : List ℕ) (v : Version) (b : List ℕ) → length s ≡ sealingSize a → Legal a b
       → Count (unsealingAlike a) (λ t. Bytes 15 t × (unsealCall a t s v .body ≡ b))
-  pub of-inserted : (s : List ℕ) (v : Version) (b : List ℕ) → length s ≡ 16 → Legal Ta51 b
+  pub bits-checked : (s : List ℕ) (v : Version) (b : List ℕ) → length s ≡ 16 → Legal Ta51 b
       → Count (256 ^ 4) (λ t. Bytes 15 t × (unsealCall Ta51 t s v .body ≡ b) × (bit 4 (unsealCall Ta51 t s v .«failed_checks») ≡ 0))
 
 -- 7a: "A change of one byte, of a text's first seven, goes into the right part of BL2's output as it is." Whether the text opens or not.
