@@ -1,10 +1,10 @@
 -- Changes of BL2's output: one byte, and two bytes of one group alike.
-use Rattle.standard.proofs.Prelude.{_≡_, refl, sym, ap, _∙_, Bool, true, false, _&&_, List, [], _∷_, _++_, ℕ, _+_, _-_, _*_, _/_, _≤_, _<_, zero-le, arith}
-use Rattle.standard.proofs.Prelude.{zero-add, eqb, leb, eqb-true, eqb-false, eq-eqb, ne-eqb, leb-true}
+use Rattle.standard.proofs.Prelude.{_≡_, refl, sym, ap, _∙_, Bool, true, false, _&&_, List, ℕ, _+_, _-_, _*_, _/_, zero-le, arith}
+use Rattle.standard.proofs.Prelude.{zero-add, eqb, leb, eqb-true, eqb-false, ne-eqb, leb-true}
 use mathlib.Core.Bool.{_||_}
 use borrow.Author.Tests.{leb-false}
 use lib.Bits.{xor-shr}
-use Rattle.standard.specs.Bytes.{_!_, _⊕_, part, same, choose}
+use Rattle.standard.specs.Bytes.{_!_, _⊕_, same, choose}
 use Rattle.standard.specs.Expansions.{inserted, expected, exp1Groups, exp3Groups, x16Groups}
 use Rattle.standard.specs.Seals.{formOf, failed}
 use Rattle.standard.specs.SealsFacts.{groupsOf}
@@ -14,7 +14,6 @@ use Rattle.standard.proofs.BytesLaws.{same-refl}
 use Rattle.standard.proofs.CheckLaws.{clear-same}
 use Rattle.claims.specs.FalseClaims.{groupAt, topBits, EqualChanges}
 use Rattle.claims.specs.TrueClaims.{fifthAlone, changed, OneOfOutput}
-use Rattle.claims.specs.Variants.{formWithoutBits}
 use Rattle.claims.proofs.BitsClaims.{four-pass, fifth}
 use Rattle.claims.proofs.ChangeLaws.{changed-here, changed-elsewhere}
 use Rattle.claims.proofs.GroupLaws.{Even, even-right, found-wanted, groups-even, fifteen, no-change, alike}

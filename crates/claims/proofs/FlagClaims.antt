@@ -1,6 +1,6 @@
 -- What the flag says of a text, and what it does not.
-use Rattle.standard.proofs.Prelude.{_≡_, refl, sym, ap, _∙_, subst, Bool, true, false, List, [], _∷_, _++_, ℕ, _+_, _%_, _≤_, _<_, arith, xor-comm}
-use Rattle.standard.proofs.Prelude.{xor-self, xor-zero-r, ltb, length, eqb-true, eq-eqb, le-leb, ltb-true, ltb-false}
+use Rattle.standard.proofs.Prelude.{_≡_, refl, sym, ap, _∙_, subst, List, [], _∷_, _++_, ℕ, _+_, _%_, arith}
+use Rattle.standard.proofs.Prelude.{xor-self, length, eqb-true, eq-eqb, le-leb}
 use Rattle.standard.specs.Bytes.{_!_, _⊕_, part, xors, Bytes}
 use Rattle.standard.specs.Cores.{bl2}
 use Rattle.standard.specs.Expansions.{exp1Groups, exp3Groups, x16Groups, shr2}
@@ -11,7 +11,7 @@ use Rattle.standard.specs.declared.Algorithm.{Algorithm}
 use Rattle.standard.specs.declared.Algorithm.the-variants.{Ta31, Ta51, Ta81, Ta91}
 use Rattle.standard.specs.declared.UnsealedBody.{UnsealedBody}
 use Rattle.standard.specs.declared.Version.{Version}
-use Rattle.standard.proofs.BytesLaws.{table-same, same-eq, bytes-append, bytes-cons, bytes-part, bytes-one, bytes-zero}
+use Rattle.standard.proofs.BytesLaws.{table-same, bytes-append, bytes-cons, bytes-part, bytes-one, bytes-zero}
 use Rattle.standard.proofs.CallPairLaws.{unsealed-by}
 use Rattle.standard.proofs.CheckLaws.{clear-same}
 use Rattle.standard.proofs.CoreLaws.{sealCore, unsealCore, core}

@@ -1,16 +1,15 @@
 -- The first seven bytes of a text come from the left block of BL1's input alone.
 use Rattle.standard.proofs.Prelude.{_≡_, refl, sym, ap, ap₂, _∙_, _&&_, List, [], _∷_, ℕ, _+_, _≤_, _<_, arith, eqb, leb}
-use Rattle.standard.specs.Bytes.{_!_, _⊕_, part, choose, Bytes}
+use Rattle.standard.specs.Bytes.{_!_, _⊕_, part, choose}
 use Rattle.standard.specs.Hurdle.{encrypt}
 use Rattle.standard.specs.Refusals.{notZero, wrongNumber, first}
 use Rattle.standard.specs.Seals.{keyLength, formOf, sealed, seal, unseal}
 use Rattle.standard.specs.declared.Algorithm.{Algorithm}
 use Rattle.standard.specs.declared.Algorithm.the-variants.{Ta31, Ta51, Ta81, Ta91}
-use Rattle.standard.specs.declared.Version.{Version}
 use Rattle.standard.proofs.BytesLaws.{table-same, bytes-table}
 use Rattle.standard.proofs.CoreLaws.{bl1-blocks}
 use Rattle.standard.proofs.XorLaws.{xor-byte}
-use Rattle.claims.specs.Entries.{Legal, Opens}
+use Rattle.claims.specs.Entries.{Legal}
 use Rattle.claims.specs.FalseClaims.{inLeftBlock, EveryBit, LastEight}
 use Rattle.claims.specs.TrueClaims.{changed}
 use Rattle.claims.proofs.ChangeLaws.{changed-here, changed-elsewhere}

@@ -1,5 +1,5 @@
 -- More things than places: two are in the same place. Over variables: nothing is counted out.
-use Rattle.standard.proofs.Prelude.{_≡_, refl, sym, ap, _∙_, Bool, true, false, _⊎_, inl, inr, List, ℕ, zero, suc, _-_, _*_, _^_, _≤_, _<_, arith, eqb, ltb}
+use Rattle.standard.proofs.Prelude.{_≡_, refl, sym, ap, _∙_, Bool, true, false, _⊎_, inl, inr, List, ℕ, zero, suc, _-_, _≤_, _<_, arith, eqb, ltb}
 use Rattle.standard.proofs.Prelude.{eq-or-lt-of-le, le-of-suc-le-suc, eqb-true, eqb-false, ltb-true, ltb-false}
 use Rattle.standard.specs.Bytes.{choose}
 use Rattle.claims.specs.Entries.{Count}

@@ -1,16 +1,16 @@
 -- How many texts unseal to one entry, whether their checks pass or not: as many as there are values of what the checks are of.
 use Rattle.standard.proofs.Prelude.{_≡_, refl, sym, ap, ap₂, _∙_, Bool, true, false, _↔_, List, [], _∷_, _++_, ℕ, suc, _+_, _*_, _/_, _%_, _^_, _<_, arith, eqb}
-use Rattle.standard.proofs.Prelude.{length, eqb-true, eqb-false, eq-eqb}
+use Rattle.standard.proofs.Prelude.{length, eqb-true}
 use mathlib.Core.Logic.{Iff·rfl}
 use Rattle.standard.specs.Bytes.{_!_, bit, part, bytesOf, number, choose, Bytes}
 use Rattle.standard.specs.Expansions.{inserted, exp1Groups, exp3Groups, x16Groups}
-use Rattle.standard.specs.Seals.{sealingSize, form31, form51, form81, formOf, failed, opened, unseal, fails, unsealCall}
+use Rattle.standard.specs.Seals.{sealingSize, form51, formOf, failed, opened, unseal, fails, unsealCall}
 use Rattle.standard.specs.declared.Algorithm.{Algorithm}
 use Rattle.standard.specs.declared.Algorithm.the-variants.{Ta31, Ta51, Ta81, Ta91}
 use Rattle.standard.specs.declared.Version.{Version}
 use Rattle.standard.proofs.BytesLaws.{spell, bytes-nil, bytes-append, bytes-cons, bytes-one, bytes-of, bytes-part}
 use Rattle.standard.proofs.CheckLaws.{failed-at}
-use Rattle.standard.proofs.CoreLaws.{sealCore, unsealCore, core}
+use Rattle.standard.proofs.CoreLaws.{unsealCore, core}
 use Rattle.standard.proofs.ExpansionLaws.{full}
 use Rattle.standard.proofs.InverseLaws.{Inverse}
 use Rattle.standard.proofs.SealLaws.{body31-zeros, body51-number}

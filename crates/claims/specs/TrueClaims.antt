@@ -1,7 +1,6 @@
 -- Sentences about sealed texts that are true (docs/ARGUMENT.md, 1 to 7). A premise that is not there is not needed: no claim asks that a
 -- sealing key or a version consist of bytes, since the cipher is undone under every key.
 use mathlib.Core.List.{List, [], _∷_, _++_}
-use mathlib.Core.Logic.{_↔_}
 use mathlib.Core.Path.{_≡_}
 use Prim.Native.Nat.{ℕ, _*_, _/_, _^_, _<_, _≤_}
 use lib.Dec.{eqb}
