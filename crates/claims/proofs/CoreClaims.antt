@@ -1,5 +1,5 @@
 -- BL1 without byte 8: nothing is lost as long as the input ends in a zero byte.
-use Rattle.standard.proofs.Prelude.{_≡_, refl, sym, ap, ap₂, _∙_, List, [], _∷_, _++_, ℕ, _+_, _-_, _≤_, _<_, arith}
+use Rattle.standard.proofs.Prelude.{_≡_, refl, sym, ap, ap₂, _∙_, _↔_, List, [], _∷_, _++_, ℕ, _+_, _-_, _≤_, _<_, arith}
 use mathlib.Core.Logic.{Iff·rfl}
 use Rattle.standard.specs.Bytes.{_!_, part, xors, Bytes}
 use Rattle.standard.specs.Cores.{bl1}
@@ -9,13 +9,13 @@ use Rattle.standard.proofs.BytesLaws.{table-at, spell, bytes-append, bytes-cons
 use Rattle.standard.proofs.CoreLaws.{sealCore, unsealCore, core}
 use Rattle.standard.proofs.InverseLaws.{Inverse}
 use Rattle.claims.specs.Entries.{Count, withByte, ZeroAt, SameText}
-use Rattle.claims.specs.Reasons.{NoMoreInputs}
+use Rattle.claims.specs.Reasons.{FewerInputs}
 use Rattle.claims.specs.TrueClaims.{NothingLost, Shared, Chaining}
 use Rattle.claims.specs.Variants.{bl1Unchained}
 use Rattle.claims.proofs.BlockLaws.{bl1-back, bl1-inverse, unchained-back, unchained-inverse}
 use Rattle.claims.proofs.NumberLaws.{numbered}
 use Rattle.claims.proofs.OnlyLaws.{inverse-same, counted, counted-then}
-use Rattle.claims.proofs.PlaceLaws.{zero-put-in}
+use Rattle.claims.proofs.PlaceLaws.{zero-put-in, zeros-put-in}
 
 -- ---- with the zero byte
 
@@ -60,13 +60,17 @@ module _ {core back : List ℕ → List ℕ} (m : Inverse (Bytes 16) (Bytes 16) 
         forth = λ x s. ap back (rebuilt (core x) t (core x ! 7) (m .to x (s .0)) (s .1) refl) ∙ m .back x (s .0);
       }
 
-  -- a zero byte at a place that the text decides is no help
-  no-help : (p : ℕ) → ((x y : List ℕ) → Bytes 16 x → Bytes 16 y → without8 (core x) ≡ without8 (core y) → x ! p ≡ y ! p)
+  -- what the text decides of an input tells none of them apart
+  no-help : (S : List ℕ → Type 0) (x : List ℕ) → Bytes 16 x → ((y : List ℕ) → (Bytes 16 y × (without8 (core y) ≡ without8 (core x))) ↔ S y) → Count 256 S
+  no-help S x h same =
+      let w = m .to x h in
+      counted (inverse-same (λ d. Iff·rfl) same (shared-by (without8 (core x)) (bytes-append (bytes-part 0 7 w) (bytes-part 8 8 w))))
+
+  -- as a zero byte at a place
+  no-help-at : (p : ℕ) → ((x y : List ℕ) → Bytes 16 x → Bytes 16 y → without8 (core x) ≡ without8 (core y) → x ! p ≡ y ! p)
       → (x : List ℕ) → ZeroAt p x → Count 256 (SameText core p x)
-  no-help p same x z =
-      let w = m .to x (z .0) in
-      counted (inverse-same (λ d. Iff·rfl) (λ y. (λ s. ((s .0, same y x (s .0) (z .0) (s .1) ∙ z .1), s .1), λ s. (s .0 .0, s .1)))
-      (shared-by (without8 (core x)) (bytes-append (bytes-part 0 7 w) (bytes-part 8 8 w))))
+  no-help-at p same x z =
+      no-help (SameText core p x) x (z .0) (λ y. (λ s. ((s .0, same y x (s .0) (z .0) (s .1) ∙ z .1), s .1), λ s. (s .0 .0, s .1)))
 
 pub shared : Shared
 shared = record {
@@ -94,7 +98,7 @@ chaining = record {
       let o = nothing-lost k (without8 (bl1 k x)) (bytes-append (bytes-part 0 7 w) (bytes-part 8 8 w)) in
       record { has = (z, refl); only = λ y s. o .only y (s .0 .0, s .0 .1, s .1) ∙ sym (o .only x (z .0, z .1, refl)) };
   unchained = λ k.
-      no-help (unchained-inverse k) 15
+      no-help-at (unchained-inverse k) 15
       (λ x y hx hy e. right-unchained k x hx ∙ ap (λ (t : List ℕ). decrypt k (part 7 8 t) ! 7) e ∙ sym (right-unchained k y hy));
 }
 
@@ -109,15 +113,23 @@ right-byte p x l h =
     let e : 8 + (p - 8) ≡ p = omega arith in
     table-at 7 (λ i. x ! (8 + i)) (p - 8) (omega arith) ∙ ap (λ (i : ℕ). x ! i) e
 
-pub no-more-inputs : NoMoreInputs
-no-more-inputs = record {
+right-same : (k : List ℕ) (p : ℕ) → 8 ≤ p → p < 15 → (x y : List ℕ) → Bytes 16 x → Bytes 16 y → without8 (bl1 k x) ≡ without8 (bl1 k y) → x ! p ≡ y ! p
+right-same k p l h x y hx hy e =
+    sym (right-byte p x l h)
+    ∙ ap (λ (z : List ℕ). z ! (p - 8)) (right-part k x hx ∙ ap (λ (t : List ℕ). xors 7 (decrypt k (part 7 8 t)) t) e ∙ sym (right-part k y hy))
+    ∙ right-byte p y l h
+
+pub fewer-inputs : FewerInputs
+fewer-inputs = record {
   texts = counted (numbered 15);
-  inputs = λ p h. counted-then (counted (numbered 15)) (zero-put-in p h);
-  shared = λ k p l h.
-      no-help (bl1-inverse k) p
-      (λ x y hx hy e.
-      sym (right-byte p x l h)
-      ∙ ap (λ (z : List ℕ). z ! (p - 8))
-      (right-part k x hx ∙ ap (λ (t : List ℕ). xors 7 (decrypt k (part 7 8 t)) t) e ∙ sym (right-part k y hy))
-      ∙ right-byte p y l h);
+  inputs = λ p h. counted-then (counted (numbered 15)) (zero-put-in 15 p h);
+  shared = λ k p l h. no-help-at (bl1-inverse k) p (right-same k p l h);
+  fewer = λ p q l h. counted-then (counted (numbered 14)) (zeros-put-in p q l h);
+  still-shared = λ k p q l m h x z₁ z₂.
+      let first = right-same k p l (omega arith) in
+      let second = right-same k q (omega arith) h in
+      no-help (bl1-inverse k) (λ y. SameText (bl1 k) p x y × (y ! q ≡ 0)) x (z₁ .0) (λ y. (
+        λ s. (((s .0, first y x (s .0) (z₁ .0) (s .1) ∙ z₁ .1), s .1), second y x (s .0) (z₁ .0) (s .1) ∙ z₂),
+        λ s. (s .0 .0 .0, s .0 .1),
+      ));
 }

@@ -4,7 +4,7 @@ use mathlib.Core.List.{List, _++_}
 use mathlib.Core.Path.{_≡_}
 use Prim.Native.Nat.{ℕ, zero, suc, _-_, _^_, _<_, _≤_}
 use lib.ListN.{length}
-use Rattle.standard.specs.Bytes.{part, xors, Bytes}
+use Rattle.standard.specs.Bytes.{_!_, part, xors, Bytes}
 use Rattle.standard.specs.Cores.{bl1}
 use Rattle.standard.specs.Hurdle.{f, Halves, schedule, roundKey, encrypt, decrypt}
 use Rattle.standard.specs.Seals.{ta51Call}
@@ -24,12 +24,15 @@ pub record OneResult : Type 0 where
   pub not-sealed : BitsUnchecked
 
 -- fewer-keys: "There are fewer keys than texts, so each has its own text." If the zero byte stood at another place of the right block than at
--- its end, there would be no more inputs than texts, and yet each text that an input gives would be given by exactly 256 of them. Under every
--- key; places count from 0 at the left
-pub record NoMoreInputs : Type 0 where
+-- its end, there would be as many inputs as texts, and with a second one in such a place fewer; and yet each text that an input gives would
+-- be given by exactly 256 of them. Under every key; places count from 0 at the left
+pub record FewerInputs : Type 0 where
   pub texts : Count (256 ^ 15) (Bytes 15)
   pub inputs : (p : ℕ) → p < 16 → Count (256 ^ 15) (ZeroAt p)
   pub shared : (k : List ℕ) (p : ℕ) → 8 ≤ p → p < 15 → (x : List ℕ) → ZeroAt p x → Count 256 (SameText (bl1 k) p x)
+  pub fewer : (p q : ℕ) → p < q → q < 16 → Count (256 ^ 14) (λ x. ZeroAt p x × (x ! q ≡ 0))
+  pub still-shared : (k : List ℕ) (p q : ℕ) → 8 ≤ p → p < q → q < 15 → (x : List ℕ) → ZeroAt p x → x ! q ≡ 0
+      → Count 256 (λ y. SameText (bl1 k) p x y × (y ! q ≡ 0))
 
 -- because-s-permutes: "The cipher can be undone because S is a permutation." Its rounds are undone whatever stands in the place of f, and
 -- under any round keys: the same rounds with the round keys in reverse order do it. With f itself they are encryption and decryption
