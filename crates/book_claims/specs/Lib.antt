@@ -1,0 +1,2 @@
+pub mod RecordSentences
+pub mod BookSentences
