@@ -23,7 +23,7 @@ use Rattle.book_claims.specs.BookSentences.{OpensTo, withD, ManyRings, W
 -- ---- a book that opens is a sealed form, and a sealed form opens
 
 module _ (r : List ℕ) (hr : Bytes ringSize r) where
-  sealed-bytes : (p : List ℕ) → WellFormed p → Bytes (sealedSize * (length p / plainSize)) (sealedForm r p)
+  pub sealed-bytes : (p : List ℕ) → WellFormed p → Bytes (sealedSize * (length p / plainSize)) (sealedForm r p)
   unfolding sealedForm
   sealed-bytes p w =
       record { len = mapped-length (omega arith) (omega arith) (record-law r hr) p (book w); bound = book-law r hr .to p (book w) .bytes .bound }
@@ -70,10 +70,9 @@ unfolding sealRecord
 same-record d r x h = rw (not-under-d d r (x ! 0) h)
 
 -- record i of a sealed form
-sealed-at : (r : List ℕ) → Bytes ringSize r → (p : List ℕ) → WellFormed p → (i : ℕ) → i < length p / plainSize
-    → recordAt sealedSize (sealedForm r p) i ≡ sealRecord r (recordAt plainSize p i)
+sealed-at : (r p : List ℕ) (i : ℕ) → i < length p / plainSize → recordAt sealedSize (sealedForm r p) i ≡ sealRecord r (recordAt plainSize p i)
 unfolding sealedForm sealRecord
-sealed-at r hr p w i h = joined-at sealedSize (λ j. sealRecord r (recordAt plainSize p j)) (length p / plainSize) (λ j l. refl) i h
+sealed-at r p i h = joined-at sealedSize (λ j. sealRecord r (recordAt plainSize p j)) (length p / plainSize) (λ j l. refl) i h
 
 same-form : (d r p : List ℕ) → ((i : ℕ) → i < length p / plainSize → recordAt plainSize p i ! 0 ≡ 1 → ⊥) → sealedForm (withD d r) p ≡ sealedForm r p
 unfolding sealedForm
@@ -82,10 +81,10 @@ same-form d r p none =
     (λ i h. same-record d r (recordAt plainSize p i) (none i h))
 
 -- the kind byte of record i, from the sealed form
-kind-at : (r : List ℕ) (hr : Bytes ringSize r) (p s : List ℕ) (q : IsSealedForm r p s) (i : ℕ) → i < length p / plainSize
+kind-at : (r p s : List ℕ) → IsSealedForm r p s → (i : ℕ) → i < length p / plainSize
     → recordAt sealedSize s i ! 0 ≡ recordAt plainSize p i ! 0
 unfolding sealRecord
-kind-at r hr p s q i h = ap (λ (x : List ℕ). recordAt sealedSize x i ! 0) (sym (q .is)) ∙ ap (λ (x : List ℕ). x ! 0) (sealed-at r hr p (q .formed) i h)
+kind-at r p s q i h = ap (λ (x : List ℕ). recordAt sealedSize x i ! 0) (sym (q .is)) ∙ ap (λ (x : List ℕ). x ! 0) (sealed-at r p i h)
 
 empty-form : (r : List ℕ) → IsSealedForm r [] []
 unfolding sealedForm
@@ -101,7 +100,7 @@ many-rings = record {
       let q = opens-form r hr p s bs o in
       let l = rw (q .is) at (sealed-bytes r hr p (q .formed) .len) in
       let none′ : (i : ℕ) → i < length p / plainSize → recordAt plainSize p i ! 0 ≡ 1 → ⊥ =
-      λ i h e. none i (omega (arith, l, h)) (kind-at r hr p s q i h ∙ e) in
+      λ i h e. none i (omega (arith, l, h)) (kind-at r p s q i h ∙ e) in
       form-opens (withD d r) (bytes-append (bytes-part 0 10 hd) (bytes-part 10 42 hr)) p s (record { formed = q .formed; is = same-form d r p none′ ∙ q .is });
 }
 
@@ -162,11 +161,11 @@ module _ {w n : ℕ} {ok : List ℕ → Bool} {xs : List ℕ} (hw : zero < w) (f
   }
 
 -- their sealed records are the sealed form's, chosen alike
-chosen-form : (r : List ℕ) → Bytes ringSize r → (p s : List ℕ) → IsSealedForm r p s → (n : ℕ) → n ≤ mostRecords
+chosen-form : (r p s : List ℕ) → IsSealedForm r p s → (n : ℕ) → n ≤ mostRecords
     → (π : ℕ → ℕ) → ((i : ℕ) → i < n → π i < length p / plainSize)
     → IsSealedForm r (reordered n plainSize π p) (reordered n sealedSize π s)
 unfolding sealedForm
-chosen-form r hr p s q n few π within =
+chosen-form r p s q n few π within =
     let b = book (q .formed) in
     let hw : zero < plainSize = omega arith in
     record {
@@ -174,7 +173,7 @@ chosen-form r hr p s q n few π within =
       is = rw (chosen-count hw few b π within)
           (joined-same n (λ i. sealRecord r (recordAt plainSize (reordered n plainSize π p) i)) (λ i. recordAt sealedSize s (π i))
           (λ i h.
-          ap (sealRecord r) (chosen-at hw few b π within i h) ∙ sym (sealed-at r hr p (q .formed) (π i) (within i h))
+          ap (sealRecord r) (chosen-at hw few b π within i h) ∙ sym (sealed-at r p (π i) (within i h))
           ∙ ap (λ (x : List ℕ). recordAt sealedSize x (π i)) (q .is)));
     }
 
@@ -183,7 +182,7 @@ chosen-opens : (r s p : List ℕ) (m n : ℕ) (π : ℕ → ℕ) → Bytes ringS
 chosen-opens r s p m n π hr bs l few within o =
     let q = opens-form r hr p s bs o in
     let k = rw (q .is) at (sealed-bytes r hr p (q .formed) .len) in
-    form-opens r hr _ _ (chosen-form r hr p s q n few π (λ i h. omega (arith, k, l, within i h)))
+    form-opens r hr _ _ (chosen-form r p s q n few π (λ i h. omega (arith, k, l, within i h)))
 
 -- as many as a book has
 few-records : (r s p : List ℕ) (m : ℕ) → Bytes ringSize r → ((i : ℕ) → s ! i < 256) → length s ≡ sealedSize * m → OpensTo r s p → m ≤ mostRecords

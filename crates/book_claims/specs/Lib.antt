@@ -1,2 +1,3 @@
 pub mod RecordSentences
 pub mod BookSentences
+pub mod Marking
