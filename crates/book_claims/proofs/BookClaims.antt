@@ -1,6 +1,6 @@
 -- Books under other rings, and with records spoiled, left out, doubled or put in another order.
 use Rattle.standard.proofs.Prelude.{_≡_, refl, sym, ap, _∙_, Bool, true, false, _↔_, List, [], _∷_, ℕ, zero, suc, _-_, _*_, _/_, _%_, _≤_, _<_}
-use Rattle.standard.proofs.Prelude.{mul-div-cancel-left, arith, eqb, leb, ltb, length, take, drop, take-at, eq-eqb, ne-eqb, le-leb}
+use Rattle.standard.proofs.Prelude.{arith, eqb, leb, ltb, length, take, drop, take-at, eq-eqb, ne-eqb, le-leb}
 use Rattle.standard.proofs.Prelude.{leb-true}
 use Rattle.standard.specs.Books.{ringKey, named, sealRecord, openFault, openRecord, WellFormed, sealedForm, opening, bookCall, openBook}
 use Rattle.standard.specs.BooksFacts.{IsSealedForm}
@@ -19,6 +19,7 @@ use Rattle.standard.proofs.BytesLaws.{bytes-append, bytes-part}
 use Rattle.standard.proofs.Demand3Laws.{book, well-formed, book-law, demand3}
 use Rattle.standard.proofs.RecordLaws.{record-law}
 use Rattle.book_claims.specs.BookSentences.{OpensTo, withD, ManyRings, WithinABook, Spoiled, skipping, repeating, Missing, Doubled, OrderChanged}
+use Rattle.book_claims.proofs.ReorderedLaws.{reordered-at, reordered-whole}
 
 -- ---- a book that opens is a sealed form, and a sealed form opens
 
@@ -142,23 +143,14 @@ within-a-book = record { exactly = opens-exactly; writes = record-written }
 
 -- ---- records chosen from a book: n of them, of which record i is record π i
 
-module _ {w n : ℕ} {ok : List ℕ → Bool} {xs : List ℕ} (hw : zero < w) (few : n ≤ mostRecords) (b : Book w ok xs)
-    (π : ℕ → ℕ) (within : (i : ℕ) → i < n → π i < length xs / w) where
-  chosen-bytes : Bytes (w * n) (reordered n w π xs)
-  chosen-bytes = joined-bytes w (λ i. recordAt w xs (π i)) n (λ i h. bytes-part (w * π i) w (b .bytes))
-
-  chosen-at : (i : ℕ) → i < n → recordAt w (reordered n w π xs) i ≡ recordAt w xs (π i)
-  chosen-at i h = joined-at w (λ j. recordAt w xs (π j)) n (λ j l. bytes-part (w * π j) w (b .bytes) .len) i h
-
-  chosen-count : length (reordered n w π xs) / w ≡ n
-  chosen-count = ap (λ (k : ℕ). k / w) (chosen-bytes .len) ∙ mul-div-cancel-left n hw
-
-  chosen-book : Book w ok (reordered n w π xs)
-  chosen-book = record {
-    bytes = rw chosen-count chosen-bytes;
-    few = rw chosen-count few;
-    pass = λ i h. let k : i < n = rw chosen-count at h in rw (chosen-at i k) (b .pass (π i) (within i k));
-  }
+chosen-book : {w n : ℕ} {ok : List ℕ → Bool} {xs : List ℕ} → zero < w → n ≤ mostRecords → Book w ok xs
+    → (π : ℕ → ℕ) → ((i : ℕ) → i < n → π i < length xs / w) → Book w ok (reordered n w π xs)
+chosen-book {w} {n} {ok} {xs} hw few b π within =
+    let e = reordered-whole w n hw xs π in record {
+      bytes = rw e (joined-bytes w (λ i. recordAt w xs (π i)) n (λ i h. bytes-part (w * π i) w (b .bytes)));
+      few = rw e few;
+      pass = λ i h. let k : i < n = rw e at h in rw (reordered-at w n hw xs π i k) (b .pass (π i) (within i k));
+    }
 
 -- their sealed records are the sealed form's, chosen alike
 chosen-form : (r p s : List ℕ) → IsSealedForm r p s → (n : ℕ) → n ≤ mostRecords
@@ -170,10 +162,10 @@ chosen-form r p s q n few π within =
     let hw : zero < plainSize = omega arith in
     record {
       formed = well-formed (chosen-book hw few b π within);
-      is = rw (chosen-count hw few b π within)
+      is = rw (reordered-whole plainSize n hw p π)
           (joined-same n (λ i. sealRecord r (recordAt plainSize (reordered n plainSize π p) i)) (λ i. recordAt sealedSize s (π i))
           (λ i h.
-          ap (sealRecord r) (chosen-at hw few b π within i h) ∙ sym (sealed-at r p (π i) (within i h))
+          ap (sealRecord r) (reordered-at plainSize n hw p π i h) ∙ sym (sealed-at r p (π i) (within i h))
           ∙ ap (λ (x : List ℕ). recordAt sealedSize x (π i)) (q .is)));
     }
 

@@ -1,6 +1,6 @@
 -- Counting the indexes that pass a test; maps that take no two of them to one.
-use Rattle.standard.proofs.Prelude.{_≡_, refl, sym, ap, ap₂, _∙_, Bool, true, false, not, _&&_, true≢false, ℕ, zero, suc, _+_, _-_}
-use Rattle.standard.proofs.Prelude.{_≤_, _<_, zero-le, add-zero, add-suc, add-one, arith, eqb, ltb, eqb-true, eqb-false, eq-eqb, ne-eqb, ltb-true, ltb-false, lt-ltb}
+use Rattle.standard.proofs.Prelude.{_≡_, refl, sym, ap, ap₂, _∙_, Bool, true, false, not, _&&_, true≢false, ℕ, zero, suc, _+_, _-_, _≤_, _<_}
+use Rattle.standard.proofs.Prelude.{zero-le, add-zero, add-suc, add-one, arith, eqb, ltb, eqb-true, eqb-false, eq-eqb, ne-eqb, ltb-true, ltb-false, lt-ltb}
 use native.Mathlib.Nat.{add-assoc}
 use Rattle.standard.specs.Bytes.{choose}
 use Rattle.standard.specs.ShufflesFacts.{Reordering}

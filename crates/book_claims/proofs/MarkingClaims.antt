@@ -1,17 +1,18 @@
 -- Marking a hand-in against a model: in any order, with copies, and when it is full.
 use Rattle.standard.proofs.Prelude.{_≡_, refl, sym, ap, ap₂, _∙_, subst, Bool, true, false, _↔_, List, _++_, ℕ, suc, _+_, _*_, _/_, _≤_, _<_, arith}
-use Rattle.standard.proofs.Prelude.{mul-suc, mul-le-mul-left, mul-div-cancel-left, eqb, ltb, length, length-append, eqb-true, eq-eqb, lt-ltb}
+use Rattle.standard.proofs.Prelude.{mul-suc, mul-le-mul-left, eqb, ltb, length, length-append, eqb-true, eq-eqb, lt-ltb}
 use Rattle.standard.specs.Books.{sealedForm}
-use Rattle.standard.specs.Bytes.{_!_, same}
+use Rattle.standard.specs.Bytes.{same}
 use Rattle.standard.specs.Lists.{recordAt}
 use Rattle.standard.specs.ShufflesFacts.{Reordering, reordered}
 use Rattle.standard.specs.Sizes.{plainSize, sealedSize}
-use Rattle.standard.proofs.BookLaws.{joined-same, joined-length, joined-at, each-self}
-use Rattle.standard.proofs.BytesLaws.{length-table, part-left, part-seam, same-eq, same-refl}
+use Rattle.standard.proofs.BookLaws.{joined-same, each-self}
+use Rattle.standard.proofs.BytesLaws.{part-left, part-seam, same-eq, same-refl}
 use Rattle.book_claims.specs.Marking.{copies, hasRecord, pairs, matched, Pairing, AnyOrder, CopiesAddNothing, FullMark}
 use Rattle.book_claims.proofs.BookClaims.{sealed-bytes, form-opens, order-changed}
 use Rattle.book_claims.proofs.CountingLaws.{count-hit, count-miss, count-same, count-all, count-before, count-reordered, count-full, find, find-some}
 use Rattle.book_claims.proofs.CountingLaws.{OneToOne, one-to-one-onto}
+use Rattle.book_claims.proofs.ReorderedLaws.{whole, reordered-length, reordered-at, reordered-whole}
 use Rattle.book_claims.proofs.PairingLaws.{pairing-most, paired, ranked}
 
 -- ---- entries and records in another order
@@ -60,20 +61,6 @@ matched-as : (w m n : ℕ) (model handIn : List ℕ) → length model / w ≡ m 
     → matched w model handIn ≡ pairs m (recordAt w model) n (recordAt w handIn)
 unfolding matched
 matched-as w m n model handIn e d = ap₂ (λ (k l : ℕ). pairs k (recordAt w model) l (recordAt w handIn)) e d
-
-module _ (w n : ℕ) (hw : 0 < w) where
-  whole : (xs : List ℕ) → length xs ≡ w * n → length xs / w ≡ n
-  whole xs e = ap (λ (k : ℕ). k / w) e ∙ mul-div-cancel-left n hw
-
-  module _ (xs : List ℕ) (π : ℕ → ℕ) where
-    reordered-length : length (reordered n w π xs) ≡ w * n
-    reordered-length = joined-length w (λ i. recordAt w xs (π i)) n (λ i h. length-table w (λ j. xs ! (w * π i + j)))
-
-    reordered-at : (i : ℕ) → i < n → recordAt w (reordered n w π xs) i ≡ recordAt w xs (π i)
-    reordered-at i h = joined-at w (λ j. recordAt w xs (π j)) n (λ j l. length-table w (λ k. xs ! (w * π j + k))) i h
-
-    reordered-whole : length (reordered n w π xs) / w ≡ n
-    reordered-whole = whole (reordered n w π xs) reordered-length
 
 pub any-order : AnyOrder
 any-order = record {
@@ -197,5 +184,6 @@ full-mark = record {
   exactly = λ r p handIn hr wf. full-exactly sealedSize (length p / plainSize) (omega arith) (sealedForm r p) (sealed-bytes r hr p wf .len) handIn;
   opens = λ r p hr wf π ρ.
       let s = sealed-bytes r hr p wf in
-      order-changed r (sealedForm r p) p (length p / plainSize) π hr (s .bound) (s .len) ρ (form-opens r hr p (sealedForm r p) (record { formed = wf; is = refl }));
+      order-changed r (sealedForm r p) p (length p / plainSize) π hr (s .bound) (s .len) ρ
+      (form-opens r hr p (sealedForm r p) (record { formed = wf; is = refl }));
 }
