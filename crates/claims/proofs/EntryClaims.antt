@@ -14,14 +14,14 @@ use Rattle.standard.specs.declared.Algorithm.{Algorithm}
 use Rattle.standard.specs.declared.Bytes15.{Bytes15}
 use Rattle.standard.specs.declared.Version.{Version}
 use Rattle.standard.proofs.BytesLaws.{spelled, spell, part-left}
-use Rattle.standard.proofs.CallPairLaws.{sealed-by}
+use Rattle.standard.proofs.CallPairLaws.{sealed-by, opens}
 use Rattle.standard.proofs.CheckLaws.{clear-same}
 use Rattle.standard.proofs.Demand3Laws.{demand3}
 use Rattle.standard.proofs.InverseLaws.{Inverse, reversed}
 use Rattle.standard.proofs.RecordLaws.{Plain, Sealed, record-law}
 use Rattle.standard.proofs.SealLaws.{Body, form-law, sealing}
 use Rattle.claims.specs.Entries.{OfOne, Legal, Opens}
-use Rattle.claims.specs.TrueClaims.{ChecksExactly, OneText, EntriesApart, TextsApart, OneRecord, OneBook, RecordAlone}
+use Rattle.claims.specs.TrueClaims.{ChecksExactly, OneText, SealingUndone, EntriesApart, TextsApart, OneRecord, OneBook, RecordAlone}
 use Rattle.claims.proofs.OnlyLaws.{of-image, apart, of-one-same, inverse-same}
 use Rattle.claims.proofs.TermLaws.{pair, legal-body, sealing-size, unsealing-size, text-by, body-by, opens-clear}
 
@@ -54,6 +54,9 @@ one-text a s v t = record {
 pub entries : (a : Algorithm) (s : List ℕ) (v : Version) → length s ≡ sealingSize a
     → Inverse (Legal a) (Opens a s v) (seal (formOf a) s (pair v)) (unseal (formOf a) s (pair v))
 entries a s v hs = inverse-same (λ b. Iff·symm (legal-body a b)) (λ t. Iff·symm (opens-clear a s v t hs)) (sealing a s (pair v))
+
+pub sealing-undone : SealingUndone
+sealing-undone a s v b hs hb = opens a s v hs b (legal-body a b .0 hb)
 
 pub entries-apart : EntriesApart
 entries-apart a s v b c hs hb hc e =

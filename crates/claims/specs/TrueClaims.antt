@@ -55,6 +55,12 @@ abbrev pub OneText : Type 0
 OneText = (a : Algorithm) (s : List ℕ) (v : Version) (t : List ℕ)
     → OfOne (Opens a s v t) (λ b. Legal a b × (sealBody a b v s ≡ record { refusal = 0; bytes = t })) (unsealCall a t s v .body)
 
+-- undoes-sealing: "Unsealing undoes sealing." Of every legal body, with no check failed. The sealing key has its length, or the body is not
+-- sealed
+abbrev pub SealingUndone : Type 0
+SealingUndone = (a : Algorithm) (s : List ℕ) (v : Version) (b : List ℕ) → length s ≡ sealingSize a → Legal a b
+    → unsealCall a (sealBody a b v s .bytes) s v ≡ record { refusal = 0; body = b; «failed_checks» = 0 }
+
 -- entries-never-share: "Two entries never share a text." For a given kind, ring and version. The sealing key has its length, or both
 -- would be refused alike
 abbrev pub EntriesApart : Type 0

@@ -72,7 +72,7 @@ module _ (a : Algorithm) (s : List ℕ) (v : Version) (hs : length s ≡ sealing
   unsealed-by t ht = rw (eq-eqb _ _ ht, eq-eqb _ _ hs)
 
   -- the sealed text of a legal body unseals to it
-  opens : (b : List ℕ) → Body (formOf a) b → unsealCall a (sealBody a b v s .bytes) s v ≡ record { refusal = 0; body = b; «failed_checks» = 0 }
+  pub opens : (b : List ℕ) → Body (formOf a) b → unsealCall a (sealBody a b v s .bytes) s v ≡ record { refusal = 0; body = b; «failed_checks» = 0 }
   opens b h =
       let i = sealing a s (bytesOf 2 (v .0)) in
       let t = i .to b h in
