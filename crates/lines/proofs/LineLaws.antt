@@ -1,12 +1,14 @@
--- Lines that grow at the end, and texts put over an output one after the other.
-use Rattle.standard.proofs.Prelude.{_≡_, refl, sym, ap, ap₂, _∙_, List, [], _∷_, _++_, append-nil, ℕ, zero, suc, _+_, _-_, _*_, _≤_, _<_, add-one}
+-- Lines that grow at the end, and texts written into an output one after the other.
+use Rattle.standard.proofs.Prelude.{_≡_, refl, sym, ap, ap₂, _∙_, List, [], _∷_, _++_, append-nil, ℕ, zero, suc, _+_, _-_, _*_, _≤_, _<_, zero-le, add-one}
 use Rattle.standard.proofs.Prelude.{arith, length, take, drop, set, length-append, length-set, length-take, length-drop, drop-of-length-le, take-all}
-use Rattle.standard.proofs.Prelude.{lt-ltb, le-ltb}
-use lib.Seq.{take-suc, take-suc-set, take-nil, drop-nil, append-snoc}
+use Rattle.standard.proofs.Prelude.{take-at, drop-at, drop-drop, lt-ltb, le-ltb}
+use mathlib.Core.List.{append-assoc}
+use lib.Seq.{take-suc, take-suc-set, append-snoc}
 use Rattle.standard.specs.Bytes.{_!_}
 use Rattle.standard.specs.Lists.{joined}
 use Rattle.standard.specs.Lines.{textCall}
-use Rattle.lines.specs.LineStates.{room, shown, emptyLine, push, _▸_, front, over, putCall}
+use Rattle.lines.specs.LineStates.{room, shown, emptyLine, push, _▸_, Over}
+use Rattle.standard.specs.declared.TextAnswer.{TextAnswer}
 use Rattle.lines.specs.declared.Line.{Line}
 
 -- ---- one text after the other
@@ -72,49 +74,53 @@ module _ (at : ℕ) (xs : List ℕ) where
   pub lent-none : drop (length xs - at) (drop at xs) ≡ []
   lent-none = drop-of-length-le (drop at xs) {i = length xs - at} (simp length-drop (omega arith))
 
--- after the output's end nothing is put
-pub put-past : (w out : List ℕ) (at n : ℕ) → n ≡ length w → length out ≤ at → (n, out) ≡ putCall at w out
-put-past w out at n e h =
-    rw (e, take-all at out h, drop-of-length-le out {i = at} h, drop-nil (length w), append-nil)
+-- an output that is too short for the text, and one that is not
+pub text-short : (w out : List ℕ) {n : ℕ} → n ≡ length w → length out < n → (record { refusal = 12; written = 0 }, out) ≡ textCall w out
+unfolding textCall
+text-short w out e h = rw (lt-ltb (length out) (length w) (omega arith))
 
--- the copy of a line's text over the output's part from `at` on
-pub put-copy : (bytes out ys : List ℕ) (at m n : ℕ) → n ≡ length (take m bytes) → ys ≡ front (take n bytes) (take (length out - at) (drop at out))
-    → (n, take at out ++ (ys ++ drop (length out - at) (drop at out))) ≡ putCall at (take m bytes) out
-put-copy bytes out ys at m n e f = rw (f, lent-rest at out, lent-none at out, append-nil, text, e)
+pub text-whole : (w out : List ℕ) → length w ≤ length out → (record { refusal = 0; written = length w }, w ++ drop (length w) out) ≡ textCall w out
+unfolding textCall
+text-whole w out h = rw (le-ltb (length out) (length w) h)
+
+-- the copy of a line's text
+pub text-copied : (bytes out : List ℕ) (m : ℕ) {n : ℕ} {exit : List ℕ} → n ≡ length (take m bytes) → n ≤ length out
+    → exit ≡ take (length out) (take n bytes) ++ drop (length (take n bytes)) out → (record { refusal = 0; written = n }, exit) ≡ textCall (take m bytes) out
+text-copied bytes out m {n} e h f =
+    rw (f, text, take-all (length out) (take m bytes) (omega arith), e) (text-whole (take m bytes) out (omega arith))
   where
     text : take n bytes ≡ take m bytes
     text = ap (λ (k : ℕ). take k bytes) e ∙ take-taken m bytes
 
--- what was put
-module _ (at : ℕ) (w out : List ℕ) {n : ℕ} {exit : List ℕ} (e : (n, exit) ≡ putCall at w out) where
-  pub put-length : n ≡ length w
-  put-length = ap (λ (x : ℕ × List ℕ). x .0) e
+-- ---- texts over an output, one after the other
 
-  pub put-over : exit ≡ over at w out
-  put-over = ap (λ (x : ℕ × List ℕ). x .1) e
+over : (w out : List ℕ) {end : ℕ} {exit : List ℕ} → length w ≤ length out → end ≡ length w → exit ≡ w ++ drop (length w) out → Over w out end exit
+over w out {end} {exit} h e f = record { ends = e; bytes = f; within = omega (arith, e, kept); kept = kept }
+  where
+    kept : length exit ≡ length out
+    kept = ap length f ∙ simp (length-append, length-drop) (omega arith)
 
-  pub put-keeps : length exit ≡ length out
-  put-keeps = ap length put-over ∙ simp (length-append, length-take, length-drop) (omega arith)
+pub over-none : (out : List ℕ) → Over [] out 0 out
+over-none out = record { ends = refl; bytes = refl; within = zero-le; kept = refl }
 
--- nothing yet, and one text after the other
-front-none : (out : List ℕ) → front [] out ≡ out
-front-none out = rw take-nil
+-- what `write` answers, where there is room
+pub written-over : (w out : List ℕ) {r : TextAnswer} {exit : List ℕ} → length w ≤ length out → (r, exit) ≡ textCall w out → Over w out (r .written) exit
+written-over w out h e =
+    let t = e ∙ sym (text-whole w out h) in
+    over w out h (ap (λ (x : TextAnswer × List ℕ). x .0 .written) t) (ap (λ (x : TextAnswer × List ℕ). x .1) t)
 
-pub put-none : (out : List ℕ) → (0, out) ≡ putCall 0 [] out
-put-none out = rw front-none
-
-front-next : (v w out : List ℕ) → over (length v) w (front v out) ≡ front (v ++ w) out
-front-next [] w out = ap (front w) (front-none out)
-front-next (b ∷ v) w [] = drop-nil (length w)
-front-next (b ∷ v) w (o ∷ out) = ap (_∷_ b) (front-next v w out)
-
-pub put-next : (v w out₀ : List ℕ) {at n : ℕ} {out exit : List ℕ} → (at, out) ≡ putCall 0 v out₀ → (n, exit) ≡ putCall at w out
-    → (at + n, exit) ≡ putCall 0 (v ++ w) out₀
-put-next v w out₀ {at} {n} {out} {exit} p q =
-    let a = put-length 0 v out₀ p in
-    let total : at + n ≡ length (v ++ w) = ap₂ _+_ a (put-length at w out q) ∙ sym (length-append v w) in
-    let bytes : exit ≡ front (v ++ w) out₀ = put-over at w out q ∙ ap₂ (λ (k : ℕ) (o : List ℕ). over k w o) a (put-over 0 v out₀ p) ∙ front-next v w out₀ in
-    rw (total, bytes)
+-- w, written into the rest of the output after v
+pub over-next : (v w out₀ : List ℕ) {at : ℕ} {r : TextAnswer} {out exit : List ℕ} → length (v ++ w) ≤ length out₀ → Over v out₀ at out
+    → (r, exit) ≡ textCall w (take (length out - at) (drop at out))
+    → Over (v ++ w) out₀ (at + r .written) (take at out ++ (exit ++ drop (length out - at) (drop at out)))
+over-next v w out₀ {at} {r} {out} {exit} h p q =
+    let rest = drop (length v) out₀ in
+    let front : take at out ≡ v = ap₂ take (p .ends) (p .bytes) ∙ take-at v rest (length v) refl in
+    let after : drop at out ≡ rest = ap₂ drop (p .ends) (p .bytes) ∙ drop-at v rest (length v) refl in
+    let room : length w ≤ length rest = simp length-drop (omega (arith, length-append v w, h)) in
+    let t = written-over w rest room (q ∙ ap (textCall w) (lent-rest at out ∙ after)) in
+    over (v ++ w) out₀ h (ap₂ _+_ (p .ends) (t .ends) ∙ sym (length-append v w))
+    (rw (front, lent-none at out, append-nil, t .bytes, drop-drop, append-assoc, length-append))
 
 -- ---- the lines g 0, g 1, .. one after the other
 
@@ -122,26 +128,8 @@ pub joined-most : (g : ℕ → List ℕ) → ((j : ℕ) → length (g j) ≤ roo
 joined-most g h zero = omega arith
 joined-most g h (suc n) = simp length-append (omega (arith, joined-most g h n, h n))
 
--- a turn of a loop that puts line i after those before it
-module _ (g : ℕ → List ℕ) (i : ℕ) (out₀ : List ℕ) {at n : ℕ} {line out exit : List ℕ} (e : line ≡ g i)
-    (f : (at, out) ≡ putCall 0 (joined i g) out₀) (q : (n, exit) ≡ putCall at line out) where
-  pub lines-next : (at + n, exit) ≡ putCall 0 (joined (i + 1) g) out₀
-  lines-next =
-      put-next (joined i g) line out₀ f q
-      ∙ ap (λ (w : List ℕ). putCall 0 (joined i g ++ w) out₀) e
-      ∙ ap (λ (k : ℕ). putCall 0 (joined k g) out₀) (sym (add-one i))
-
-  -- their length
-  pub lines-most : ((j : ℕ) → length (g j) ≤ room) → at + n ≤ room * i + room
-  lines-most h = omega (arith, put-length 0 (joined i g) out₀ f, joined-most g h i, put-length at line out q, ap length e, h i)
-
--- ---- the call for a text
-
-pub write-short : (w out : List ℕ) {n : ℕ} → n ≡ length w → length out < n → (record { refusal = 12; written = 0 }, out) ≡ textCall w out
-unfolding textCall
-write-short w out e h = rw (lt-ltb (length out) (length w) (omega arith))
-
-pub write-whole : (w out : List ℕ) {n : ℕ} {exit : List ℕ} → n ≡ length w → n ≤ length out → exit ≡ front w out
-    → (record { refusal = 0; written = n }, exit) ≡ textCall w out
-unfolding textCall
-write-whole w out e h f = rw (le-ltb (length out) (length w) (omega arith), e, f, take-all (length out) w (omega arith))
+-- a turn of a loop that writes line i after those before it
+pub lines-next : (g : ℕ → List ℕ) (i : ℕ) (out₀ : List ℕ) {at : ℕ} {r : TextAnswer} {line out exit : List ℕ} → line ≡ g i
+    → length (joined (suc i) g) ≤ length out₀ → Over (joined i g) out₀ at out → (r, exit) ≡ textCall line (take (length out - at) (drop at out))
+    → Over (joined (i + 1) g) out₀ (at + r .written) (take at out ++ (exit ++ drop (length out - at) (drop at out)))
+lines-next g i out₀ e h p q = rw (add-one i) (over-next (joined i g) (g i) out₀ h p (rw e at q))

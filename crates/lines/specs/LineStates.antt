@@ -1,6 +1,7 @@
 -- A line in the making, and a text over an output.
 use mathlib.Core.List.{List, [], _∷_, _++_}
-use Prim.Native.Nat.{ℕ, _+_}
+use mathlib.Core.Path.{_≡_}
+use Prim.Native.Nat.{ℕ, _+_, _≤_}
 use lib.Dec.{ltb}
 use lib.ListN.{length, take, drop, set, replicate}
 use Rattle.standard.specs.Bytes.{choose}
@@ -27,14 +28,9 @@ unfoldable pub _▸_ : Line → List ℕ → Line
 l ▸ [] = l
 l ▸ (b ∷ w) = push l b ▸ w
 
--- a text over the front of an output, as far as the output reaches
-abbrev pub front : List ℕ → List ℕ → List ℕ
-front w out = take (length out) w ++ drop (length w) out
-
--- and from index `at` on
-abbrev pub over : ℕ → List ℕ → List ℕ → List ℕ
-over at w out = take at out ++ front w (drop at out)
-
--- what putting a text there answers: its length
-abbrev pub putCall : ℕ → List ℕ → List ℕ → ℕ × List ℕ
-putCall at w out = (length w, over at w out)
+-- w over the front of an output that has room for it: where w ends, and the output then
+pub record Over (w out : List ℕ) (end : ℕ) (exit : List ℕ) : Type 0 where
+  pub ends : end ≡ length w
+  pub bytes : exit ≡ w ++ drop (length w) out
+  pub within : end ≤ length exit
+  pub kept : length exit ≡ length out

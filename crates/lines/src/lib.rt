@@ -1,4 +1,4 @@
-// Text in the making: fixed words and numbers, put together in a line, and a line put into an output.
+// Text in the making: fixed words and numbers, put together in a line, and a line written into an output.
 use arrays::copy;
 use standard::OUTPUT_SHORT;
 use standard::TextAnswer;
@@ -7,7 +7,7 @@ ghost use mathlib.Core.Path.{_≡_};
 ghost use Prim.Native.Nat.{_≤_};
 ghost use lib.ListN.{length};
 ghost use Rattle.standard.specs.Lines.{digits as digitsOf, decimal as decimalOf, hexDigit, hexByte, hex as hexOf, textCall};
-ghost use Rattle.lines.specs.LineStates.{shown, emptyLine, _▸_, putCall};
+ghost use Rattle.lines.specs.LineStates.{shown, emptyLine, _▸_};
 
 // The most bytes of a line.
 pub const ROOM: usize = 160;
@@ -105,30 +105,19 @@ impl Line {
         r
     }
 
-    // The text over the output from index `at` on, as far as the output reaches; its length.
-    pub fn put(self, out: &mut [u8], at: usize) -> usize
-        ensures { λ r. ⌜ (r, now (out .exit)) ≡ putCall at (shown self) (now (out .entry)) ⌝ }
-    {
-        let n = self.size();
-        if at >= out.len() {
-            return n;
-        }
-        let bytes = self.bytes;
-        copy(&bytes[..n], &mut out[at..]);
-        n
-    }
-
     // The text into an output that has room for it.
     pub fn write(self, out: &mut [u8]) -> TextAnswer
         ensures { λ r. ⌜ (r, now (out .exit)) ≡ textCall (shown self) (now (out .entry)) ⌝ }
     {
-        if out.len() < self.size() {
+        let n = self.size();
+        if out.len() < n {
             return TextAnswer::refused(OUTPUT_SHORT);
         }
-        let written = self.put(out, 0);
+        let bytes = self.bytes;
+        copy(&bytes[..n], out);
         TextAnswer {
             refusal: 0,
-            written,
+            written: n,
         }
     }
 }

@@ -1,12 +1,12 @@
 -- The lines of the listing: none is longer than a line may be, and the book's lines one after the other.
-use Rattle.standard.proofs.Prelude.{_≡_, refl, ap, _∙_, Bool, true, false, List, _++_, ℕ, _+_, _*_, _/_, _≤_, arith, eqb, length, length-append}
-use Rattle.standard.proofs.Prelude.{take-all, eqb-true, eq-eqb, ne-eqb}
+use Rattle.standard.proofs.Prelude.{_≡_, refl, _∙_, Bool, true, false, List, _++_, ℕ, _+_, _*_, _/_, _≤_, arith, eqb, length, length-append}
+use Rattle.standard.proofs.Prelude.{eqb-true, eq-eqb, ne-eqb}
 use Rattle.standard.proofs.AnswerLaws.{is-accepted, lengths-fine}
 use Rattle.standard.proofs.BytesLaws.{length-table}
 use Rattle.standard.specs.Books.{recordKind, plainFault, checkPlain}
 use Rattle.standard.specs.Lists.{recordAt}
 use Rattle.standard.specs.Bytes.{_!_, part, choose}
-use Rattle.standard.specs.PlainListing.{numberText, entryLine, entryLines, entriesLine, refusedLine, listing, listingRoom, listCall}
+use Rattle.standard.specs.PlainListing.{numberText, entryLine, entryLines, entriesLine, refusedLine, listing, listingRoom}
 use Rattle.standard.specs.PlainListingFacts.{ListingFits}
 use Rattle.standard.specs.Seals.{keyLength}
 use Rattle.standard.specs.Sizes.{plainSize}
@@ -14,9 +14,9 @@ use Rattle.standard.specs.Lines.{hex}
 use Rattle.standard.specs.declared.BookAnswer.{BookAnswer}
 use Rattle.standard.specs.declared.Algorithm.the-variants.{Ta31, Ta51, Ta81, Ta91}
 use Rattle.standard.specs.declared.Algorithm.{Algorithm}
-use Rattle.lines.proofs.LineLaws.{put-next, joined-most}
+use Rattle.lines.proofs.LineLaws.{joined-most}
 use Rattle.lines.proofs.TextLaws.{digits-few, hex-twice}
-use Rattle.lines.specs.LineStates.{room, putCall}
+use Rattle.lines.specs.LineStates.{room}
 
 -- ---- lengths
 
@@ -47,9 +47,6 @@ pub entries-short : (n : ℕ) → length (entriesLine n) ≤ room
 unfolding entriesLine
 entries-short n = simp length-append (omega (arith, digits-few 20 n))
 
-pub last-short : (n : ℕ) {line : List ℕ} → line ≡ entriesLine n → length line ≤ room
-last-short n e = omega (arith, ap length e, entries-short n)
-
 pub refused-short : (refusal index : ℕ) → length (refusedLine refusal index) ≤ room
 unfolding refusedLine
 refused-short refusal index = simp length-append (omega (arith, digits-few 20 refusal, digits-few 20 index))
@@ -63,11 +60,6 @@ lines-short n p = joined-most (λ i. entryLine i (recordAt 18 p i)) (λ i. entry
 -- those of 1,024 records and the last line have room in the output
 pub entries-most : (n : ℕ) (p : List ℕ) → n ≤ 1024 → length (entryLines n p ++ entriesLine n) ≤ listingRoom
 entries-most n p h = simp length-append (omega (arith, h, lines-short n p, entries-short n))
-
--- the last line after those of the records
-pub entries-put : (n : ℕ) (p out₀ : List ℕ) {at k : ℕ} {line out exit : List ℕ} → line ≡ entriesLine n
-    → (at, out) ≡ putCall 0 (entryLines n p) out₀ → (k, exit) ≡ putCall at line out → (at + k, exit) ≡ putCall 0 (entryLines n p ++ entriesLine n) out₀
-entries-put n p out₀ e f g = put-next (entryLines n p) (entriesLine n) out₀ f (rw e at g)
 
 -- ---- the calls
 
@@ -96,6 +88,3 @@ listing-fits p = go (eqb (checkPlain p .refusal) 0) refl
         → length (choose t (entryLines n p ++ entriesLine n) (refusedLine (checkPlain p .refusal) (checkPlain p .index))) ≤ listingRoom
     go true e = entries-most n p (accepted-few p (eqb-true _ 0 e))
     go false e = omega (arith, refused-short (checkPlain p .refusal) (checkPlain p .index))
-
-pub listed : (p out : List ℕ) {n : ℕ} {exit : List ℕ} → listingRoom ≤ length out → (n, exit) ≡ putCall 0 (listing p) out → (n, exit) ≡ listCall p out
-listed p out h e = e ∙ rw (take-all (length out) (listing p) (omega (arith, h, listing-fits p)))

@@ -14,9 +14,9 @@ ghost use Prim.Native.Nat.{_+_, _-_, _*_, _≤_};
 ghost use lib.ListN.{length, take, drop};
 ghost use Rattle.standard.specs.Bytes.{_!_};
 ghost use Rattle.standard.specs.Seals.{keyLength};
-ghost use Rattle.standard.specs.PlainListing.{numberText, entryLine, entryLines, entriesLine, refusedLine, listCall};
+ghost use Rattle.standard.specs.PlainListing.{numberText, entryLine, entryLines, entriesLine, refusedLine, listingRoom, listCall};
 ghost use Rattle.standard.specs.Lines.{ascii, decimal, hex};
-ghost use Rattle.lines.specs.LineStates.{shown, emptyLine, _▸_, putCall};
+ghost use Rattle.lines.specs.LineStates.{shown, emptyLine, _▸_, Over};
 
 // Room for every listing: a line for each of 1,024 records, and the last one.
 pub const LISTING: usize = (MOST_RECORDS + 1) * ROOM;
@@ -104,17 +104,18 @@ fn refused_line(refusal: u32, index: usize) -> Line
     refused_at(refusal, index).word(b"\n")
 }
 
-// The lines of the records, each from a part of the book, over the front of the output as far as it reaches; their length.
+// The lines of the records, each from a part of the book, over the front of the output; their length.
 fn entry_lines(plain: &[u8], n: usize, out: &mut [u8]) -> usize
-    requires { ⌜ (18 * n ≤ length (now plain)) × (n ≤ 1024) ⌝ }
-    ensures { λ r. ⌜ (r, now (out .exit)) ≡ putCall 0 (entryLines n (now (plain .entry))) (now (out .entry)) ⌝ }
+    requires { ⌜ (18 * n ≤ length (now plain)) × (n ≤ 1024) × (listingRoom ≤ length (now out)) ⌝ }
+    ensures { λ r. ⌜ Over (entryLines n (now (plain .entry))) (now (out .entry)) r (now (out .exit)) ⌝ }
 {
     let mut at = 0;
     let mut i = 0;
     while i < n {
         let a = PLAIN_RECORD * i;
         let line = entry_line(i, &plain[a..a + PLAIN_RECORD]);
-        at += line.put(out, at);
+        let answer = line.write(&mut out[at..]);
+        at += answer.written;
         i += 1;
     }
     at
@@ -122,12 +123,12 @@ fn entry_lines(plain: &[u8], n: usize, out: &mut [u8]) -> usize
 
 // The lines of an accepted book's n records, and the last line after them; their length.
 fn list_entries(plain: &[u8], n: usize, out: &mut [u8]) -> usize
-    requires { ⌜ (18 * n ≤ length (now plain)) × (n ≤ 1024) ⌝ }
-    ensures { λ r. ⌜ (r, now (out .exit)) ≡ putCall 0 (entryLines n (now (plain .entry)) ++ entriesLine n) (now (out .entry)) ⌝ }
+    requires { ⌜ (18 * n ≤ length (now plain)) × (n ≤ 1024) × (listingRoom ≤ length (now out)) ⌝ }
+    ensures { λ r. ⌜ Over (entryLines n (now (plain .entry)) ++ entriesLine n) (now (out .entry)) r (now (out .exit)) ⌝ }
 {
     let at = entry_lines(plain, n, out);
-    let last = entries_line(n).put(out, at);
-    at + last
+    let last = entries_line(n).write(&mut out[at..]);
+    at + last.written
 }
 
 // The listing of a plain book over the front of an output that has room for every listing; its length.
@@ -136,7 +137,8 @@ pub fn list_plain(plain: &[u8], out: &mut [u8; LISTING]) -> usize
 {
     let answer = check_plain(plain);
     if answer.refusal != 0 {
-        return refused_line(answer.refusal, answer.index).put(out, 0);
+        let line = refused_line(answer.refusal, answer.index).write(out);
+        return line.written;
     }
     list_entries(plain, plain.len() / 18, out)
 }

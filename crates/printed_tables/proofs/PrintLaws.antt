@@ -1,12 +1,13 @@
 -- The lines of the tables one after the other, and the ways in which the call returns.
-use Rattle.standard.proofs.Prelude.{_≡_, refl, sym, ap, _∙_, List, [], _∷_, _++_, ℕ, _≤_, _<_, arith, length}
+use Rattle.standard.proofs.Prelude.{_≡_, refl, sym, ap, _∙_, List, [], _∷_, _++_, ℕ, _-_, _≤_, _<_, arith, length, take, drop}
 use Rattle.standard.proofs.PrintedTablesLaws.{inverse-made, line-length, text-length}
 use Rattle.standard.specs.Bytes.{_!_, part}
 use Rattle.standard.specs.Hurdle.{S, S⁻¹}
 use Rattle.standard.specs.PrintedTables.{inverse, rotations, spaced, tableLine, tableLines, tablesText, tablesCall}
-use Rattle.standard.specs.Lines.{ascii, hexByte}
-use Rattle.lines.proofs.LineLaws.{line-append, put-over, put-next, line-whole, write-short, write-whole}
-use Rattle.lines.specs.LineStates.{shown, emptyLine, _▸_, putCall}
+use Rattle.standard.specs.Lines.{ascii, hexByte, textCall}
+use Rattle.standard.specs.declared.TextAnswer.{TextAnswer}
+use Rattle.lines.proofs.LineLaws.{line-append, line-whole, text-short, text-whole, over-next}
+use Rattle.lines.specs.LineStates.{shown, emptyLine, _▸_, Over}
 use Rattle.lines.specs.declared.Line.{Line}
 
 -- an entry more, at the end
@@ -27,14 +28,13 @@ line-shown t s {l} e f =
 
 module _ (out : List ℕ) where
   pub short : length out < 816 → (record { refusal = 12; written = 0 }, out) ≡ tablesCall out
-  short h = write-short tablesText out (sym text-length) h
+  short h = text-short tablesText out (sym text-length) h
 
-  pub whole : {at n : ℕ} {line out₁ exit : List ℕ} → 816 ≤ length out → (at, out₁) ≡ putCall 0 (tableLines 16 S⁻¹) out → line ≡ tableLine rotations
-      → (n, exit) ≡ putCall at line out₁ → (record { refusal = 0; written = 816 }, exit) ≡ tablesCall out
+  pub whole : {at : ℕ} {r : TextAnswer} {line out₁ exit : List ℕ} → 816 ≤ length out → Over (tableLines 16 S⁻¹) out at out₁
+      → line ≡ tableLine rotations → (r, exit) ≡ textCall line (take (length out₁ - at) (drop at out₁))
+      → (record { refusal = 0; written = 816 }, take at out₁ ++ (exit ++ drop (length out₁ - at) (drop at out₁))) ≡ tablesCall out
   unfolding tablesText
-  whole h a e b =
-      write-whole tablesText out (sym text-length) h
-      (put-over 0 tablesText out (put-next (tableLines 16 (inverse S)) (tableLine rotations) out (a ∙ made) (rw e at b)))
-    where
-      made : putCall 0 (tableLines 16 S⁻¹) out ≡ putCall 0 (tableLines 16 (inverse S)) out
-      made = ap (λ (t : List ℕ). putCall 0 (tableLines 16 t) out) (sym inverse-made)
+  whole {at} {out₁ = out₁} h a e b =
+      let lines : Over (tableLines 16 (inverse S)) out at out₁ = rw inverse-made a in
+      let both = over-next (tableLines 16 (inverse S)) (tableLine rotations) out (omega (arith, text-length)) lines (rw e at b) in
+      rw (both .bytes, ← text-length) (text-whole tablesText out (omega (arith, text-length)))

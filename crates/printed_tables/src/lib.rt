@@ -5,10 +5,11 @@ use lines::Line;
 use standard::OUTPUT_SHORT;
 use standard::TextAnswer;
 ghost use mathlib.Core.Path.{_≡_};
+ghost use Prim.Native.Nat.{_≤_};
 ghost use lib.ListN.{length};
 ghost use Rattle.standard.specs.Hurdle.{S⁻¹};
 ghost use Rattle.standard.specs.PrintedTables.{rotations as rotationsOf, spaced as spacedOf, tableLine, tableLines, tablesCall};
-ghost use Rattle.lines.specs.LineStates.{shown, emptyLine, _▸_, putCall};
+ghost use Rattle.lines.specs.LineStates.{shown, emptyLine, _▸_, Over};
 
 // The bytes of the text: seventeen lines, each of sixteen entries of two digits with a space or the line's end after it.
 pub const TABLES_TEXT: usize = 816;
@@ -62,15 +63,16 @@ fn table_line(t: &[u8]) -> Line
 
 // The sixteen lines of a table over the front of the output; their length.
 fn table_lines(t: &[u8], out: &mut [u8]) -> usize
-    requires { ⌜ length (now t) ≡ 256 ⌝ }
-    ensures { λ r. ⌜ (r, now (out .exit)) ≡ putCall 0 (tableLines 16 (now (t .entry))) (now (out .entry)) ⌝ }
+    requires { ⌜ (length (now t) ≡ 256) × (768 ≤ length (now out)) ⌝ }
+    ensures { λ r. ⌜ Over (tableLines 16 (now (t .entry))) (now (out .entry)) r (now (out .exit)) ⌝ }
 {
     let mut at = 0;
     let mut i = 0;
     while i < 16 {
         let from = 16 * i;
         let line = table_line(&t[from..from + 16]);
-        at += line.put(out, at);
+        let answer = line.write(&mut out[at..]);
+        at += answer.written;
         i += 1;
     }
     at
@@ -86,7 +88,7 @@ pub fn print_tables(out: &mut [u8]) -> TextAnswer
     let inverse = inverse();
     let rotations = rotations();
     let at = table_lines(&inverse, out);
-    table_line(&rotations).put(out, at);
+    table_line(&rotations).write(&mut out[at..]);
     TextAnswer {
         refusal: 0,
         written: TABLES_TEXT,
