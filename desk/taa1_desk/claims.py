@@ -1,309 +1,1037 @@
-"""The claims of docs/ARGUMENT.md as data, since an installed desk has no docs: tests/desk
-holds them against that page's table."""
+"""The argument for markers as data, since an installed desk has no docs: the steps of the
+model argument, the parts of the rubric and the rows of the table. `contracts write` makes
+them from crates/claims/argument.toml, as it does docs/ARGUMENT.md's."""
 
 from __future__ import annotations
 
 from typing import NamedTuple
 
 
+class Step(NamedTuple):
+    """A step of the model argument; they are numbered from 1."""
+
+    title: str
+    words: str
+
+
+class Part(NamedTuple):
+    """A part of the rubric: what it asks, and what is worth its points, half of them, none."""
+
+    name: str
+    points: int
+    asks: str
+    full: str
+    half: str
+    none: str
+
+
 class Claim(NamedTuple):
     """A sentence that a candidate may write, and what is proved of it."""
 
-    label: str
+    label: str  # the number of its step, and a letter
+    name: str
     sentence: str
-    true: bool
-    proved: str  # for all, or by an example
+    verdict: str  # true, false, false as a reason, or open
+    proved: str  # for all, or by an example; nothing of what is open
     why: str
+    instead: str  # what is so instead, if it is false
+    crate: str  # where statement and theorem stand, each as a file and a name
     statement: str
     theorem: str
 
-    @property
-    def verdict(self) -> str:
-        """Whether it is true, in a word."""
-        return "true" if self.true else "false"
 
-    @property
-    def name(self) -> str:
-        """The statement's name without its file."""
-        return self.statement.partition(".")[2]
+STEPS: tuple[Step, ...] = (
+    # begin steps, made by `contracts write`
+    Step(
+        "What is given",
+        "Kind, ring and version are given. The kind names one of the ring's keys as the sealing"
+        " key, and sealing key and version give the key of the cipher, which is therefore fixed."
+        " Nothing less will do: another kind, ring or version may open the same text as well, to"
+        " the same bytes (1a, 1f) or to others (1b, 1j, 1k).",
+    ),
+    Step(
+        "The cipher can be undone",
+        "Under one key each block of 8 bytes is the encryption of one block, since decryption"
+        " undoes encryption (2a). f itself can't be undone (2b) and need not be: a round leaves"
+        " one half as it is, so f of that half can be worked again and taken away, whatever f is"
+        " (2c).",
+    ),
+    Step(
+        "The dropped byte comes back",
+        "BL1's sixteen bytes lose byte 8, the last of the left block. The right block, decrypted,"
+        " is the right input ⊕ the left output; and as the input's last byte is zero, the last"
+        " byte of that is the dropped one. So each string of 15 bytes comes from exactly one input"
+        " that ends in a zero byte (3a). Without the zero byte 256 inputs would share it (3b), and"
+        " so they would without the chaining (3c).",
+    ),
+    Step(
+        "One entry for a text",
+        "The input is the kind's expansion of the body, and the body can be read out of it again."
+        " So the text fixes the input and the input fixes the body: two entries never share a text"
+        " (4b). Or in one sentence: unsealing undoes sealing, and gives one result (4a). This"
+        " answers why a sealed text can open to one entry only. It needs no check.",
+    ),
+    Step(
+        "What the checks say",
+        "Unsealing gives some body for every text there is, so that a text unseals to a key says"
+        " nothing (5b). The checks pass exactly on what the kind's expansion makes of a legal"
+        " body, and shrinking gives that body (5a). For kinds 2 and 5 the three zero bits of the"
+        " number byte belong to the checks: without them eight texts would open to one entry (5e).",
+    ),
+    Step(
+        "What opens was sealed",
+        "A text comes from one input (step 3). If no check fails, that input is the expansion of"
+        " a legal body (step 5). So the text is the sealed text of that body, of no other, and"
+        " sealing the body gives the text again (6a).",
+    ),
+    Step(
+        "Records",
+        "A record is its text and what stands before it. Kind and version stand there in the"
+        " clear, and TA61 can be undone under a given ring, so the identity, too, comes from one"
+        " only (7a). The flag protects neither the identity (7c) nor the kind byte (7f).",
+    ),
+    Step(
+        "Books",
+        "A book is its records in their order, as many as its length says; it opens exactly if"
+        " each of them does (8b), and it is the sealed form of one plain book (8a). That no record"
+        " was left out, repeated or moved does not follow (8d, 8e, 8f).",
+    ),
+    Step(
+        "What the flag notices",
+        "To open to one entry only is not to notice every change. Some changes of one byte are"
+        " always noticed (9b); others may lead from one text that opens to another (9c, 9e).",
+    ),
+    Step(
+        "Marking by equal records",
+        "A hand-in may have its records in any order. It is marked by the number of its records"
+        " that are the model's, byte for byte, none counted twice; no other way to pair them would"
+        " count more (10a), and neither order nor copies change it (10b, 10c).",
+    ),
+    # end steps
+)
 
+PARTS: tuple[Part, ...] = (
+    # begin parts, made by `contracts write`
+    Part(
+        "given",
+        1,
+        "Say what must be fixed for that.",
+        "Kind, ring and version are said to be given, in any words: the sealing key and the"
+        " version will do, and so will the key of the cipher.",
+        "One of them is left out.",
+        "Nothing is said to be fixed, or it is said to hold whatever the ring or the version (1j,"
+        " 1k).",
+    ),
+    Part(
+        "one entry",
+        3,
+        "Why can a sealed text open to one entry only?",
+        "Kind, ring and version are given, and two entries never have one text (4b), by any sound"
+        " route. Undoing: unsealing undoes sealing, so both entries would be what the text unseals"
+        " to (4a). Tracing back: the same text has the same right block, so the same dropped byte,"
+        " the same left block, the same input, the same body (3a). Contradiction. Counting: the"
+        " texts that inputs ending in a zero byte give are all there are, and there are as many"
+        " such inputs; a map from a set onto one of the same size takes no two to one. The checks"
+        " are not needed, and leaving them out costs nothing here.",
+        "A sound route, but nothing is said to be given. Or a step is left out that the route"
+        " needs: how the dropped byte comes back, where the candidate traces back. ('Unsealing"
+        " undoes sealing' holds this step, and lacks nothing.)",
+        "The conclusion alone; a route that rests on a sentence which is false or no reason (2b,"
+        " 3d, 9c); or chance: 'few texts open' is no argument, since 256^12 of kind 3 do.",
+    ),
+    Part(
+        "one result",
+        1,
+        "In the place of 'one entry', where that part gets nothing.",
+        "'Unsealing is a calculation and has one result.' That settles the bare words, that a"
+        " text opens to one result. It shows neither that two entries never share a text nor that"
+        " what opens was sealed (6c).",
+        "",
+        "Less than that, or 'one entry' got points.",
+    ),
+    Part(
+        "properties",
+        2,
+        "Which property of each step of the sealing does your argument use?",
+        "The steps that the argument uses, each with its property. Of the expansion: the body can"
+        " be read out of it. Of BL1: the input ends in a zero byte, and the left output goes into"
+        " the right block. Of the cipher: decryption undoes encryption under one key (2a). Who"
+        " argues by undoing says why unsealing undoes sealing with the same three.",
+        "One of the three is left out, or is named without its property.",
+        "None of them; or false reasons: f can be undone (2b), S is a permutation (2c), the"
+        " dropped byte is zero (3e).",
+    ),
+    Part(
+        "without it",
+        2,
+        "What is no longer so without it?",
+        "For each property that the argument uses what is lost, in any words. The zero byte, or"
+        " the chaining: 256 inputs share a text (3b, 3d, 3c). A cipher that can be undone: two"
+        " blocks may have one encryption. What is given: the text opens to other entries, too (1b,"
+        " 1j, 1k). Where the checks are used: so many texts unseal to one entry (5c), or eight"
+        " (5e).",
+        "One of the properties that were named, and no more.",
+        "Nothing, or a sentence that is false.",
+    ),
+    Part(
+        "was sealed",
+        2,
+        "Why was every text that opens sealed from an entry?",
+        "Each text comes from one input that ends in a zero byte; the checks pass only if that"
+        " input is the expansion of a legal body, for kinds 2 and 5 with the three bits; so"
+        " sealing that body gives the text (5a, 6a). Or by counting: as many texts pass the checks"
+        " as there are legal bodies, and the bodies' texts are all different and all pass (6d); a"
+        " one-to-one map between sets of one size reaches all.",
+        "'The checks pass, so the key is right', without that they pass on nothing but"
+        " expansions; or the three bits are left out where kinds 2 and 5 are spoken of (5e).",
+        "'Unsealing has one result, so it was sealed' (6c); 'it unseals to a key' (5b); or"
+        " nothing.",
+    ),
+    # end parts
+)
+
+# What is done with a sentence that is none of the claims.
+RULES: tuple[str, ...] = (
+    # begin rules, made by `contracts write`
+    "A sentence is judged by what it says, not by its words. A row about all kinds settles a"
+    " sentence about one kind; the row's words 'kind, ring and version given' may stand anywhere"
+    " in the candidate's text.",
+    "A sentence that no row settles, and that does not follow from rows in a step that the marker"
+    " can write down, is neither proved nor refuted here. It wins nothing and costs nothing. If a"
+    " part rests on it alone, two markers decide that part together; nobody is marked down for a"
+    " sentence that has not been refuted.",
+    "A false sentence costs the part that rests on it, and no other. Beside a sound argument that"
+    " does not use it, it costs nothing.",
+    "Of a false row, tick who says it and who denies it, and whether a reason is given. To deny"
+    " it with a reason may stand for a property, or for what is no longer so, where it is one.",
+    # end rules
+)
 
 CLAIMS: tuple[Claim, ...] = (
+    # begin claims, made by `contracts write`
     Claim(
-        "1",
-        "Decryption undoes encryption.",
-        True,
-        "for all",
-        "each round is undone by the same round on the halves exchanged",
-        "TrueClaims.Undone",
-        "CipherClaims.undone",
-    ),
-    Claim(
-        "2a",
-        "The dropped byte loses nothing: every string of 15 bytes comes from exactly one input"
-        " that ends in a zero byte.",
-        True,
-        "for all",
-        "the zero byte ⊕ the dropped byte is the last byte of the right block, decrypted",
-        "TrueClaims.NothingLost",
-        "CoreClaims.nothing-lost",
-    ),
-    Claim(
-        "2b",
-        "Without the zero byte exactly 256 inputs would share each text.",
-        True,
-        "for all",
-        "one for each value of the dropped byte, since BL1 on sixteen bytes can be undone",
-        "TrueClaims.Shared",
-        "CoreClaims.shared",
-    ),
-    Claim(
-        "3",
-        "The checks pass exactly on the expansions of legal bodies, and shrinking gives the body.",
-        True,
-        "for all",
-        "the inserted bytes follow from the others, and shrinking leaves the others",
-        "TrueClaims.ChecksExactly",
-        "EntryClaims.checks-exactly",
-    ),
-    Claim(
-        "4a",
-        "For a given kind, ring and version a text opens exactly if it is the sealed text of an"
-        " entry, of one and no other.",
-        True,
-        "for all",
-        "2a and 3, one after the other",
-        "TrueClaims.OneText",
-        "EntryClaims.one-text",
-    ),
-    Claim(
-        "4b",
-        "A sealed record opens exactly if it is the sealed form of a plain record, of one and no"
-        " other, its identity included.",
-        True,
-        "for all",
-        "4a, and TA61 can be undone",
-        "TrueClaims.OneRecord",
-        "EntryClaims.one-record",
-    ),
-    Claim(
-        "4c",
-        "A book opens exactly if it is what sealing makes of a well-formed plain book, of one and"
-        " no other.",
-        True,
-        "for all",
-        "4b of each record, in order",
-        "TrueClaims.OneBook",
-        "EntryClaims.one-book",
-    ),
-    Claim(
-        "4d",
-        "A record by itself opens as a book of one record does.",
-        True,
-        "for all",
-        "a book is opened record by record",
-        "TrueClaims.RecordAlone",
-        "EntryClaims.record-alone",
-    ),
-    Claim(
-        "5",
-        "Of the 256^15 texts exactly as many open as there are legal bodies: 256^10 of kind 1, 32"
-        " · 256^10 of kinds 2 and 5, 256^12 of kinds 3, 4 and 6.",
-        True,
-        "for all",
-        "by 4a they stand one to one with the legal bodies, and those with the numbers below that"
-        " count",
-        "TrueClaims.HowMany",
-        "CountClaims.how-many",
-    ),
-    Claim(
-        "6a",
-        "A text whose flag is set unseals to a key all the same.",
-        True,
-        "for all",
-        "the key's bytes are taken out whether the inserted bytes are right or not",
-        "TrueClaims.UnsealsAllTheSame",
-        "FlagClaims.unseals-all-the-same",
-    ),
-    Claim(
-        "6b",
-        "For kinds 2 and 5 exactly seven other texts unseal to an entry's key and number and fail"
-        " the check of the three zero bits alone.",
-        True,
-        "for all",
-        "the number is five bits of its byte, and the other three have seven other values",
-        "TrueClaims.SevenOthers",
-        "BitsClaims.seven-others",
-    ),
-    Claim(
-        "6c",
-        "Without the check of the three zero bits eight texts would open to one entry, and"
-        " sealing would not give the text back.",
-        True,
-        "for all",
-        "these seven and the sealed text, which alone has the three bits zero",
-        "TrueClaims.EightWithout",
-        "BitsClaims.eight-without",
-    ),
-    Claim(
-        "7a",
-        "A change of one byte, of a text's first seven, goes into the right part of BL2's output"
-        " as it is.",
-        True,
-        "for all",
-        "those seven bytes are ⊕ into it, and the right block is as it was",
-        "TrueClaims.Carried",
-        "FlagClaims.carried",
-    ),
-    Claim(
-        "7b",
-        "The flag notices each change of one byte from the second to the seventh for kind 1, from"
-        " the fourth for kinds 2 and 5, from the third for kinds 3, 4 and 6.",
-        True,
-        "for all",
-        "the byte's whole group stands in the right part, where that byte alone has changed",
-        "TrueClaims.Noticed",
-        "FlagClaims.noticed",
-    ),
-    Claim(
-        "8a",
+        "1a",
+        "three-and-four",
         "A text opens as one kind only.",
-        False,
+        "false",
         "for all",
         "kinds 3 and 4 are sealed under the same key O, with the same expansion and checks",
+        "Kinds 3 and 4 open the same texts, to the same twelve bytes.",
+        "claims",
         "FalseClaims.ThreeAndFour",
         "KindClaims.three-and-four",
     ),
     Claim(
-        "8b",
+        "1b",
+        "as-three-kinds",
         "Apart from kinds 3 and 4, a text opens as one kind only.",
-        False,
+        "false",
         "for all",
         "under every key some bytes pass the checks of EXP3 and of X16",
+        "Under every O and version there is a text that opens as kinds 2, 3 and 4, to three"
+        " different entries.",
+        "claims",
         "FalseClaims.AsThreeKinds",
         "KindClaims.as-three-kinds",
     ),
     Claim(
-        "9",
-        "The cipher can be undone because f can.",
-        False,
+        "1c",
+        "kind-1-only",
+        "A text of kind 1 opens as kind 1 only.",
+        "false",
         "example",
-        "f takes 00 03 01 36 and 00 03 c1 36 to the same under a round key of zeros",
-        "FalseClaims.FCollides",
-        "CipherClaims.f-collides",
+        "D and O are different keys, but a text that passes the checks under both can be found",
+        "",
+        "example_claims",
+        "",
+        "",
     ),
     Claim(
-        "10a",
+        "1d",
+        "o-and-g-differ",
+        "O and G differ, so kinds 2 and 5, or 3 and 6, can't be confused.",
+        "false",
+        "example",
+        "under each of two different keys a text may pass the checks",
+        "",
+        "example_claims",
+        "",
+        "",
+    ),
+    Claim(
+        "1e",
+        "same-o-and-g",
+        "If O and G are the same, kind 5 is kind 2 and kind 6 is kind 3.",
+        "true",
+        "for all",
+        "kinds 2 and 5, and 3 and 6, differ in the sealing key alone",
+        "",
+        "book_claims",
+        "",
+        "",
+    ),
+    Claim(
+        "1f",
+        "key-and-version",
         "A text belongs to one sealing key and one version.",
-        False,
+        "false",
         "for all",
         "only the key ⊕ the repeated version goes into the cipher",
+        "For each key and two versions there is a key that seals and unseals with the one version"
+        " as this key does with the other.",
+        "claims",
         "FalseClaims.KeyAndVersion",
         "KeyClaims.key-and-version",
     ),
     Claim(
-        "10b",
+        "1g",
+        "other-keys-other-texts",
+        "Other sealing keys give other texts.",
+        "false",
+        "for all",
+        "for kinds 2 to 6 there are 256^16 sealing keys and 256^15 texts",
+        "For kinds 2 to 6 two sealing keys give one text, for each version and each body. Of kind"
+        " 1 nothing is said here.",
+        "claims",
+        "",
+        "",
+    ),
+    Claim(
+        "1h",
+        "ring-and-versions",
         "A book's texts and encrypted identities belong to one ring.",
-        False,
+        "false",
         "for all",
         "D, O and G ⊕ two bytes repeated, and each version ⊕ those bytes, give the same texts; C"
         " is as it was",
+        "There are other rings that give them, with other versions.",
+        "claims",
         "FalseClaims.RingAndVersions",
         "RingClaims.ring-and-versions",
     ),
     Claim(
-        "11a",
+        "1i",
+        "one-ring-only",
+        "A sealed book opens under one ring only.",
+        "false",
+        "for all",
+        "of the ring only those keys are used that the book's kinds name",
+        "The empty book opens under every ring, and a book without kind 1 under every D, to the"
+        " same book.",
+        "book_claims",
+        "",
+        "",
+    ),
+    Claim(
+        "1j",
+        "two-rings",
         "A text opens to one entry, whatever the ring.",
-        False,
+        "false",
         "example",
         "as kind 3, version 7, 7d3bf4c53bec9b33be0c296b64dc2f opens under O 00 01 .. 0f and under"
-        " O 00 01 .. 0b 00 bf 58 8f to two keys",
+        " O 00 01 .. 0b 00 bf 58 8f to two keys; of the other kinds no such text was looked for",
+        "Under two rings a text may open to two entries.",
+        "claims",
         "FalseClaims.TwoRings",
         "ExampleClaims.two-rings",
     ),
     Claim(
-        "11b",
+        "1k",
+        "two-versions",
         "A text opens to one entry, whatever the version.",
-        False,
+        "false",
         "example",
         "as kind 3 under O 00 01 .. 0f, f4204db56932c32411c2c607ad680c opens with versions 7 and"
-        " 5075 to two keys",
+        " 5075 to two keys; so it does as kinds 4 and 6, and of kinds 1, 2 and 5 nothing is shown",
+        "With two versions a text may open to two entries.",
+        "claims",
         "FalseClaims.TwoVersions",
         "ExampleClaims.two-versions",
     ),
     Claim(
-        "12",
-        "The flag notices every change.",
-        False,
-        "example",
-        "as kind 3, version 7, under O 00 01 .. 0f, f20234e6a621c279ee4f4cf0ad6279 and"
-        " f20034e6a621c279ee4f4cf0ad6279 differ in one bit and open to different keys",
-        "FalseClaims.OneBit",
-        "ExampleClaims.one-bit",
+        "1l",
+        "wrong-version-1",
+        "For kind 1 a wrong version is always noticed.",
+        "open",
+        "",
+        "no text was found that opens with two versions as kind 1, and nothing proves that there"
+        " is none",
+        "",
+        "",
+        "",
+        "",
     ),
     Claim(
-        "13a",
-        "The flag protects the identity.",
-        False,
-        "for all",
-        "the flag is worked from kind, version and text alone, and every three bytes are some"
-        " identity, encrypted",
-        "FalseClaims.IdentityFree",
-        "IdentityClaims.identity-free",
-    ),
-    Claim(
-        "13b",
-        "A text belongs to the record in which it stands.",
-        False,
-        "for all",
-        "a text knows its kind's key and its version, and no identity",
-        "FalseClaims.TextsExchanged",
-        "IdentityClaims.texts-exchanged",
-    ),
-    Claim(
-        "14a",
-        "The zero byte can as well be put back at the end.",
-        False,
-        "example",
-        "the right block would then be another, and a sealed text would not open",
-        "Variants.ZeroAtEnd",
-        "VariantClaims.zero-at-end",
-    ),
-    Claim(
-        "14b",
+        "1m",
+        "challenge-reversed",
         "TA22's challenge is reversed, as TA21's seed is.",
-        False,
+        "false",
         "example",
-        "response and key would be others than the standard's",
+        "response and key are then others than the standard's, unless the challenge reads the"
+        " same backwards",
+        "TA22 takes the challenge as it is.",
+        "claims",
         "Variants.ChallengeReversed",
         "VariantClaims.challenge-reversed",
     ),
     Claim(
-        "14c",
-        "The number byte's three top bits need no check.",
-        False,
-        "for all",
-        "under every key a text would open that is the sealed text of no entry",
-        "Variants.BitsUnchecked",
-        "BitsClaims.bits-unchecked",
-    ),
-    Claim(
-        "14d",
+        "1n",
+        "last-byte-xored",
         "EXP2's last byte is the ⊕ of the five inserted bytes.",
-        False,
+        "false",
         "example",
         "it is their sum: for the seed 01 02 .. 0a it is 1f and not 0b, so TA41 answers otherwise"
         " under every root",
+        "It is their sum, without the carry out of eight bits.",
+        "claims",
         "Variants.LastByteXored",
         "VariantClaims.last-byte-xored",
     ),
     Claim(
-        "14e",
+        "1o",
+        "still-holds",
         "With TA22 or EXP2 wrong, a text could open to two entries.",
-        False,
+        "false",
         "for all",
         "whatever ring comes out, demand 3 holds of it",
+        "Another ring comes out, as a rule, and under it each text still opens to one entry at"
+        " most.",
+        "claims",
         "Variants.StillHolds",
         "VariantClaims.still-holds",
     ),
+    Claim(
+        "2a",
+        "undone",
+        "Decryption undoes encryption.",
+        "true",
+        "for all",
+        "each round is undone by the same round on the halves exchanged",
+        "",
+        "claims",
+        "TrueClaims.Undone",
+        "CipherClaims.undone",
+    ),
+    Claim(
+        "2b",
+        "f-collides",
+        "The cipher can be undone because f can.",
+        "false as a reason",
+        "example",
+        "f takes 00 03 01 36 and 00 03 c1 36 to the same under a round key of zeros",
+        "Nothing undoes f; a round is undone by working f again.",
+        "claims",
+        "FalseClaims.FCollides",
+        "CipherClaims.f-collides",
+    ),
+    Claim(
+        "2c",
+        "because-s-permutes",
+        "The cipher can be undone because S is a permutation.",
+        "false as a reason",
+        "for all",
+        "a round ⊕ f of one half into the other, and the same ⊕ takes it away",
+        "Sixteen such rounds can be undone whatever f is.",
+        "claims",
+        "",
+        "",
+    ),
+    Claim(
+        "2d",
+        "encryption-hides",
+        "Encryption hides the key.",
+        "open",
+        "",
+        "that a text tells nothing of the key to who has not the sealing key is a belief about"
+        " the cipher, and no consequence of its definition",
+        "",
+        "",
+        "",
+        "",
+    ),
+    Claim(
+        "3a",
+        "nothing-lost",
+        "The dropped byte loses nothing: every string of 15 bytes comes from exactly one input"
+        " that ends in a zero byte.",
+        "true",
+        "for all",
+        "the zero byte ⊕ the dropped byte is the last byte of the right block, decrypted",
+        "",
+        "claims",
+        "TrueClaims.NothingLost",
+        "CoreClaims.nothing-lost",
+    ),
+    Claim(
+        "3b",
+        "shared",
+        "Without the zero byte exactly 256 inputs would share each text.",
+        "true",
+        "for all",
+        "one for each value of the dropped byte, since BL1 on sixteen bytes can be undone",
+        "",
+        "claims",
+        "TrueClaims.Shared",
+        "CoreClaims.shared",
+    ),
+    Claim(
+        "3c",
+        "chaining",
+        "The chaining brings the dropped byte back.",
+        "true",
+        "for all",
+        "without it the right block knows nothing of the left, and each text that an input ending"
+        " in a zero byte gives is given by 256 such inputs",
+        "",
+        "claims",
+        "",
+        "",
+    ),
+    Claim(
+        "3d",
+        "fewer-keys",
+        "There are fewer keys than texts, so each has its own text.",
+        "false as a reason",
+        "for all",
+        "with the zero byte at another place of the input's right block there are as many inputs,"
+        " and 256 of them share a text",
+        "That there is room for each does not say that no two meet; the last byte, which is zero,"
+        " says it.",
+        "claims",
+        "",
+        "",
+    ),
+    Claim(
+        "3e",
+        "dropped-byte-zero",
+        "The dropped byte is zero.",
+        "false",
+        "for all",
+        "it is a byte of the cipher's output",
+        "Each of the 256 bytes is the dropped byte of some input that ends in a zero byte.",
+        "claims",
+        "",
+        "",
+    ),
+    Claim(
+        "3f",
+        "any-byte-put-back",
+        "Any byte may be put back at B8.",
+        "false",
+        "for all",
+        "BL2 takes that byte into the left block, which is then decrypted",
+        "Another byte there gives another left part of BL2's output.",
+        "claims",
+        "",
+        "",
+    ),
+    Claim(
+        "3g",
+        "bl2-is-bl1-backwards",
+        "BL2 is BL1 backwards.",
+        "false",
+        "for all",
+        "BL2 takes the last byte of the decrypted right block for the dropped byte",
+        "",
+        "claims",
+        "",
+        "",
+    ),
+    Claim(
+        "3h",
+        "zero-at-end",
+        "The zero byte can as well be put back at the end.",
+        "false",
+        "example",
+        "the two blocks are then cut one byte further on, and a sealed text does not open, as a"
+        " rule",
+        "It belongs where byte 8 was dropped.",
+        "claims",
+        "Variants.ZeroAtEnd",
+        "VariantClaims.zero-at-end",
+    ),
+    Claim(
+        "3i",
+        "zero-at-end-either-way",
+        "With the zero byte put back at the end no sealed text opens.",
+        "false",
+        "example",
+        "as kind 3 under O 00 01 .. 0f, version 7, b23e9d02bd07830000000000000000 opens either"
+        " way, since its last eight bytes are zeros",
+        "A text whose last eight bytes are zeros is the same either way.",
+        "example_claims",
+        "",
+        "",
+    ),
+    Claim(
+        "4a",
+        "undoes-sealing",
+        "Unsealing undoes sealing.",
+        "true",
+        "for all",
+        "BL2 undoes BL1 where the input ends in a zero byte, and shrinking undoes the expansion",
+        "",
+        "claims",
+        "",
+        "",
+    ),
+    Claim(
+        "4b",
+        "entries-never-share",
+        "Two entries never share a text, kind, ring and version given.",
+        "true",
+        "for all",
+        "both would be what the text unseals to",
+        "",
+        "claims",
+        "",
+        "",
+    ),
+    Claim(
+        "4c",
+        "sealed-twice",
+        "The same key sealed twice gives another text.",
+        "false",
+        "for all",
+        "nothing goes into a text but kind, sealing key, version and body",
+        "Two entries of one kind, version and body have the same text, wherever they stand and"
+        " whatever their identities.",
+        "claims",
+        "",
+        "",
+    ),
+    Claim(
+        "4d",
+        "every-bit",
+        "A key's every bit changes the whole text.",
+        "false",
+        "for all",
+        "the left block is encrypted before the right one is looked at",
+        "",
+        "claims",
+        "",
+        "",
+    ),
+    Claim(
+        "5a",
+        "checks-exactly",
+        "The checks pass exactly on the expansions of legal bodies, and shrinking gives the body.",
+        "true",
+        "for all",
+        "the inserted bytes follow from the others, and shrinking leaves the others",
+        "",
+        "claims",
+        "TrueClaims.ChecksExactly",
+        "EntryClaims.checks-exactly",
+    ),
+    Claim(
+        "5b",
+        "unseals-all-the-same",
+        "A text whose flag is set unseals to a key all the same.",
+        "true",
+        "for all",
+        "the key's bytes are taken out whether the inserted bytes are right or not",
+        "",
+        "claims",
+        "TrueClaims.UnsealsAllTheSame",
+        "FlagClaims.unseals-all-the-same",
+    ),
+    Claim(
+        "5c",
+        "without-any-check",
+        "Without any check exactly 256^5 texts of kind 1, 8 · 256^4 of kinds 2 and 5, and 256^3"
+        " of kinds 3, 4 and 6 unseal to one entry.",
+        "true",
+        "for all",
+        "one for each value of the inserted bytes, and of the three bits",
+        "",
+        "claims",
+        "",
+        "",
+    ),
+    Claim(
+        "5d",
+        "seven-others",
+        "For kinds 2 and 5 exactly seven other texts unseal to an entry's key and number and fail"
+        " the check of the three zero bits alone.",
+        "true",
+        "for all",
+        "the number is five bits of its byte, and the other three have seven other values",
+        "",
+        "claims",
+        "TrueClaims.SevenOthers",
+        "BitsClaims.seven-others",
+    ),
+    Claim(
+        "5e",
+        "eight-without",
+        "Without the check of the three zero bits eight texts would open to one entry, and"
+        " sealing would not give the text back.",
+        "true",
+        "for all",
+        "these seven and the sealed text, which alone has the three bits zero",
+        "",
+        "claims",
+        "TrueClaims.EightWithout",
+        "BitsClaims.eight-without",
+    ),
+    Claim(
+        "5f",
+        "bits-unchecked",
+        "The number byte's three top bits need no check.",
+        "false",
+        "for all",
+        "sealing leaves them zero, so a text with others was not sealed",
+        "Under every key a text would open that is the sealed text of no entry.",
+        "claims",
+        "Variants.BitsUnchecked",
+        "BitsClaims.bits-unchecked",
+    ),
+    Claim(
+        "5g",
+        "one-byte-of-output",
+        "One changed byte of BL2's output is always noticed.",
+        "true",
+        "for all",
+        "it stands in one group, whose ⊕ then differs, or is the inserted byte itself",
+        "",
+        "claims",
+        "",
+        "",
+    ),
+    Claim(
+        "5h",
+        "equal-changes",
+        "Two changed bytes of BL2's output are always noticed.",
+        "false",
+        "for all",
+        "two equal changes in one group leave its ⊕ as it was",
+        "Two equal changes in one group are not noticed, unless, for kinds 2 and 5, they touch"
+        " the top three bits of the number byte.",
+        "claims",
+        "",
+        "",
+    ),
+    Claim(
+        "6a",
+        "one-text",
+        "For a given kind, ring and version a text opens exactly if it is the sealed text of an"
+        " entry, of one and no other.",
+        "true",
+        "for all",
+        "3a and 5a, one after the other",
+        "",
+        "claims",
+        "TrueClaims.OneText",
+        "EntryClaims.one-text",
+    ),
+    Claim(
+        "6b",
+        "texts-never-share",
+        "Two texts never open to one entry, kind, ring and version given.",
+        "true",
+        "for all",
+        "each is the sealed text of what it opens to",
+        "",
+        "claims",
+        "",
+        "",
+    ),
+    Claim(
+        "6c",
+        "one-result-so-sealed",
+        "Unsealing has one result, so what opens was sealed.",
+        "false as a reason",
+        "for all",
+        "the unsealing without the check of the three bits has one result, too, and gives every"
+        " entry back",
+        "By that unsealing a text opens, under every key, that is the sealed text of no entry.",
+        "claims",
+        "",
+        "",
+    ),
+    Claim(
+        "6d",
+        "how-many",
+        "Of the 256^15 texts exactly as many open as there are legal bodies: 256^10 of kind 1, 32"
+        " · 256^10 of kinds 2 and 5, 256^12 of kinds 3, 4 and 6.",
+        "true",
+        "for all",
+        "by 6a they stand one to one with the legal bodies, and those with the numbers below that"
+        " count",
+        "",
+        "claims",
+        "TrueClaims.HowMany",
+        "CountClaims.how-many",
+    ),
+    Claim(
+        "7a",
+        "one-record",
+        "Under a given ring a sealed record opens exactly if it is the sealed form of a plain"
+        " record, of one and no other, its identity included.",
+        "true",
+        "for all",
+        "6a, and TA61 can be undone",
+        "",
+        "claims",
+        "TrueClaims.OneRecord",
+        "EntryClaims.one-record",
+    ),
+    Claim(
+        "7b",
+        "record-alone",
+        "A record by itself opens as a book of one record does.",
+        "true",
+        "for all",
+        "a book is opened record by record",
+        "",
+        "claims",
+        "TrueClaims.RecordAlone",
+        "EntryClaims.record-alone",
+    ),
+    Claim(
+        "7c",
+        "identity-free",
+        "The flag protects the identity.",
+        "false",
+        "for all",
+        "the flag is worked from kind, version, the sealing key and the text, and every three"
+        " bytes are some identity, encrypted",
+        "A record opens, or does not, whatever its encrypted identity: to another identity, with"
+        " the same kind, version and body.",
+        "claims",
+        "FalseClaims.IdentityFree",
+        "IdentityClaims.identity-free",
+    ),
+    Claim(
+        "7d",
+        "wrong-c",
+        "A wrong C sets the flag.",
+        "false",
+        "for all",
+        "C enters TA61 alone",
+        "Under another C a record opens to the same kind, version and body; its identity may be"
+        " another.",
+        "book_claims",
+        "",
+        "",
+    ),
+    Claim(
+        "7e",
+        "texts-exchanged",
+        "A text belongs to the record in which it stands, among those of the same kind and"
+        " version.",
+        "false",
+        "for all",
+        "a text knows its kind's key and its version, and no identity",
+        "Two records of the same kind and version may exchange their texts: each opens to its own"
+        " identity with the other's body.",
+        "claims",
+        "FalseClaims.TextsExchanged",
+        "IdentityClaims.texts-exchanged",
+    ),
+    Claim(
+        "7f",
+        "kind-byte-protected",
+        "The kind byte is protected.",
+        "false",
+        "for all",
+        "no byte of the text is worked from it but by the sealing key that it names",
+        "A record of kind 3 that opens, opens with kind byte 4, too, to the same identity,"
+        " version and body.",
+        "book_claims",
+        "",
+        "",
+    ),
+    Claim(
+        "8a",
+        "one-book",
+        "Under a given ring a book opens exactly if it is what sealing makes of a well-formed"
+        " plain book, of one and no other.",
+        "true",
+        "for all",
+        "7a of each record, in order",
+        "",
+        "claims",
+        "TrueClaims.OneBook",
+        "EntryClaims.one-book",
+    ),
+    Claim(
+        "8b",
+        "within-a-book",
+        "A record opens within a larger book as it does alone.",
+        "true",
+        "for all",
+        "no record's opening looks at another",
+        "",
+        "book_claims",
+        "",
+        "",
+    ),
+    Claim(
+        "8c",
+        "spoils-only-itself",
+        "One bad record spoils only itself.",
+        "false",
+        "for all",
+        "a book is refused before anything is written",
+        "The whole book is refused, and nothing is written.",
+        "book_claims",
+        "",
+        "",
+    ),
+    Claim(
+        "8d",
+        "missing",
+        "A missing record is noticed.",
+        "false",
+        "for all",
+        "a book has no count of its records but its length",
+        "A book that opens goes on opening with a record left out.",
+        "book_claims",
+        "",
+        "",
+    ),
+    Claim(
+        "8e",
+        "doubled",
+        "A doubled record is noticed.",
+        "false",
+        "for all",
+        "no record knows of another",
+        "A book that opens goes on opening with a record in it twice.",
+        "book_claims",
+        "",
+        "",
+    ),
+    Claim(
+        "8f",
+        "reordered",
+        "A changed order of records is noticed.",
+        "false",
+        "for all",
+        "no record knows its place",
+        "The reordered book opens to the plain book in that order.",
+        "book_claims",
+        "",
+        "",
+    ),
+    Claim(
+        "9a",
+        "carried",
+        "A change of one byte, of a text's first seven, goes into the right part of BL2's output"
+        " as it is.",
+        "true",
+        "for all",
+        "those seven bytes are ⊕ into it, and the right block is as it was",
+        "",
+        "claims",
+        "TrueClaims.Carried",
+        "FlagClaims.carried",
+    ),
+    Claim(
+        "9b",
+        "noticed",
+        "Of a text that opens the flag notices each change of one byte from the second to the"
+        " seventh for kind 1, from the fourth for kinds 2 and 5, from the third for kinds 3, 4 and"
+        " 6.",
+        "true",
+        "for all",
+        "the byte's whole group stands in the right part, where that byte alone has changed",
+        "",
+        "claims",
+        "TrueClaims.Noticed",
+        "FlagClaims.noticed",
+    ),
+    Claim(
+        "9c",
+        "flag-notices-every-change",
+        "The flag notices every change.",
+        "false",
+        "example",
+        "as kind 3, version 7, under O 00 01 .. 0f, f20234e6a621c279ee4f4cf0ad6279 and"
+        " f20034e6a621c279ee4f4cf0ad6279 differ in one bit and open to different keys; 9d has the"
+        " other kinds",
+        "From a text that opens, a change of one bit may lead to another.",
+        "claims",
+        "FalseClaims.OneBit",
+        "ExampleClaims.one-bit",
+    ),
+    Claim(
+        "9d",
+        "one-byte-1-2-5",
+        "For kinds 1, 2 and 5 the flag notices every change of one byte.",
+        "false",
+        "example",
+        "of kind 1 under D 00 01 .. 09 541f2a277684453cad9193d1e0acaa and the same with d4 in"
+        " front open, of kind 2 under O 00 01 .. 0f 57b82885ccb448198c9d93bb19ec5f and the same"
+        " with dc for 28",
+        "A change of the first byte, or of the third, may go unnoticed.",
+        "example_claims",
+        "",
+        "",
+    ),
+    Claim(
+        "9e",
+        "last-eight",
+        "A change in the last eight bytes is always noticed.",
+        "false",
+        "for all",
+        "the left block stays as it is where the body's first bytes do",
+        "",
+        "claims",
+        "",
+        "",
+    ),
+    Claim(
+        "10a",
+        "equal-records",
+        "If a record of the hand-in counts for each entry of the model whose sealed record has"
+        " the same bytes, none twice, no other pairing counts more.",
+        "true",
+        "for all",
+        "of each record's copies the smaller of the two books' numbers can be paired",
+        "",
+        "book_claims",
+        "",
+        "",
+    ),
+    Claim(
+        "10b",
+        "order-of-books",
+        "The number of equal records does not depend on the order of either book.",
+        "true",
+        "for all",
+        "it is worked from how often each record stands in each book",
+        "",
+        "book_claims",
+        "",
+        "",
+    ),
+    Claim(
+        "10c",
+        "copies-beyond",
+        "Copies beyond the model's own add nothing.",
+        "true",
+        "for all",
+        "each needs an entry of its own in the model",
+        "",
+        "book_claims",
+        "",
+        "",
+    ),
+    Claim(
+        "10d",
+        "all-right",
+        "It is full with no record over exactly if the hand-in is a reordering of the model's"
+        " sealed form, which opens to the reordered model.",
+        "true",
+        "for all",
+        "each record then stands in both books equally often",
+        "",
+        "book_claims",
+        "",
+        "",
+    ),
+    # end claims
 )

@@ -28,9 +28,9 @@ class Words(NamedTuple):
 
 
 class Pairs(NamedTuple):
-    """Names and values."""
+    """Names and values; a word between them may say whose a value is."""
 
-    rows: Sequence[tuple[str, Any]]
+    rows: Sequence[tuple[Any, ...]]
 
 
 class Table(NamedTuple):
@@ -70,6 +70,14 @@ class Boxes(NamedTuple):
     tick: bool = False
 
 
+class Noted:
+    """A cell with words, and notes under them."""
+
+    def __init__(self, words: str, *notes: str) -> None:
+        """Takes the words and the notes."""
+        self.words, self.notes = words, notes
+
+
 class Document(NamedTuple):
     """A title, what stands over it, and the blocks."""
 
@@ -87,6 +95,8 @@ def _shown(value: Any) -> list[str]:
         return [" ".join(["[ ]" if value.tick else "__"] * value.number)]
     if isinstance(value, (bytes, tuple)):
         return [grouped(value)]
+    if isinstance(value, Noted):
+        return [line for words in (value.words, *value.notes) for line in _shown(words)]
     said = "-" if value is None else str(value)
     return textwrap.wrap(said, CELL, break_on_hyphens=False) or [""]
 
@@ -148,6 +158,12 @@ STYLE = """
 .form td, .form th { border: 0; padding-bottom: .1em; vertical-align: middle; }
 .line { border-bottom: 1px solid #777; height: 9mm; }
 .result td { font-weight: bold; }
+.note { margin: .15em 0 0; }
+.pairs .noted, .rubric .noted { font-weight: bold; }
+.marked th, .marked td { line-height: 1.3; padding-bottom: .12em; padding-top: .12em; }
+.whose { color: #444; white-space: nowrap; width: 1%; }
+.claims th:nth-child(n+3), .claims td:nth-child(n+3) { width: 1%; padding-right: .5em; }
+.claims .boxes i:not(.tick) { height: 5.5mm; }
 @media print, (min-width: 40em) {
   .steps { font-size: .9em; line-height: 1.25; }
   .steps td { border-color: #ccc; padding-bottom: .12em; padding-top: .12em; }
@@ -160,6 +176,7 @@ STYLE = """
   .steps td:nth-child(-n+3), .rows td:nth-child(-n+2) { display: inline; padding-right: .8em; }
   .steps td::before, .rows td::before { content: none; }
   .claims td:nth-child(n+4) { display: inline; padding-right: .8em; }
+  .pairs .whose { white-space: normal; }
   .boxes i { width: 5.2mm; }
 }
 @media print { .new { break-before: page; margin-top: 0; } }
@@ -171,6 +188,9 @@ def _in_page(value: Any) -> Any:
     if isinstance(value, Boxes):
         box = '<i class="tick"></i>' if value.tick else "<i></i>"
         return tag("span", Html(box * value.number), class_="boxes")
+    if isinstance(value, Noted):
+        notes = join(text("p", note, class_="note") for note in value.notes)
+        return text("span", value.words, class_="noted") + notes
     return value
 
 
@@ -186,7 +206,8 @@ def _html(block: Block) -> Html:
     if isinstance(block, Words):
         return text("p", block.words)
     if isinstance(block, Pairs):
-        return page.pairs([(name, _in_page(value)) for name, value in block.rows])
+        marked = "marked" if any(len(row) > 2 for row in block.rows) else ""
+        return page.pairs([(*names, _in_page(value)) for *names, value in block.rows], marked)
     if isinstance(block, Table):
         return page.table(block.heads, map(_row, block.rows), block.class_, block.title)
     if isinstance(block, Fields):

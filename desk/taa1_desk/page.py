@@ -171,9 +171,12 @@ def table(heads: Sequence[str], rows: Iterable[Any], class_: str = "", title: st
     return tag("table", tag("thead", head) + tag("tbody", body), class_=classes)
 
 
-def pairs(rows: Iterable[tuple[str, Any]], class_: str = "") -> Html:
-    """A table of names and values, without heads."""
-    made = (tag("tr", text("th", name) + _cell(value, "", False)) for name, value in rows)
+def pairs(rows: Iterable[tuple[Any, ...]], class_: str = "") -> Html:
+    """A table of names and values, without heads; a word between them says whose a value is."""
+    made = []
+    for name, *whose, value in rows:
+        marks = join(text("td", mark, class_="whose") for mark in whose)
+        made.append(tag("tr", text("th", name) + marks + _cell(value, "", False)))
     body = join(made, "\n")
     return tag("table", tag("tbody", body), class_=f"pairs {class_}".strip())
 

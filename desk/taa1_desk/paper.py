@@ -34,6 +34,11 @@ RECORD = (("kind", 1), ("ESI", 3), ("version", 2), ("sealed text", 15))
 ROW = ("row", "value", "bytes")  # of the form's values
 ARGUMENT = "The argument"
 ARGUMENT_LINES = 24
+QUESTION = (
+    "Why can a sealed text open to one entry only? Say what must be fixed for that, which property "
+    "of each step of the sealing your argument uses, and what is no longer so without it. Then say "
+    "why every text that opens was sealed from an entry."
+)
 
 
 class Asked(NamedTuple):
@@ -203,11 +208,7 @@ def question_paper(of: Examination) -> Document:
             Together(
                 (
                     Head(ARGUMENT, 3),
-                    Words(
-                        "Why can a sealed text open to one entry only? Say what must be fixed for "
-                        "that, which property of each step of the sealing your argument uses, and "
-                        "what is no longer so without it."
-                    ),
+                    Words(QUESTION),
                 )
             ),
         ],

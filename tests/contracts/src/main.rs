@@ -6,6 +6,7 @@
 //!
 //! Each module says what it checks or makes.
 
+mod argument;
 mod claims;
 mod definitions;
 mod edits;
@@ -24,8 +25,10 @@ mod links;
 mod project;
 mod python_rows;
 mod rust_rows;
+mod tables;
 mod version;
 
+use argument::Argument;
 use definitions::Definitions;
 use edits::Edit;
 use functions::Function;
@@ -41,6 +44,9 @@ use std::process::ExitCode;
 /// The hosts' declarations, in Rust and in Python.
 const RAW: &str = "rust/src/raw.rs";
 const TABLE: &str = "python/taa1/calls.py";
+/// The argument for markers: its page, and the desk's copy.
+const GUIDE: &str = "docs/ARGUMENT.md";
+const CLAIMS: &str = "desk/taa1_desk/claims.py";
 
 /// How many things are right, and what is wrong with the others.
 type Verdict = (usize, Vec<String>);
@@ -53,6 +59,7 @@ struct Sources {
     graph: Graph,
     header: Header,
     definitions: Definitions,
+    argument: Argument,
     /// What is not understood.
     odd: Vec<String>,
 }
@@ -62,6 +69,8 @@ impl Sources {
         let project = Project::read(root.to_path_buf());
         let (functions, mut odd) = functions::of_crates(&project.crates);
         let (edits, more) = edits::of_crates(&project.crates);
+        odd.extend(more);
+        let (argument, more) = claims::argument(root);
         odd.extend(more);
         let specs = files(&root.join("crates/standard/specs"), ".antt");
         let engine = project.file("crates/engine/src/lib.rt");
@@ -75,6 +84,7 @@ impl Sources {
             header: Header::read(&project.file("include/taa1.h")),
             definitions: Definitions::read(specs.chain([("engine", &engine[..])])),
             project,
+            argument,
             odd,
         }
     }
@@ -138,7 +148,12 @@ impl Sources {
                 "lists",
                 rust_rows::record_bytes(&described),
             ),
+            lines(GUIDE, "steps", self.argument.steps_list()),
+            lines(GUIDE, "claims", self.argument.table()),
+            lines(GUIDE, "rubric", self.argument.rubric()),
         ];
+        let rows = self.argument.python().into_iter();
+        all.extend(rows.map(|(name, text)| lines(CLAIMS, name, text)));
         all.extend(figures::figures(
             &self.project,
             calls.len(),
@@ -168,7 +183,7 @@ fn check(root: &Path) -> ExitCode {
         hosts::check(&sources.described(), &engine),
         generated::check(root, &sources.generated()),
         forms::check(&sources.project.file("docs/READING.md"), in_crates),
-        claims::check_in(root),
+        claims::check_in(root, &sources.argument.rows),
         example::check(root),
         links::check(root),
         all_right(version::check(root)),
@@ -196,7 +211,9 @@ fn said(result: Result<String, String>) -> ExitCode {
 }
 
 fn write(root: &Path) -> Result<String, String> {
-    let changed = generated::write(root, &Sources::read(root).generated())?;
+    let sources = Sources::read(root);
+    let mut changed = generated::write(root, &sources.generated())?;
+    changed.extend(claims::write(root, &sources.argument.rows)?);
     Ok(match &changed[..] {
         [] => "nothing differs".to_string(),
         paths => format!("written: {}", paths.join(", ")),
