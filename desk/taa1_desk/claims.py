@@ -52,9 +52,9 @@ STEPS: tuple[Step, ...] = (
     Step(
         "The cipher can be undone",
         "Under one key each block of 8 bytes is the encryption of one block, since decryption"
-        " undoes encryption (2a). f itself can't be undone (2b) and need not be: a round leaves"
+        " undoes encryption (2a). f itself can't be undone (2c) and need not be: a round leaves"
         " one half as it is, so f of that half can be worked again and taken away, whatever f is"
-        " (2c).",
+        " (2d).",
     ),
     Step(
         "The dropped byte comes back",
@@ -136,7 +136,7 @@ PARTS: tuple[Part, ...] = (
         "A sound route, but nothing is said to be given. Or a step is left out that the route"
         " needs: how the dropped byte comes back, where the candidate traces back. ('Unsealing"
         " undoes sealing' holds this step, and lacks nothing.)",
-        "The conclusion alone; a route that rests on a sentence which is false or no reason (2b,"
+        "The conclusion alone; a route that rests on a sentence which is false or no reason (2c,"
         " 3d, 9c); or chance: 'few texts open' is no argument, since 256^12 of kind 3 do.",
     ),
     Part(
@@ -158,7 +158,7 @@ PARTS: tuple[Part, ...] = (
         " the right block. Of the cipher: decryption undoes encryption under one key (2a). Who"
         " argues by undoing says why unsealing undoes sealing with the same three.",
         "One of the three is left out, or is named without its property.",
-        "None of them; or false reasons: f can be undone (2b), S is a permutation (2c), the"
+        "None of them; or false reasons: f can be undone (2c), S is a permutation (2d), the"
         " dropped byte is zero (3e).",
     ),
     Part(
@@ -241,10 +241,11 @@ CLAIMS: tuple[Claim, ...] = (
         "false",
         "example",
         "D and O are different keys, but a text that passes the checks under both can be found",
-        "",
+        "One text opens as kind 1 and as kind 3, to two keys; under a ring of zeros one opens as"
+        " all six kinds.",
         "example_claims",
-        "",
-        "",
+        "Examples.OtherKinds",
+        "ComputedExamples.other-kinds",
     ),
     Claim(
         "1d",
@@ -253,10 +254,11 @@ CLAIMS: tuple[Claim, ...] = (
         "false",
         "example",
         "under each of two different keys a text may pass the checks",
-        "",
+        "One text opens as kind 2 under O and as kind 5 under G, and one as kind 3 and as kind 6,"
+        " to two keys each.",
         "example_claims",
-        "",
-        "",
+        "Examples.ConfusedKinds",
+        "ComputedExamples.confused-kinds",
     ),
     Claim(
         "1e",
@@ -267,8 +269,8 @@ CLAIMS: tuple[Claim, ...] = (
         "kinds 2 and 5, and 3 and 6, differ in the sealing key alone",
         "",
         "book_claims",
-        "",
-        "",
+        "RecordSentences.SameOAndG",
+        "RecordClaims.same-o-and-g",
     ),
     Claim(
         "1f",
@@ -293,8 +295,8 @@ CLAIMS: tuple[Claim, ...] = (
         "For kinds 2 to 6 two sealing keys give one text, for each version and each body. Of kind"
         " 1 nothing is said here.",
         "claims",
-        "",
-        "",
+        "FalseClaims.TwoKeys",
+        "KeyClaims.two-keys",
     ),
     Claim(
         "1h",
@@ -319,8 +321,8 @@ CLAIMS: tuple[Claim, ...] = (
         "The empty book opens under every ring, and a book without kind 1 under every D, to the"
         " same book.",
         "book_claims",
-        "",
-        "",
+        "BookSentences.ManyRings",
+        "BookClaims.many-rings",
     ),
     Claim(
         "1j",
@@ -376,6 +378,18 @@ CLAIMS: tuple[Claim, ...] = (
     ),
     Claim(
         "1n",
+        "palindrome",
+        "With TA22's challenge reversed response and key are always others.",
+        "false",
+        "for all",
+        "a challenge that reads the same backwards is the same reversed",
+        "Of such a challenge they are the same, under every session key and with all masks.",
+        "example_claims",
+        "Examples.Palindrome",
+        "ComputedExamples.palindrome",
+    ),
+    Claim(
+        "1o",
         "last-byte-xored",
         "EXP2's last byte is the ⊕ of the five inserted bytes.",
         "false",
@@ -388,7 +402,7 @@ CLAIMS: tuple[Claim, ...] = (
         "VariantClaims.last-byte-xored",
     ),
     Claim(
-        "1o",
+        "1p",
         "still-holds",
         "With TA22 or EXP2 wrong, a text could open to two entries.",
         "false",
@@ -414,18 +428,30 @@ CLAIMS: tuple[Claim, ...] = (
     ),
     Claim(
         "2b",
+        "f-bytes",
+        "f takes two halves to the same under one round key.",
+        "true",
+        "example",
+        "under a round key of zeros 00 03 01 36 and 00 03 c1 36 both go to 01 9c 10 b0",
+        "",
+        "example_claims",
+        "Examples.FBytes",
+        "ComputedExamples.f-bytes",
+    ),
+    Claim(
+        "2c",
         "f-collides",
         "The cipher can be undone because f can.",
         "false as a reason",
         "example",
-        "f takes 00 03 01 36 and 00 03 c1 36 to the same under a round key of zeros",
+        "two halves have one f (2b), so that nothing gives the half back",
         "Nothing undoes f; a round is undone by working f again.",
         "claims",
         "FalseClaims.FCollides",
         "CipherClaims.f-collides",
     ),
     Claim(
-        "2c",
+        "2d",
         "because-s-permutes",
         "The cipher can be undone because S is a permutation.",
         "false as a reason",
@@ -433,11 +459,11 @@ CLAIMS: tuple[Claim, ...] = (
         "a round ⊕ f of one half into the other, and the same ⊕ takes it away",
         "Sixteen such rounds can be undone whatever f is.",
         "claims",
-        "",
-        "",
+        "Reasons.WhateverF",
+        "RoundClaims.whatever-f",
     ),
     Claim(
-        "2d",
+        "2e",
         "encryption-hides",
         "Encryption hides the key.",
         "open",
@@ -484,8 +510,8 @@ CLAIMS: tuple[Claim, ...] = (
         " in a zero byte gives is given by 256 such inputs",
         "",
         "claims",
-        "",
-        "",
+        "TrueClaims.Chaining",
+        "CoreClaims.chaining",
     ),
     Claim(
         "3d",
@@ -493,13 +519,13 @@ CLAIMS: tuple[Claim, ...] = (
         "There are fewer keys than texts, so each has its own text.",
         "false as a reason",
         "for all",
-        "with the zero byte at another place of the input's right block there are as many inputs,"
-        " and 256 of them share a text",
+        "with the zero byte at another place of the input's right block there are as many inputs"
+        " as texts, with two there fewer, and 256 of them share a text",
         "That there is room for each does not say that no two meet; the last byte, which is zero,"
         " says it.",
         "claims",
-        "",
-        "",
+        "Reasons.FewerInputs",
+        "CoreClaims.fewer-inputs",
     ),
     Claim(
         "3e",
@@ -508,10 +534,11 @@ CLAIMS: tuple[Claim, ...] = (
         "false",
         "for all",
         "it is a byte of the cipher's output",
-        "Each of the 256 bytes is the dropped byte of some input that ends in a zero byte.",
+        "It is each byte equally often: of the inputs that end in a zero byte exactly 256^14 have"
+        " it there.",
         "claims",
-        "",
-        "",
+        "FalseClaims.DroppedByte",
+        "DroppedClaims.dropped-byte",
     ),
     Claim(
         "3f",
@@ -522,8 +549,8 @@ CLAIMS: tuple[Claim, ...] = (
         "BL2 takes that byte into the left block, which is then decrypted",
         "Another byte there gives another left part of BL2's output.",
         "claims",
-        "",
-        "",
+        "FalseClaims.OtherByte",
+        "DroppedClaims.other-byte",
     ),
     Claim(
         "3g",
@@ -532,10 +559,11 @@ CLAIMS: tuple[Claim, ...] = (
         "false",
         "for all",
         "BL2 takes the last byte of the decrypted right block for the dropped byte",
-        "",
+        "With the zero byte at B8 it gives the input back exactly if the input ends in a zero"
+        " byte; with BL1's own byte there, exactly if that byte is the input's last.",
         "claims",
-        "",
-        "",
+        "FalseClaims.NotBackwards",
+        "DroppedClaims.not-backwards",
     ),
     Claim(
         "3h",
@@ -560,8 +588,8 @@ CLAIMS: tuple[Claim, ...] = (
         " way, since its last eight bytes are zeros",
         "A text whose last eight bytes are zeros is the same either way.",
         "example_claims",
-        "",
-        "",
+        "Examples.EitherWay",
+        "ComputedExamples.either-way",
     ),
     Claim(
         "4a",
@@ -572,8 +600,8 @@ CLAIMS: tuple[Claim, ...] = (
         "BL2 undoes BL1 where the input ends in a zero byte, and shrinking undoes the expansion",
         "",
         "claims",
-        "",
-        "",
+        "TrueClaims.SealingUndone",
+        "EntryClaims.sealing-undone",
     ),
     Claim(
         "4b",
@@ -584,8 +612,8 @@ CLAIMS: tuple[Claim, ...] = (
         "both would be what the text unseals to",
         "",
         "claims",
-        "",
-        "",
+        "TrueClaims.EntriesApart",
+        "EntryClaims.entries-apart",
     ),
     Claim(
         "4c",
@@ -597,8 +625,8 @@ CLAIMS: tuple[Claim, ...] = (
         "Two entries of one kind, version and body have the same text, wherever they stand and"
         " whatever their identities.",
         "claims",
-        "",
-        "",
+        "FalseClaims.SealedTwice",
+        "IdentityClaims.sealed-twice",
     ),
     Claim(
         "4d",
@@ -607,10 +635,11 @@ CLAIMS: tuple[Claim, ...] = (
         "false",
         "for all",
         "the left block is encrypted before the right one is looked at",
-        "",
+        "A change of a key's byte from the seventh on, for kinds 3, 4 and 6 from the eighth on,"
+        " leaves the text's first seven bytes as they were.",
         "claims",
-        "",
-        "",
+        "FalseClaims.EveryBit",
+        "FrontClaims.every-bit",
     ),
     Claim(
         "5a",
@@ -646,8 +675,8 @@ CLAIMS: tuple[Claim, ...] = (
         "one for each value of the inserted bytes, and of the three bits",
         "",
         "claims",
-        "",
-        "",
+        "TrueClaims.WithoutChecks",
+        "UncheckedClaims.without-checks",
     ),
     Claim(
         "5d",
@@ -696,8 +725,8 @@ CLAIMS: tuple[Claim, ...] = (
         "it stands in one group, whose ⊕ then differs, or is the inserted byte itself",
         "",
         "claims",
-        "",
-        "",
+        "TrueClaims.OneOfOutput",
+        "ChangeClaims.one-of-output",
     ),
     Claim(
         "5h",
@@ -709,8 +738,8 @@ CLAIMS: tuple[Claim, ...] = (
         "Two equal changes in one group are not noticed, unless, for kinds 2 and 5, they touch"
         " the top three bits of the number byte.",
         "claims",
-        "",
-        "",
+        "FalseClaims.EqualChanges",
+        "ChangeClaims.equal-changes",
     ),
     Claim(
         "6a",
@@ -734,8 +763,8 @@ CLAIMS: tuple[Claim, ...] = (
         "each is the sealed text of what it opens to",
         "",
         "claims",
-        "",
-        "",
+        "TrueClaims.TextsApart",
+        "EntryClaims.texts-apart",
     ),
     Claim(
         "6c",
@@ -747,8 +776,8 @@ CLAIMS: tuple[Claim, ...] = (
         " entry back",
         "By that unsealing a text opens, under every key, that is the sealed text of no entry.",
         "claims",
-        "",
-        "",
+        "Reasons.OneResult",
+        "BitsClaims.one-result",
     ),
     Claim(
         "6d",
@@ -813,8 +842,8 @@ CLAIMS: tuple[Claim, ...] = (
         "Under another C a record opens to the same kind, version and body; its identity may be"
         " another.",
         "book_claims",
-        "",
-        "",
+        "RecordSentences.CommonKeyFree",
+        "RecordClaims.common-key-free",
     ),
     Claim(
         "7e",
@@ -840,8 +869,8 @@ CLAIMS: tuple[Claim, ...] = (
         "A record of kind 3 that opens, opens with kind byte 4, too, to the same identity,"
         " version and body.",
         "book_claims",
-        "",
-        "",
+        "RecordSentences.KindByteFree",
+        "RecordClaims.kind-byte-free",
     ),
     Claim(
         "8a",
@@ -865,8 +894,8 @@ CLAIMS: tuple[Claim, ...] = (
         "no record's opening looks at another",
         "",
         "book_claims",
-        "",
-        "",
+        "BookSentences.WithinABook",
+        "BookClaims.within-a-book",
     ),
     Claim(
         "8c",
@@ -877,8 +906,8 @@ CLAIMS: tuple[Claim, ...] = (
         "a book is refused before anything is written",
         "The whole book is refused, and nothing is written.",
         "book_claims",
-        "",
-        "",
+        "BookSentences.Spoiled",
+        "BookClaims.spoiled",
     ),
     Claim(
         "8d",
@@ -889,8 +918,8 @@ CLAIMS: tuple[Claim, ...] = (
         "a book has no count of its records but its length",
         "A book that opens goes on opening with a record left out.",
         "book_claims",
-        "",
-        "",
+        "BookSentences.Missing",
+        "BookClaims.missing",
     ),
     Claim(
         "8e",
@@ -901,8 +930,8 @@ CLAIMS: tuple[Claim, ...] = (
         "no record knows of another",
         "A book that opens goes on opening with a record in it twice.",
         "book_claims",
-        "",
-        "",
+        "BookSentences.Doubled",
+        "BookClaims.doubled",
     ),
     Claim(
         "8f",
@@ -913,8 +942,8 @@ CLAIMS: tuple[Claim, ...] = (
         "no record knows its place",
         "The reordered book opens to the plain book in that order.",
         "book_claims",
-        "",
-        "",
+        "BookSentences.OrderChanged",
+        "BookClaims.order-changed",
     ),
     Claim(
         "9a",
@@ -968,8 +997,8 @@ CLAIMS: tuple[Claim, ...] = (
         " with dc for 28",
         "A change of the first byte, or of the third, may go unnoticed.",
         "example_claims",
-        "",
-        "",
+        "Examples.OneByte",
+        "ComputedExamples.one-byte",
     ),
     Claim(
         "9e",
@@ -978,10 +1007,11 @@ CLAIMS: tuple[Claim, ...] = (
         "false",
         "for all",
         "the left block stays as it is where the body's first bytes do",
-        "",
+        "Beside every text that opens there is another that opens and has the same first seven"
+        " bytes.",
         "claims",
-        "",
-        "",
+        "FalseClaims.LastEight",
+        "FrontClaims.last-eight",
     ),
     Claim(
         "10a",
@@ -993,8 +1023,8 @@ CLAIMS: tuple[Claim, ...] = (
         "of each record's copies the smaller of the two books' numbers can be paired",
         "",
         "book_claims",
-        "",
-        "",
+        "Marking.MostPaired",
+        "PairingLaws.most-paired",
     ),
     Claim(
         "10b",
@@ -1005,8 +1035,8 @@ CLAIMS: tuple[Claim, ...] = (
         "it is worked from how often each record stands in each book",
         "",
         "book_claims",
-        "",
-        "",
+        "Marking.AnyOrder",
+        "MarkingClaims.any-order",
     ),
     Claim(
         "10c",
@@ -1017,8 +1047,8 @@ CLAIMS: tuple[Claim, ...] = (
         "each needs an entry of its own in the model",
         "",
         "book_claims",
-        "",
-        "",
+        "Marking.CopiesAddNothing",
+        "MarkingClaims.copies-add-nothing",
     ),
     Claim(
         "10d",
@@ -1030,8 +1060,8 @@ CLAIMS: tuple[Claim, ...] = (
         "each record then stands in both books equally often",
         "",
         "book_claims",
-        "",
-        "",
+        "Marking.FullMark",
+        "MarkingClaims.full-mark",
     ),
     # end claims
 )

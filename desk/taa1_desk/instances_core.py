@@ -30,6 +30,7 @@ def undone(of: Maker) -> Instance:
     )
 
 
+@shows("f-bytes")
 @shows("f-collides")
 def f_collides(of: Maker) -> Instance:
     """Two halves that f takes to the same."""

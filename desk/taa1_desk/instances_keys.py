@@ -216,6 +216,26 @@ def challenge_reversed(of: Maker) -> Instance:
     )
 
 
+@shows("palindrome")
+def palindrome(of: Maker) -> Instance:
+    """TA22 of a challenge that reads the same backwards."""
+    s, challenge = of.sitting, of.sitting.rand2[:5] + of.sitting.rand2[4::-1]
+    key = of.bytes_of("ta21", s.root, s.rs)
+    orders = (challenge, challenge[::-1])
+    answers = [of.desk.call("ta22", key, order, s.response_mask, s.key_mask) for order in orders]
+    right, other = ((answer["response"], answer["key"]) for answer in answers)
+    hold(right == other)
+    return Instance(
+        "RAND2 of this sitting, its first five bytes and then these backwards",
+        [
+            (field("session key 2"), by("ta21"), key),
+            ("challenge", ALTERED, challenge),
+            (f"{field('response 2')} and {field('key 2')}", by("ta22"), right),
+            ("of the challenge reversed", by("ta22"), other),
+        ],
+    )
+
+
 def _xored_last(of: Maker) -> Steps:
     return Steps(of.desk, {"last_byte": lambda steps, inserted: xored(inserted)})
 

@@ -24,8 +24,8 @@ OpensTo r s p = (out : List ℕ) → length p ≤ length out
 abbrev pub withD : List ℕ → List ℕ → List ℕ
 withD d r = part 0 10 d ++ part 10 42 r
 
--- one-ring-only: "A sealed book opens under one ring only." The empty book opens under every ring, and a book without a record of kind 1
--- opens with any other D as it does with the ring's. Ring and book consist of bytes, as in 4c
+-- 1i: "A sealed book opens under one ring only." The empty book opens under every ring, and a book without a record of kind 1 opens with
+-- any other D as it does with the ring's. Ring and book consist of bytes, as in `OneBook`
 pub record ManyRings : Type 0 where
   pub empty : (r : List ℕ) → Bytes ringSize r → OpensTo r [] []
   pub other-d : (r d s p : List ℕ) → Bytes ringSize r → Bytes 10 d → ((i : ℕ) → s ! i < 256)
@@ -33,8 +33,8 @@ pub record ManyRings : Type 0 where
 
 -- ---- a book and its records
 
--- within-a-book: "A record opens within a larger book as it does alone." A book opens exactly if each of its records does, by itself (4d);
--- and of what opening writes, record i is what record i of the sealed book opens to. The lengths are those that the call takes
+-- 8b: "A record opens within a larger book as it does alone." A book opens exactly if each of its records does, by itself (`RecordAlone`); and of what
+-- opening writes, record i is what record i of the sealed book opens to. The lengths are those that the call takes
 pub record WithinABook : Type 0 where
   pub exactly : (r s out : List ℕ) → length r ≡ ringSize → length s ≤ sealedSize * mostRecords → length s % sealedSize ≡ 0
       → plainSize * (length s / sealedSize) ≤ length out
@@ -42,7 +42,7 @@ pub record WithinABook : Type 0 where
   pub writes : (r s out : List ℕ) → openBook r s out .0 .refusal ≡ 0 → (i : ℕ) → i < length s / sealedSize
       → recordAt plainSize (openBook r s out .1) i ≡ openRecord r (recordAt sealedSize s i)
 
--- spoils-only-itself: "One bad record spoils only itself." The whole book is refused, and the output stays as it was
+-- 8c: "One bad record spoils only itself." The whole book is refused, and the output stays as it was
 abbrev pub Spoiled : Type 0
 Spoiled = (r s out : List ℕ) (i : ℕ) → i < length s / sealedSize → (openFault r (recordAt sealedSize s i) ≡ 0 → ⊥)
     → (openBook r s out .0 .refusal ≡ 0 → ⊥) × (openBook r s out .0 .written ≡ 0) × (openBook r s out .1 ≡ out)
@@ -58,17 +58,17 @@ skipping k i = choose (ltb i k) i (suc i)
 abbrev pub repeating : ℕ → ℕ → ℕ
 repeating k i = choose (leb i k) i (i - 1)
 
--- missing: "A missing record is noticed." Said of one; again of the book that is left, and so of any
+-- 8d: "A missing record is noticed." Said of one; again of the book that is left, and so of any
 abbrev pub Missing : Type 0
 Missing = (r s p : List ℕ) (n k : ℕ) → Bytes ringSize r → ((i : ℕ) → s ! i < 256) → length s ≡ sealedSize * suc n → k < suc n → OpensTo r s p
     → OpensTo r (reordered n sealedSize (skipping k) s) (reordered n plainSize (skipping k) p)
 
--- doubled: "A doubled record is noticed." As long as there are at most 1,024: more are refused with 1, doubled or not
+-- 8e: "A doubled record is noticed." As long as there are at most 1,024: more are refused with 1, doubled or not
 abbrev pub Doubled : Type 0
 Doubled = (r s p : List ℕ) (n k : ℕ) → Bytes ringSize r → ((i : ℕ) → s ! i < 256) → length s ≡ sealedSize * n → suc n ≤ mostRecords → k < n
     → OpensTo r s p → OpensTo r (reordered (suc n) sealedSize (repeating k) s) (reordered (suc n) plainSize (repeating k) p)
 
--- reordered: "A changed order of records is noticed."
+-- 8f: "A changed order of records is noticed."
 abbrev pub OrderChanged : Type 0
 OrderChanged = (r s p : List ℕ) (n : ℕ) (π : ℕ → ℕ) → Bytes ringSize r → ((i : ℕ) → s ! i < 256) → length s ≡ sealedSize * n → Reordering n π
     → OpensTo r s p → OpensTo r (reordered n sealedSize π s) (reordered n plainSize π p)

@@ -50,8 +50,8 @@ pub record WholePairing (m : ℕ) (f : ℕ → List ℕ) (n : ℕ) (g : ℕ → 
   pub pairing : Pairing m f n g given σ
   pub none-left : (i j : ℕ) → i < m → j < n → given i ≡ false → g j ≡ f i → (k : ℕ) × (k < m) × (given k ≡ true) × (σ k ≡ j)
 
--- m1: "If a record of the hand-in counts for each entry of the model that has the same bytes, none twice, no other pairing counts more." All
--- such pairings count the same, which is the number above, and no pairing counts more; and there is one
+-- 10a: "If a record of the hand-in counts for each entry of the model whose sealed record has the same bytes, none twice, no other pairing
+-- counts more." All such pairings count the same, which is the number above, and no pairing counts more; and there is one
 pub record NoneCountsMore (m : ℕ) (f : ℕ → List ℕ) (n : ℕ) (g : ℕ → List ℕ) : Type 0 where
   pub number : (given : ℕ → Bool) (σ : ℕ → ℕ) → WholePairing m f n g given σ → count m given ≡ pairs m f n g
   pub most : (given : ℕ → Bool) (σ : ℕ → ℕ) → Pairing m f n g given σ → count m given ≤ pairs m f n g
@@ -62,20 +62,20 @@ MostPaired = (m : ℕ) (f : ℕ → List ℕ) (n : ℕ) (g : ℕ → List ℕ) �
 
 -- ---- a model and a hand-in
 
--- m2: "The number does not depend on the order of either book."
+-- 10b: "The number of equal records does not depend on the order of either book."
 pub record AnyOrder : Type 0 where
   pub of-hand-in : (w n : ℕ) → 0 < w → (model handIn : List ℕ) → length handIn ≡ w * n → (π : ℕ → ℕ) → Reordering n π
       → matched w model (reordered n w π handIn) ≡ matched w model handIn
   pub of-model : (w n : ℕ) → 0 < w → (model handIn : List ℕ) → length model ≡ w * n → (π : ℕ → ℕ) → Reordering n π
       → matched w (reordered n w π model) handIn ≡ matched w model handIn
 
--- m3: "Copies beyond the model's own add nothing." One record x more, of which the hand-in has as many as the model already. It stands at
--- the end; by m2 it may stand anywhere
+-- 10c: "Copies beyond the model's own add nothing." One record x more, of which the hand-in has as many as the model already. It stands at
+-- the end; by `AnyOrder` it may stand anywhere
 abbrev pub CopiesAddNothing : Type 0
 CopiesAddNothing = (w n : ℕ) → 0 < w → (model handIn x : List ℕ) → length handIn ≡ w * n → length x ≡ w
     → copies (length model / w) (recordAt w model) x ≤ copies n (recordAt w handIn) x → matched w model (handIn ++ x) ≡ matched w model handIn
 
--- m4: "It is full with no record over exactly if the hand-in is a reordering of the model's sealed form; and that opens to the reordered
+-- 10d: "It is full with no record over exactly if the hand-in is a reordering of the model's sealed form, which opens to the reordered
 -- model." The model is given as a well-formed plain book p, under a ring r
 pub record FullMark : Type 0 where
   pub exactly : (r p handIn : List ℕ) → Bytes ringSize r → WellFormed p

@@ -15,12 +15,12 @@ pub record AlikeButKind (r : List ℕ) (j k : ℕ) : Type 0 where
   pub seals : (x : List ℕ) → plainFault (j ∷ x) ≡ plainFault (k ∷ x)
   pub sealed : (x : List ℕ) → part 1 20 (sealRecord r (j ∷ x)) ≡ part 1 20 (sealRecord r (k ∷ x))
 
--- kind-byte-protected: "The kind byte is protected." Under every ring a record of kind 3 opens with the kind byte 4, and one of kind 4 with
--- the kind byte 3, to the same bytes after it
+-- 7f: "The kind byte is protected." Under every ring a record of kind 3 opens with the kind byte 4, and one of kind 4 with the kind byte 3,
+-- to the same bytes after it
 abbrev pub KindByteFree : Type 0
 KindByteFree = (r : List ℕ) → AlikeButKind r 3 4
 
--- same-o-and-g: "If O and G are the same, kind 5 is kind 2 and kind 6 is kind 3."
+-- 1e: "If O and G are the same, kind 5 is kind 2 and kind 6 is kind 3."
 abbrev pub SameOAndG : Type 0
 SameOAndG = (r : List ℕ) → ringKey O r ≡ ringKey G r → AlikeButKind r 2 5 × AlikeButKind r 3 6
 
@@ -30,8 +30,8 @@ SameOAndG = (r : List ℕ) → ringKey O r ≡ ringKey G r → AlikeButKind r 2 
 abbrev pub withC : List ℕ → List ℕ → List ℕ
 withC c r = part 0 26 r ++ part 0 10 c ++ part 36 16 r
 
--- wrong-c: "A wrong C sets the flag." With any other C a record opens exactly if it does with the ring's, to the same kind, version and
--- body: C is asked for the identity alone
+-- 7d: "A wrong C sets the flag." With any other C a record opens exactly if it does with the ring's, to the same kind, version and body: C
+-- is asked for the identity alone
 pub record OtherC (r c t : List ℕ) : Type 0 where
   pub opens : openFault (withC c r) t ≡ openFault r t
   pub kind : part 0 1 (openRecord (withC c r) t) ≡ part 0 1 (openRecord r t)

@@ -27,7 +27,7 @@ use Rattle.claims.proofs.TermLaws.{literal-bytes, pair}
 
 -- ---- the zero byte at the end
 
--- the sealed text of the example is the one that claim 11a opens, under a ring whose O is 00 01 .. 0f
+-- the sealed text of the example is the one of `TwoRings`, under a ring whose O is 00 01 .. 0f
 sealed-text : sealedText ≡ text
 sealed-text =
     let o : ta82Call text (upward 0 16) version7 ≡ record { refusal = 0; key = upward 1 10; number = 0x1234; «failed_checks» = 0 } =

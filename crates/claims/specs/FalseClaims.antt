@@ -1,4 +1,4 @@
--- Sentences about sealed texts that are false (docs/ARGUMENT.md, 8 to 13): what is so instead, for all inputs where that can be said, or
+-- Sentences about sealed texts that are false (docs/ARGUMENT.md): what is so instead, for all inputs where that can be said, or
 -- an example that the proof computes.
 use mathlib.Core.Bool.{Bool, false, _&&_, _||_}
 use mathlib.Core.List.{List, [], _∷_, _++_}
@@ -26,14 +26,14 @@ use Rattle.claims.specs.TrueClaims.{fifthAlone, changed}
 
 -- ---- kinds
 
--- 8a: "A text opens as one kind only." Kinds 3 and 4 open the same texts to the same twelve bytes, under every key and version. The text
+-- 1a: "A text opens as one kind only." Kinds 3 and 4 open the same texts to the same twelve bytes, under every key and version. The text
 -- has to consist of bytes, so that TA82's number has two
 abbrev pub ThreeAndFour : Type 0
 ThreeAndFour = (t s : List ℕ) (v : Version) → Bytes 15 t
     → let a : UnsealedNumbered = ta82Call t s v in
     ta92Call t s v ≡ record { refusal = a .refusal; key = bodyOf Ta81 (a .key) (a .number); «failed_checks» = a .«failed_checks» }
 
--- 8b: "Apart from kinds 3 and 4, a text opens as one kind only." Under every sealing key of its length, and every version, there is a text
+-- 1b: "Apart from kinds 3 and 4, a text opens as one kind only." Under every sealing key of its length, and every version, there is a text
 -- that opens as kinds 2, 3 and 4, as three different entries
 pub record ThreeKinds (s : List ℕ) (v : Version) (t : List ℕ) : Type 0 where
   pub bytes : Bytes 15 t
@@ -49,7 +49,7 @@ AsThreeKinds = (s : List ℕ) (v : Version) → length s ≡ 16 → (t : List �
 
 -- ---- the cipher
 
--- 9: "The cipher can be undone because f can." Two halves go to the same under one round key, so that no g undoes f, not even one that is
+-- 2c: "The cipher can be undone because f can." Two halves go to the same under one round key, so that no g undoes f, not even one that is
 -- told the round key
 
 abbrev pub half₁ : List ℕ
@@ -64,13 +64,13 @@ pub record FCollides : Type 0 where
 
 -- ---- the cores
 
--- dropped-byte-zero: "The dropped byte is zero." It is each byte equally often: under every key, of the 256^15 inputs that end in a zero
--- byte, exactly 256^14 have d there
+-- 3e: "The dropped byte is zero." It is each byte equally often: under every key, of the 256^15 inputs that end in a zero byte, exactly
+-- 256^14 have d there
 abbrev pub DroppedByte : Type 0
 DroppedByte = (k : List ℕ) (d : ℕ) → d < 256 → Count (256 ^ 14) (λ x. ZeroAt 15 x × (bl1 k x ! 7 ≡ d))
 
--- any-byte-put-back: "Any byte may be put back at B8." Another byte gives another left part of BL2's output, and the same right part; so of
--- all bytes the zero byte alone gives the left part that was sealed. Under every key, of every text
+-- 3f: "Any byte may be put back at B8." Another byte gives another left part of BL2's output, and the same right part; so of all bytes the
+-- zero byte alone gives the left part that was sealed. Under every key, of every text
 pub record PutBack (k t : List ℕ) (d e : ℕ) : Type 0 where
   pub left : (d ≡ e → ⊥) → part 0 8 (bl2 k (withByte d t)) ≡ part 0 8 (bl2 k (withByte e t)) → ⊥
   pub right : part 8 7 (bl2 k (withByte d t)) ≡ part 8 7 (bl2 k (withByte e t))
@@ -78,9 +78,9 @@ pub record PutBack (k t : List ℕ) (d e : ℕ) : Type 0 where
 abbrev pub OtherByte : Type 0
 OtherByte = (k t : List ℕ) (d e : ℕ) → PutBack k t d e
 
--- bl2-is-bl1-backwards: "BL2 is BL1 backwards." BL2 gives BL1's input back, without its last byte, exactly if the byte at B8 is the input's
--- last byte: with the zero byte there, exactly if the input ends in a zero byte. Of BL1's own sixteen bytes it does so exactly if their
--- eighth is the input's last; and under every key there is an input for which it is not
+-- 3g: "BL2 is BL1 backwards." BL2 gives BL1's input back, without its last byte, exactly if the byte at B8 is the input's last byte: with
+-- the zero byte there, exactly if the input ends in a zero byte. Of BL1's own sixteen bytes it does so exactly if their eighth is the
+-- input's last; and under every key there is an input for which it is not
 pub record NotBackwards : Type 0 where
   pub with-byte : (k x : List ℕ) (d : ℕ) → Bytes 16 x → (bl2 k (withByte d (without8 (bl1 k x))) ≡ part 0 15 x) ↔ (d ≡ x ! 15)
   pub of-all : (k x : List ℕ) → Bytes 16 x → (bl2 k (bl1 k x) ≡ part 0 15 x) ↔ (bl1 k x ! 7 ≡ x ! 15)
@@ -88,7 +88,7 @@ pub record NotBackwards : Type 0 where
 
 -- ---- changes
 
--- equal-changes: "Two equal changes in one group are noticed." Of BL2's output with no check failed, two bytes of one group, both ⊕ d: no
+-- 5h: "Two changed bytes of BL2's output are always noticed." Of BL2's output with no check failed, two bytes of one group, both ⊕ d: no
 -- check fails again, but for the fifth of kinds 2 and 5, which fails exactly if one of the two is the number byte and d is 32 or more, so
 -- that it touches the top three bits
 
@@ -108,9 +108,9 @@ abbrev pub EqualChanges : Type 0
 EqualChanges = (a : Algorithm) (u : List ℕ) (i j d : ℕ) → failed (formOf a) u ≡ 0 → (i ≡ j → ⊥) → groupAt (groupsOf a) i ≡ groupAt (groupsOf a) j
     → failed (formOf a) (changed 15 j d (changed 15 i d u)) ≡ choose (topBits a i j d) fifthAlone 0
 
--- every-bit: "A key's every bit changes the whole text." A change of one of the key's bytes from the seventh on, for kinds 3, 4 and 6 from
--- the eighth on, leaves the first seven bytes of the text as they were: the bytes before stand in the left block of BL1's input, and these
--- do not. The changed body is a legal one, too; d is a byte, or it would not be
+-- 4d: "A key's every bit changes the whole text." A change of one of the key's bytes from the seventh on, for kinds 3, 4 and 6 from the
+-- eighth on, leaves the first seven bytes of the text as they were: the bytes before stand in the left block of BL1's input, and these do
+-- not. The changed body is a legal one, too; d is a byte, or it would not be
 abbrev pub inLeftBlock : Algorithm → ℕ
 inLeftBlock Ta31 = 6
 inLeftBlock Ta51 = 6
@@ -125,8 +125,8 @@ abbrev pub EveryBit : Type 0
 EveryBit = (a : Algorithm) (s : List ℕ) (v : Version) (b : List ℕ) (i d : ℕ) → length s ≡ sealingSize a → Legal a b
     → inLeftBlock a ≤ i → i < keyLength a → d < 256 → FrontKept a s v b (changed 12 i d b)
 
--- last-eight: "A change in the last eight bytes of a text is always noticed." Beside every text that opens there is another that opens and
--- has the same first seven bytes
+-- 9e: "A change in the last eight bytes is always noticed." Beside every text that opens there is another that opens and has the same first
+-- seven bytes
 pub record LastEightChanged (a : Algorithm) (s : List ℕ) (v : Version) (t u : List ℕ) : Type 0 where
   pub opens : Opens a s v u
   pub front : part 0 7 u ≡ part 0 7 t
@@ -137,7 +137,7 @@ LastEight = (a : Algorithm) (s : List ℕ) (v : Version) (t : List ℕ) → Open
 
 -- ---- sealing key and version enter by their ⊕ alone
 
--- 10a: "A text belongs to one sealing key and one version." For every key s and versions v and w there is a key that does under w what s
+-- 1f: "A text belongs to one sealing key and one version." For every key s and versions v and w there is a key that does under w what s
 -- does under v; another key than s, if the versions differ. A version has sixteen bits
 
 -- n bytes: the key ⊕ both versions repeated
@@ -152,7 +152,7 @@ pub record OtherKey (a : Algorithm) (s : List ℕ) (v w : Version) (s′ : List 
 abbrev pub KeyAndVersion : Type 0
 KeyAndVersion = (a : Algorithm) (s : List ℕ) (v w : Version) → length s ≡ sealingSize a → OtherKey a s v w (otherKey (sealingSize a) s v w)
 
--- 10b: "A book's texts and encrypted identities belong to one ring." With each version ⊕ the same two bytes x, with D, O and G ⊕ x repeated,
+-- 1h: "A book's texts and encrypted identities belong to one ring." With each version ⊕ the same two bytes x, with D, O and G ⊕ x repeated,
 -- and with C as it was, they are the same
 
 abbrev pub otherRing : List ℕ → List ℕ → List ℕ
@@ -181,8 +181,8 @@ RingAndVersions = (r p x : List ℕ) → Bytes ringSize r → WellFormed p → B
 
 -- ---- sealing keys
 
--- other-keys-other-texts: "Other sealing keys give other texts." For kinds 2 to 6, every version and every legal body: of the 256^16 sealing
--- keys two give the same text, since there are 256^15 texts. Kind 1 has 256^10 sealing keys, and nothing is claimed of it
+-- 1g: "Other sealing keys give other texts." For kinds 2 to 6, every version and every legal body: of the 256^16 sealing keys two give the
+-- same text, since there are 256^15 texts. Kind 1 has 256^10 sealing keys, and nothing is claimed of it
 pub record KeysAlike (a : Algorithm) (v : Version) (b s s′ : List ℕ) : Type 0 where
   pub bytes : Bytes 16 s
   pub bytes′ : Bytes 16 s′
@@ -194,7 +194,7 @@ TwoKeys = (a : Algorithm) (v : Version) (b : List ℕ) → sealingSize a ≡ 16 
 
 -- ---- examples, all of kind 3
 
--- 11a: "A text opens to one entry, whatever the ring." One text, one version, and rings with two different O: two entries
+-- 1j: "A text opens to one entry, whatever the ring." One text, one version, and rings with two different O: two entries
 
 abbrev pub text : List ℕ
 text = 0x7d ∷ 0x3b ∷ 0xf4 ∷ 0xc5 ∷ 0x3b ∷ 0xec ∷ 0x9b ∷ 0x33 ∷ 0xbe ∷ 0x0c ∷ 0x29 ∷ 0x6b ∷ 0x64 ∷ 0xdc ∷ 0x2f ∷ []
@@ -210,7 +210,7 @@ pub record TwoRings : Type 0 where
       → ta82Call text (ringKey O r) version7
       ≡ record { refusal = 0; key = 0x8b ∷ 0xdb ∷ 0x11 ∷ 0x10 ∷ 0x04 ∷ 0x77 ∷ 0xf1 ∷ 0x21 ∷ 0x7a ∷ 0xb0 ∷ []; number = 0xfd9b; «failed_checks» = 0 }
 
--- 11b: "A text opens to one entry, whatever the version." One text, one sealing key, versions 7 and 5075: two entries
+-- 1k: "A text opens to one entry, whatever the version." One text, one sealing key, versions 7 and 5075: two entries
 
 abbrev pub version5075 : Version
 version5075 = record { 0 = 5075 }
@@ -224,7 +224,7 @@ pub record TwoVersions : Type 0 where
   pub second : ta82Call text′ (upward 0 16) version5075
       ≡ record { refusal = 0; key = 0xa2 ∷ 0x4f ∷ 0x5a ∷ 0x19 ∷ 0x8f ∷ 0xec ∷ 0xb3 ∷ 0xee ∷ 0x72 ∷ 0xa6 ∷ []; number = 0x961c; «failed_checks» = 0 }
 
--- 12: "The flag notices every change." Two texts that differ in one bit, of the second byte, both open, to different keys
+-- 9c: "The flag notices every change." Two texts that differ in one bit, of the second byte, both open, to different keys
 
 abbrev pub ofSecond : ℕ → List ℕ
 ofSecond x = 0xf2 ∷ x ∷ 0x34 ∷ 0xe6 ∷ 0xa6 ∷ 0x21 ∷ 0xc2 ∷ 0x79 ∷ 0xee ∷ 0x4f ∷ 0x4c ∷ 0xf0 ∷ 0xad ∷ 0x62 ∷ 0x79 ∷ []
@@ -237,7 +237,7 @@ pub record OneBit : Type 0 where
 
 -- ---- records
 
--- 13a: "The flag protects the identity." A record that opens goes on opening with any other three bytes as its encrypted identity (and one
+-- 7c: "The flag protects the identity." A record that opens goes on opening with any other three bytes as its encrypted identity (and one
 -- that does not goes on not opening): to another identity, with the same kind, version and body. The flag is worked from kind, version, the
 -- sealing key and the text. Ring and record have to consist of bytes, so that TA61 can be undone
 
@@ -253,8 +253,8 @@ pub record OtherIdentity (r t x : List ℕ) : Type 0 where
 abbrev pub IdentityFree : Type 0
 IdentityFree = (r t x : List ℕ) → Bytes ringSize r → Bytes sealedSize t → Bytes 3 x → (x ≡ part 1 3 t → ⊥) → OtherIdentity r t x
 
--- 13b: "Of records of the same kind and version, a text belongs to the one in which it stands." Two such records may exchange their texts:
--- each opens to its own identity with the other's body. Said of t with u's text; of u with t's it is the same
+-- 7e: "A text belongs to the record in which it stands, among those of the same kind and version." Two such records may exchange their
+-- texts: each opens to its own identity with the other's body. Said of t with u's text; of u with t's it is the same
 
 abbrev pub withText : List ℕ → List ℕ → List ℕ
 withText u t = part 0 6 t ++ part 6 15 u
@@ -263,8 +263,8 @@ abbrev pub TextsExchanged : Type 0
 TextsExchanged = (r t u : List ℕ) → t ! 0 ≡ u ! 0 → part 4 2 t ≡ part 4 2 u
     → (openFault r (withText u t) ≡ openFault r u) × (openRecord r (withText u t) ≡ part 0 6 (openRecord r t) ++ part 6 12 (openRecord r u))
 
--- sealed-twice: "The same key sealed twice gives another text." Two plain records of the same kind, version and body have the same text in
--- their sealed records under a ring, whatever their identities; and so in sealed books, at whatever places
+-- 4c: "The same key sealed twice gives another text." Two plain records of the same kind, version and body have the same text in their
+-- sealed records under a ring, whatever their identities; and so in sealed books, at whatever places
 abbrev pub SameEntry : List ℕ → List ℕ → Type 0
 SameEntry p q = (p ! 0 ≡ q ! 0) × (part 4 14 p ≡ part 4 14 q)
 

@@ -1,4 +1,4 @@
--- Wrong variants beside the right definitions. The four mistakes that 01 lists (docs/ARGUMENT.md, 14): an input on which the variant answers
+-- Wrong variants beside the right definitions. The four mistakes that 01 lists (docs/ARGUMENT.md): an input on which the variant answers
 -- otherwise, and what would be false if the engine did so. And BL1 without chaining, of which another claim speaks.
 use mathlib.Core.Bool.{_&&_, not}
 use mathlib.Core.List.{List, [], _∷_, _++_}
@@ -39,7 +39,7 @@ ta82AtEnd t s v =
     let u : List ℕ = openedAtEnd (form81 .key s (bytesOf 2 (v .0))) t in
     numberAnswer Ta81 (unsealedBody (first ((hasLength 15 t && hasLength 16 s, wrongLength) ∷ [])) (form81 .shrink u) (failed form81 u))
 
--- 14a: "The zero byte can as well be put back at the end." A sealed text would no longer open: here all three checks of it fail
+-- 3h: "The zero byte can as well be put back at the end." A sealed text would no longer open: here all three checks of it fail
 abbrev pub sealedText : List ℕ
 sealedText = ta81Call (upward 1 10) version7 (upward 0 16) (record { 0 = 0x1234 }) .bytes
 
@@ -55,7 +55,7 @@ reversed c = table 10 (λ i. c ! (9 - i))
 abbrev pub ta22Reversed : List ℕ → List ℕ → ℕ → ℕ → Authentication
 ta22Reversed ks rand rm km = ta12Call ks (reversed rand) rm km
 
--- 14b: "TA22's challenge is reversed, as TA21's seed is." It would answer another response and another key than the standard's TA22
+-- 1m: "TA22's challenge is reversed, as TA21's seed is." It would answer another response and another key than the standard's TA22
 pub record ChallengeReversed : Type 0 where
   pub right : ta22Call (upward 0 16) (upward 1 10) 0x000f 0x3ff0
       ≡ record { refusal = 0; response = 0xc9 ∷ 0x0a ∷ 0x4e ∷ 0xc3 ∷ []; key = 0x3e ∷ 0x42 ∷ 0x46 ∷ 0xfc ∷ 0x16 ∷ 0xfd ∷ 0xdd ∷ 0x29 ∷ 0x1b ∷ 0x0c ∷ [] }
@@ -81,8 +81,8 @@ ta52WithoutBits t s v =
     (unsealedBody (first ((hasLength 15 t && hasLength 16 s, wrongLength) ∷ []))
     (unseal formWithoutBits s (bytesOf 2 (v .0)) t) (fails formWithoutBits s (bytesOf 2 (v .0)) t))
 
--- 14c: "The number byte's three top bits need no check." Under every sealing key of its length, and every version, a text would open that
--- is the sealed text of no entry; how many, 6c says
+-- 5f: "The number byte's three top bits need no check." Under every sealing key of its length, and every version, a text would open that is
+-- the sealed text of no entry; how many, `EightWithout` says
 pub record Unchecked (s : List ℕ) (v : Version) (t : List ℕ) : Type 0 where
   pub bytes : Bytes 15 t
   pub right : ta52Call t s v .«failed_checks» ≡ 0 → ⊥
@@ -101,7 +101,7 @@ exp2ByXor b = exp1 b ++ (xorOf 0 2 b ⊕ xorOf 2 2 b ⊕ xorOf 4 2 b ⊕ xorOf 6
 unfoldable pub ta41ByXor : List ℕ → List ℕ → Bytes16
 ta41ByXor root seed = answer16 (first ((hasLength 16 root && hasLength 10 seed, wrongLength) ∷ [])) (bl1 root (exp2ByXor seed))
 
--- 14d: "EXP2's last byte is the ⊕ of the five inserted bytes." On the seed 01 02 .. 0a it would be 0b and not 1f, and so TA41 would answer
+-- 1o: "EXP2's last byte is the ⊕ of the five inserted bytes." On the seed 01 02 .. 0a it would be 0b and not 1f, and so TA41 would answer
 -- otherwise under every root
 pub record LastByteXored : Type 0 where
   pub right : exp2 (upward 1 10) ! 15 ≡ 0x1f
@@ -133,7 +133,7 @@ pub record InputBytes (x : RingInputs) : Type 0 where
 abbrev pub HoldsOf : List ℕ → Type 0
 HoldsOf r = (s out : List ℕ) → ((i : ℕ) → s ! i < 256) → plainSize * (length s / sealedSize) ≤ length out → Demand3 r s out
 
--- 14e: "With TA22 or EXP2 wrong, a text could open to two entries." Demand 3 would still hold, since it holds of every ring of 52 bytes,
+-- 1p: "With TA22 or EXP2 wrong, a text could open to two entries." Demand 3 would still hold, since it holds of every ring of 52 bytes,
 -- however it was made. The inputs have to consist of bytes, or the ring would not
 pub record StillHolds : Type 0 where
   pub right : (x : RingInputs) → ringWith exp2 (λ c. c) x ≡ ring x

@@ -17,9 +17,9 @@ use Rattle.claims.specs.Variants.{ta82AtEnd, reversed, ta22Reversed}
 
 -- ---- changes of one byte
 
--- one-byte-1-2-5: "For kinds 1, 2 and 5 the flag notices every change of one byte." Under D 00 01 .. 09 a bit of the first byte of a text
--- of kind 1 is changed, and under O 00 01 .. 0f the third byte of one of kind 2: each opens before and after, to different keys. Kind 5 is
--- TA51's as kind 2 is, so that with O's bytes as G the second is an example of kind 5, too
+-- 9d: "For kinds 1, 2 and 5 the flag notices every change of one byte." Under D 00 01 .. 09 a bit of the first byte of a text of kind 1 is
+-- changed, and under O 00 01 .. 0f the third byte of one of kind 2: each opens before and after, to different keys. Kind 5 is TA51's as
+-- kind 2 is, so that with O's bytes as G the second is an example of kind 5, too
 
 abbrev pub ofFirst : ℕ → List ℕ
 ofFirst x = x ∷ 0x1f ∷ 0x2a ∷ 0x27 ∷ 0x76 ∷ 0x84 ∷ 0x45 ∷ 0x3c ∷ 0xad ∷ 0x91 ∷ 0x93 ∷ 0xd1 ∷ 0xe0 ∷ 0xac ∷ 0xaa ∷ []
@@ -39,8 +39,8 @@ pub record OneByte : Type 0 where
 
 -- ---- kinds
 
--- kind-1-only: "A text of kind 1 opens as kind 1 only." One text opens as kind 1 under D 00 01 .. 09 and as kind 3 under O 00 01 .. 0f, to
--- two keys. And under a ring of zeros there is a text that opens as all six kinds, with version 0, to a body of zeros
+-- 1c: "A text of kind 1 opens as kind 1 only." One text opens as kind 1 under D 00 01 .. 09 and as kind 3 under O 00 01 .. 0f, to two keys.
+-- And under a ring of zeros there is a text that opens as all six kinds, with version 0, to a body of zeros
 
 abbrev pub ofTwoKinds : List ℕ
 ofTwoKinds = 0x42 ∷ 0xca ∷ 0x5b ∷ 0x04 ∷ 0x84 ∷ 0x6c ∷ 0x15 ∷ 0x5e ∷ 0x56 ∷ 0xc3 ∷ 0x32 ∷ 0x51 ∷ 0x9d ∷ 0x5f ∷ 0x5d ∷ []
@@ -60,8 +60,8 @@ pub record OtherKinds : Type 0 where
   pub all-six : (k : ℕ) (x : List ℕ) → 1 ≤ k → k ≤ 6
       → (openFault (zeros ringSize) (recordOfSix k x) ≡ 0) × (part 6 12 (openRecord (zeros ringSize) (recordOfSix k x)) ≡ zeros 12)
 
--- o-and-g-differ: "O and G differ, so kinds 2 and 5, or 3 and 6, can't be confused." One text opens as kind 2 under an O and as kind 5 under
--- a G, and one as kind 3 and as kind 6, to two keys each. G is TB7's of a group key, as in a ring that the recipe makes
+-- 1d: "O and G differ, so kinds 2 and 5, or 3 and 6, can't be confused." One text opens as kind 2 under an O and as kind 5 under a G, and
+-- one as kind 3 and as kind 6, to two keys each. G is TB7's of a group key, as in a ring that the recipe makes
 
 abbrev pub ofTwoAndFive : List ℕ
 ofTwoAndFive = 0x1e ∷ 0x8b ∷ 0xfd ∷ 0x31 ∷ 0xa1 ∷ 0xb2 ∷ 0x9e ∷ 0x4c ∷ 0x82 ∷ 0xb4 ∷ 0xca ∷ 0x42 ∷ 0xb5 ∷ 0x49 ∷ 0x67 ∷ []
@@ -84,8 +84,8 @@ pub record ConfusedKinds : Type 0 where
 
 -- ---- where two mistakes do no harm
 
--- zero-at-end-either-way: "With the zero byte put back at the end no sealed text opens." A text whose last eight bytes are zeros opens
--- as it should, under every key and version; an example of kind 3 under O 00 01 .. 0f. For other texts the right block would be another
+-- 3i: "With the zero byte put back at the end no sealed text opens." A text whose last eight bytes are zeros opens as it should, under
+-- every key and version; an example of kind 3 under O 00 01 .. 0f. For other texts the right block would be another
 
 abbrev pub endsInZeros : List ℕ
 endsInZeros = 0xb2 ∷ 0x3e ∷ 0x9d ∷ 0x02 ∷ 0xbd ∷ 0x07 ∷ 0x83 ∷ 0x00 ∷ 0x00 ∷ 0x00 ∷ 0x00 ∷ 0x00 ∷ 0x00 ∷ 0x00 ∷ 0x00 ∷ []
@@ -95,14 +95,14 @@ pub record EitherWay : Type 0 where
   pub opens : ta82Call endsInZeros (upward 0 16) version7
       ≡ record { refusal = 0; key = 0xa7 ∷ 0x28 ∷ 0x53 ∷ 0xdc ∷ 0x09 ∷ 0x67 ∷ 0xc8 ∷ 0xf3 ∷ 0xcf ∷ 0xd0 ∷ []; number = 0x5c32; «failed_checks» = 0 }
 
--- palindrome: "With TA22's challenge reversed response and key are always others." A challenge that is the same backwards gives the
--- same, under every session key and masks
+-- 1n: "With TA22's challenge reversed response and key are always others." A challenge that is the same backwards gives the same, under
+-- every session key and masks
 abbrev pub Palindrome : Type 0
 Palindrome = (ks c : List ℕ) (rm km : ℕ) → reversed c ≡ c → ta22Reversed ks c rm km ≡ ta22Call ks c rm km
 
 -- ---- f
 
--- f-four-bytes: "f takes two halves to the same." The four bytes to which claim 9's two halves go, under a round key of zeros
+-- 2b: "f takes two halves to the same under one round key." The four bytes to which the two halves of `FCollides` go, under a round key of zeros
 pub record FBytes : Type 0 where
   pub first : f half₁ (zeros 12) ≡ 0x01 ∷ 0x9c ∷ 0x10 ∷ 0xb0 ∷ []
   pub second : f half₂ (zeros 12) ≡ 0x01 ∷ 0x9c ∷ 0x10 ∷ 0xb0 ∷ []

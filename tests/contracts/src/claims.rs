@@ -104,9 +104,11 @@ fn wrapped(words: &str) -> String {
     lines.iter().map(|line| format!("{line}\n")).collect()
 }
 
-/// The name and the statement of a public theorem.
+/// The name and the statement of a public theorem: its type is a statement's name alone,
+/// where a lemma that another file uses spells its own out.
 fn theorem(line: &str) -> Option<(&str, &str)> {
-    line.strip_prefix("pub ")?.split_once(" : ")
+    let found = line.strip_prefix("pub ")?.split_once(" : ")?;
+    (!found.1.contains(' ')).then_some(found)
 }
 
 fn of_file<'a>(files: &'a [File], name: &str) -> &'a str {
