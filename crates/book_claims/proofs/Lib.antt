@@ -1,4 +1,5 @@
 pub mod RecordClaims
+pub mod SealedFormLaws
 pub mod ReorderedLaws
 pub mod BookClaims
 pub mod CountingLaws

@@ -8,12 +8,22 @@ use Rattle.standard.specs.ShufflesFacts.{Reordering, reordered}
 use Rattle.standard.specs.Sizes.{plainSize, sealedSize}
 use Rattle.standard.proofs.BookLaws.{joined-same, each-self}
 use Rattle.standard.proofs.BytesLaws.{part-left, part-seam, same-eq, same-refl}
-use Rattle.book_claims.specs.Marking.{copies, hasRecord, pairs, matched, Pairing, AnyOrder, CopiesAddNothing, FullMark}
-use Rattle.book_claims.proofs.BookClaims.{sealed-bytes, form-opens, order-changed}
+use Rattle.book_claims.specs.Marking.{copies, hasRecord, pairs, matched, Pairing, MostPaired, AnyOrder, CopiesAddNothing, FullMark}
+use Rattle.book_claims.proofs.BookClaims.{order-changed}
+use Rattle.book_claims.proofs.SealedFormLaws.{sealed-bytes, form-opens}
 use Rattle.book_claims.proofs.CountingLaws.{count-hit, count-miss, count-same, count-all, count-before, count-reordered, count-full, find, find-some}
 use Rattle.book_claims.proofs.CountingLaws.{OneToOne, one-to-one-onto}
 use Rattle.book_claims.proofs.ReorderedLaws.{whole, reordered-length, reordered-at, reordered-whole}
-use Rattle.book_claims.proofs.PairingLaws.{pairing-most, paired, ranked}
+use Rattle.book_claims.proofs.PairingLaws.{pairing-most, pairing-number, paired, ranked}
+
+-- ---- pairings
+
+pub most-paired : MostPaired
+most-paired m f n g = record {
+  number = λ given σ a. pairing-number a;
+  most = λ given σ a. pairing-most a;
+  some = (hasRecord f g n, paired m f n g, ranked m f n g);
+}
 
 -- ---- entries and records in another order
 

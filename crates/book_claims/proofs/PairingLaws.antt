@@ -4,7 +4,7 @@ use Rattle.standard.proofs.Prelude.{_≡_, refl, sym, ap, _∙_, subst, Bool, t
 use Rattle.standard.proofs.Prelude.{arith, eqb, ltb, eqb-true, eq-eqb, ltb-true, ltb-false, lt-ltb, zero-le}
 use Rattle.standard.specs.Bytes.{same}
 use Rattle.standard.proofs.BytesLaws.{and-split, and-join, same-eq, same-refl}
-use Rattle.book_claims.specs.Marking.{count, copies, hasRecord, pairs, Pairing, WholePairing, MostPaired}
+use Rattle.book_claims.specs.Marking.{count, copies, hasRecord, pairs, Pairing, WholePairing}
 use Rattle.book_claims.proofs.CountingLaws.{count-hit, count-miss, count-missing, count-before, count-one, count-reaches}
 use Rattle.book_claims.proofs.CountingLaws.{find, find-some, count-into, count-less}
 
@@ -215,10 +215,3 @@ module _ (m : ℕ) (f : ℕ → List ℕ) (n : ℕ) (g : ℕ → List ℕ) where
     };
     none-left = rank-taken;
   }
-
-pub most-paired : MostPaired
-most-paired m f n g = record {
-  number = λ given σ a. pairing-number a;
-  most = λ given σ a. pairing-most a;
-  some = (hasRecord f g n, paired m f n g, ranked m f n g);
-}
