@@ -1,1 +1,2 @@
-pub mod ComputedExamples
+pub mod UnsealingLaws
+pub mod ComputedClaims

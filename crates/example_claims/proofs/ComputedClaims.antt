@@ -1,20 +1,18 @@
 -- The examples, by computation: BL2's output is computed for each text, and the call's answer is read off it.
-use Rattle.standard.proofs.Prelude.{_≡_, refl, sym, ap, _∙_, List, [], _∷_, _++_, ℕ, zero, suc, _≤_, arith, length}
+use Rattle.standard.proofs.Prelude.{_≡_, refl, sym, ap, _∙_, List, [], _∷_, _++_, ℕ, zero, suc, _≤_, arith}
 use Rattle.standard.specs.Books.{ringKey, openFault, openRecord}
 use Rattle.standard.specs.Bytes.{bit, part, zeros}
 use Rattle.standard.specs.Expansions.{exp4}
 use Rattle.standard.specs.Hurdle.{S, T, f, D, a, Q, laid, schedule}
 use Rattle.standard.specs.Keys.{ta12Call}
 use Rattle.standard.specs.Mixing.{tb7Call}
-use Rattle.standard.specs.Seals.{kind, kindOf, sealingSize, key10, key16, formOf, failed, with8, opened, unseal, fails, keyAnswer, numberAnswer}
+use Rattle.standard.specs.Seals.{kind, kindOf, key10, key16, formOf, failed, with8, opened, unseal, fails, keyAnswer, numberAnswer}
 use Rattle.standard.specs.Seals.{unsealCall, ta32Call, ta52Call, ta82Call}
 use Rattle.standard.specs.Sizes.{ringSize}
 use Rattle.standard.specs.declared.Algorithm.{Algorithm}
 use Rattle.standard.specs.declared.Algorithm.the-variants.{Ta31, Ta51, Ta81, Ta91}
 use Rattle.standard.specs.declared.RingKey.{RingKey}
 use Rattle.standard.specs.declared.RingKey.the-variants.{D as ringD, O as ringO, G as ringG}
-use Rattle.standard.specs.declared.Version.{Version}
-use Rattle.standard.proofs.CallPairLaws.{unsealed-by}
 use Rattle.claims.specs.Entries.{upward, version7}
 use Rattle.claims.specs.FalseClaims.{otherO}
 use Rattle.claims.specs.Variants.{withZeroAtEnd, openedAtEnd, ta82AtEnd}
@@ -23,16 +21,7 @@ use Rattle.claims.proofs.ExampleClaims.{two-rings}
 use Rattle.claims.proofs.TermLaws.{pair}
 use Rattle.example_claims.specs.Examples.{ofFirst, ofThird, OneByte, ofTwoKinds, ofSixKinds, recordOfSix, OtherKinds}
 use Rattle.example_claims.specs.Examples.{ofTwoAndFive, otherG, ConfusedKinds, endsInZeros, EitherWay, Palindrome, FBytes}
-
--- what unsealing answers to a text that BL2 takes to u
-pub answered : (k : Algorithm) (t s : List ℕ) (v : Version) (u : List ℕ) → length t ≡ 15 → length s ≡ sealingSize k
-    → bl2Chained (schedule (formOf k .key s (pair v))) (with8 t) ≡ u
-    → unsealCall k t s v ≡ record { refusal = 0; body = formOf k .shrink u; «failed_checks» = failed (formOf k) u }
-unfolding unseal fails opened
-answered k t s v u ht hs e =
-    unsealed-by k s v hs t ht
-    ∙ ap (λ (x : List ℕ). record { refusal = 0; body = formOf k .shrink x; «failed_checks» = failed (formOf k) x })
-    (bl2-chained (formOf k .key s (pair v)) (with8 t) ∙ e)
+use Rattle.example_claims.proofs.UnsealingLaws.{answered}
 
 -- ---- the cipher
 
