@@ -15,7 +15,7 @@ const LAYERS: [&str; 10] = [
     "shared",
     "meaning",
 ];
-/// Such a crate uses any, and none uses it.
+/// Such a crate uses any, and no crate of a layer uses it.
 const BESIDE: &str = "beside";
 
 /// The layers with their crates, each layer's in the order of crates.txt.
@@ -82,7 +82,8 @@ pub fn check(crates: &[Crate]) -> (usize, Vec<String>) {
             continue;
         }
         for used in crates.iter().filter(|used| one.uses.contains(&used.name)) {
-            let below = used.layer != BESIDE && depth(&used.layer) >= depth(layer);
+            let beside = used.layer == BESIDE && layer != BESIDE;
+            let below = !beside && depth(&used.layer) >= depth(layer);
             if !below {
                 let used = &used.name;
                 faults.push(format!(
@@ -122,6 +123,8 @@ mod tests {
         assert_eq!(faults(&above), [fault]);
         let fault = "crates.txt: cores: uses claims, of a layer above it";
         assert_eq!(faults(&[standard(), claims(), cores(&["claims"])]), [fault]);
+        let examples = one("example_claims", "beside", &["standard", "claims"]);
+        assert!(faults(&[standard(), claims(), examples]).is_empty());
         assert_eq!(faults(&[hurdle("none")]).len(), 1);
     }
 
