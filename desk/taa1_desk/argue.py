@@ -15,8 +15,11 @@ from .texts import Heading
 
 def _steps() -> list[Block]:
     """The model argument."""
-    rows = [(str(number), Noted(step.title, step.words)) for number, step in enumerate(STEPS, 1)]
-    return [Head("The model argument"), Pairs(rows)]
+    steps = [
+        Together((Head(f"{number}. {step.title}", 3), Words(step.words)))
+        for number, step in enumerate(STEPS, 1)
+    ]
+    return [Head("The model argument"), *steps]
 
 
 def _rubric() -> list[Block]:

@@ -159,10 +159,9 @@ STYLE = """
 .line { border-bottom: 1px solid #777; height: 9mm; }
 .result td { font-weight: bold; }
 .note { margin: .15em 0 0; }
-.pairs .noted, .rubric .noted { font-weight: bold; }
+.rubric .noted { font-weight: bold; }
 .marked th, .marked td { line-height: 1.3; padding-bottom: .12em; padding-top: .12em; }
 .whose { color: #444; white-space: nowrap; width: 1%; }
-.claims th:nth-child(n+3), .claims td:nth-child(n+3) { width: 1%; padding-right: .5em; }
 .claims .boxes i:not(.tick) { height: 5.5mm; }
 @media print, (min-width: 40em) {
   .steps { font-size: .9em; line-height: 1.25; }
@@ -171,11 +170,13 @@ STYLE = """
   .steps td:nth-child(2) { white-space: nowrap; width: 12em; }
   .steps td:nth-child(3) { width: 4em; }
   .rows th:nth-child(2), .asked th:nth-child(2) { width: 12em; }
+  .claims th:nth-child(n+3), .claims td:nth-child(n+3) { width: 1%; padding-right: .5em; }
 }
 @media screen and (max-width: 40em) {
   .steps td:nth-child(-n+3), .rows td:nth-child(-n+2) { display: inline; padding-right: .8em; }
   .steps td::before, .rows td::before { content: none; }
-  .claims td:nth-child(n+4) { display: inline; padding-right: .8em; }
+  .claims td:nth-child(n+4), .rubric td:nth-child(n+3) { display: inline; padding-right: .8em; }
+  .claims td:nth-child(2)::before, .rubric td:nth-child(2)::before { content: none; }
   .pairs .whose { white-space: normal; }
   .boxes i { width: 5.2mm; }
 }
