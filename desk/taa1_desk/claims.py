@@ -245,7 +245,7 @@ CLAIMS: tuple[Claim, ...] = (
         " all six kinds.",
         "example_claims",
         "Examples.OtherKinds",
-        "ComputedExamples.other-kinds",
+        "ComputedClaims.other-kinds",
     ),
     Claim(
         "1d",
@@ -258,7 +258,7 @@ CLAIMS: tuple[Claim, ...] = (
         " to two keys each.",
         "example_claims",
         "Examples.ConfusedKinds",
-        "ComputedExamples.confused-kinds",
+        "ComputedClaims.confused-kinds",
     ),
     Claim(
         "1e",
@@ -386,7 +386,7 @@ CLAIMS: tuple[Claim, ...] = (
         "Of such a challenge they are the same, under every session key and with all masks.",
         "example_claims",
         "Examples.Palindrome",
-        "ComputedExamples.palindrome",
+        "ComputedClaims.palindrome",
     ),
     Claim(
         "1o",
@@ -436,7 +436,7 @@ CLAIMS: tuple[Claim, ...] = (
         "",
         "example_claims",
         "Examples.FBytes",
-        "ComputedExamples.f-bytes",
+        "ComputedClaims.f-bytes",
     ),
     Claim(
         "2c",
@@ -589,7 +589,7 @@ CLAIMS: tuple[Claim, ...] = (
         "A text whose last eight bytes are zeros is the same either way.",
         "example_claims",
         "Examples.EitherWay",
-        "ComputedExamples.either-way",
+        "ComputedClaims.either-way",
     ),
     Claim(
         "4a",
@@ -998,7 +998,7 @@ CLAIMS: tuple[Claim, ...] = (
         "A change of the first byte, or of the third, may go unnoticed.",
         "example_claims",
         "Examples.OneByte",
-        "ComputedExamples.one-byte",
+        "ComputedClaims.one-byte",
     ),
     Claim(
         "9e",
@@ -1024,7 +1024,7 @@ CLAIMS: tuple[Claim, ...] = (
         "",
         "book_claims",
         "Marking.MostPaired",
-        "PairingLaws.most-paired",
+        "MarkingClaims.most-paired",
     ),
     Claim(
         "10b",
