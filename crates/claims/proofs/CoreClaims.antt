@@ -2,16 +2,16 @@
 use Rattle.standard.proofs.Prelude.{_≡_, refl, sym, ap, ap₂, _∙_, _↔_, List, [], _∷_, _++_, ℕ, _+_, _-_, _≤_, _<_, arith}
 use mathlib.Core.Logic.{Iff·rfl}
 use Rattle.standard.specs.Bytes.{_!_, part, xors, Bytes}
-use Rattle.standard.specs.Cores.{bl1}
-use Rattle.standard.specs.Hurdle.{decrypt}
+use Rattle.standard.specs.Cores.{bl1With, bl1}
+use Rattle.standard.specs.Hurdle.{encrypt, decrypt}
 use Rattle.standard.specs.Seals.{without8, opened}
 use Rattle.standard.proofs.BytesLaws.{table-at, spell, bytes-append, bytes-cons, bytes-part, bytes-zero}
 use Rattle.standard.proofs.CoreLaws.{sealCore, unsealCore, core}
 use Rattle.standard.proofs.InverseLaws.{Inverse}
 use Rattle.claims.specs.Entries.{Count, withByte, ZeroAt, SameText}
 use Rattle.claims.specs.Reasons.{FewerInputs}
-use Rattle.claims.specs.TrueClaims.{NothingLost, Shared, Chaining}
-use Rattle.claims.specs.Variants.{bl1Unchained}
+use Rattle.claims.specs.TrueClaims.{endedBy, CipherNotUndone, NothingLost, Shared, Chaining}
+use Rattle.claims.specs.Variants.{bl1Unchained, bl1By}
 use Rattle.claims.proofs.BlockLaws.{bl1-back, bl1-inverse, unchained-back, unchained-inverse}
 use Rattle.claims.proofs.NumberLaws.{numbered}
 use Rattle.claims.proofs.OnlyLaws.{inverse-same, counted, counted-then}
@@ -132,4 +132,35 @@ fewer-inputs = record {
         λ s. (((s .0, first y x (s .0) (z₁ .0) (s .1) ∙ z₁ .1), s .1), second y x (s .0) (z₁ .0) (s .1) ∙ z₂),
         λ s. (s .0 .0 .0, s .0 .1),
       ));
+}
+
+-- ---- over an encryption that takes two blocks to one
+
+left-block : (b s : List ℕ) → Bytes 8 b → part 0 8 (b ++ s) ≡ b
+left-block b s h = ap (λ (x : List ℕ). part 0 8 (x ++ s)) (sym (spell h)) ∙ spell h
+
+right-block : (b c s : List ℕ) → Bytes 8 b → Bytes 8 c → part 8 8 (b ++ s) ≡ part 8 8 (c ++ s)
+right-block b c s hb hc = ap (λ (x : List ℕ). part 8 8 (x ++ s)) (sym (spell hb)) ∙ ap (λ (x : List ℕ). part 8 8 (x ++ s)) (spell hc)
+
+last-zero : (b r : List ℕ) → Bytes 8 b → Bytes 7 r → ZeroAt 15 (endedBy r b)
+last-zero b r hb hr =
+    let right : Bytes 8 (r ++ 0 ∷ []) = bytes-append hr bytes-zero in
+    (bytes-append hb right, ap₂ (λ (x y : List ℕ). endedBy y x ! 15) (sym (spell hb)) (sym (spell hr)))
+
+same-output : (e : List ℕ → List ℕ) (b c s : List ℕ) → Bytes 8 b → Bytes 8 c → e b ≡ e c → bl1By e (c ++ s) ≡ bl1By e (b ++ s)
+unfolding bl1By
+same-output e b c s hb hc q =
+    ap₂ (λ (left right : List ℕ). part 0 8 left ++ part 0 8 (e (xors 8 right left))) (ap e (left-block c s hc) ∙ sym q ∙ sym (ap e (left-block b s hb)))
+    (right-block c b s hc hb)
+
+pub cipher-not-undone : CipherNotUndone
+unfolding bl1By bl1 bl1With encrypt
+cipher-not-undone = record {
+  right = λ k x. refl;
+  shared = λ e b c r hb hc hr n q.
+      record {
+        ends = last-zero b r hb hr;
+        same = (last-zero c r hc hr, ap without8 (same-output e b c (r ++ 0 ∷ []) hb hc q));
+        other = λ p. n (sym (left-block b _ hb) ∙ ap (part 0 8) p ∙ left-block c _ hc);
+      };
 }

@@ -10,7 +10,7 @@ use Rattle.standard.specs.Bytes.{_!_, _⊕_, bit, part, table, choose, Bytes}
 use Rattle.standard.specs.Cores.{bl1}
 use Rattle.standard.specs.BooksFacts.{IsSealedForm}
 use Rattle.standard.specs.SealsFacts.{sealBody}
-use Rattle.standard.specs.Hurdle.{encryptCall, decryptCall}
+use Rattle.standard.specs.Hurdle.{encrypt, encryptCall, decryptCall}
 use Rattle.standard.specs.Seals.{sealingSize, formOf, failed, without8, opened, unsealCall, ta51Call, ta52Call}
 use Rattle.standard.specs.Sizes.{ringSize, plainSize, sealedSize}
 use Rattle.standard.specs.declared.Algorithm.{Algorithm}
@@ -18,13 +18,30 @@ use Rattle.standard.specs.declared.Algorithm.the-variants.{Ta31, Ta51, Ta81, Ta
 use Rattle.standard.specs.declared.KeyNumber.{KeyNumber}
 use Rattle.standard.specs.declared.Version.{Version}
 use Rattle.claims.specs.Entries.{Only, OfOne, ExactlyOne, Count, Legal, Opens, ZeroAt, SameText}
-use Rattle.claims.specs.Variants.{ta52WithoutBits, bl1Unchained}
+use Rattle.claims.specs.Variants.{ta52WithoutBits, bl1Unchained, bl1By}
 
 -- 2a: "Decryption undoes encryption." And encryption undoes decryption. The lengths are those that the calls take; others are refused with
 -- 11
 pub record Undone : Type 0 where
   pub back : (k b : List ℕ) → length k ≡ 16 → length b ≡ 8 → decryptCall k (encryptCall k b .bytes) ≡ record { refusal = 0; bytes = b }
   pub forth : (k b : List ℕ) → length k ≡ 16 → length b ≡ 8 → encryptCall k (decryptCall k b .bytes) ≡ record { refusal = 0; bytes = b }
+
+-- 2x: "Without a cipher that can be undone two inputs that end in a zero byte would share a text." Whatever encrypts the blocks: if it takes
+-- two blocks to one, inputs that have them on the left, and whatever on the right, have one text. With the cipher's encryption it is BL1
+
+-- sixteen bytes: a block, seven bytes and the zero byte
+abbrev pub endedBy : List ℕ → List ℕ → List ℕ
+endedBy r b = b ++ (r ++ 0 ∷ [])
+
+pub record TwoInputs (e : List ℕ → List ℕ) (x y : List ℕ) : Type 0 where
+  pub ends : ZeroAt 15 x
+  pub same : SameText (bl1By e) 15 x y
+  pub other : x ≡ y → ⊥
+
+pub record CipherNotUndone : Type 0 where
+  pub right : (k x : List ℕ) → bl1By (encrypt k) x ≡ bl1 k x
+  pub shared : (e : List ℕ → List ℕ) (b c r : List ℕ) → Bytes 8 b → Bytes 8 c → Bytes 7 r → (b ≡ c → ⊥) → e b ≡ e c
+      → TwoInputs e (endedBy r b) (endedBy r c)
 
 -- 3a: "The dropped byte loses nothing: every string of 15 bytes comes from exactly one input that ends in a zero byte." Under every key;
 -- that input is what unsealing opens the string to, before it is shrunk, and the zero byte. The string has to consist of bytes, or it could

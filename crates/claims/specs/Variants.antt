@@ -1,12 +1,12 @@
 -- Wrong variants beside the right definitions. The four mistakes that 01 lists (docs/ARGUMENT.md): an input on which the variant answers
--- otherwise, and what would be false if the engine did so. And BL1 without chaining, of which another claim speaks.
+-- otherwise, and what would be false if the engine did so. And BL1 without chaining, and over any encryption, of which other claims speak.
 use mathlib.Core.Bool.{_&&_, not}
 use mathlib.Core.List.{List, [], _∷_, _++_}
 use mathlib.Core.Path.{_≡_}
 use Prim.Native.Nat.{ℕ, _-_, _*_, _/_, _<_, _≤_}
 use lib.Dec.{eqb}
 use lib.ListN.{length}
-use Rattle.standard.specs.Bytes.{_!_, _⊕_, table, part, bytesOf, Bytes}
+use Rattle.standard.specs.Bytes.{_!_, _⊕_, table, part, xors, bytesOf, Bytes}
 use Rattle.standard.specs.Cores.{bl1, bl2}
 use Rattle.standard.specs.BooksFacts.{Demand3}
 use Rattle.standard.specs.Hurdle.{encrypt}
@@ -144,3 +144,11 @@ pub record StillHolds : Type 0 where
 
 unfoldable pub bl1Unchained : List ℕ → List ℕ → List ℕ
 bl1Unchained k x = part 0 8 (encrypt k (part 0 8 x)) ++ part 0 8 (encrypt k (part 8 8 x))
+
+-- ---- BL1 over any encryption of blocks (right: `bl1`, over that of the cipher under a key)
+
+unfoldable pub bl1By : (List ℕ → List ℕ) → List ℕ → List ℕ
+bl1By e x =
+    let left : List ℕ = e (part 0 8 x) in
+    let right : List ℕ = e (xors 8 (part 8 8 x) left) in
+    part 0 8 left ++ part 0 8 right
