@@ -90,7 +90,7 @@ pub record NotBackwards : Type 0 where
 
 -- 5h: "Two changed bytes of BL2's output are always noticed." Of BL2's output with no check failed, two bytes of one group, both ⊕ d: no
 -- check fails again, but for the fifth of kinds 2 and 5, which fails exactly if one of the two is the number byte and d is 32 or more, so
--- that it touches the top three bits
+-- that it touches the top three bits. Every fifteen bytes are the output for some text (2a)
 
 -- the number, from 0, of the group of these sizes in which place i stands; the inserted byte is the last of its group
 abbrev pub groupAt : List ℕ → ℕ → ℕ
