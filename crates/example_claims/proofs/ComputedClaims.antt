@@ -134,4 +134,4 @@ either-way = record {
 }
 
 pub palindrome : Palindrome
-palindrome ks c rm km e = ap (λ (l : List ℕ). ta12Call ks l rm km) e
+palindrome = record { same = λ ks c rm km e. ap (λ (l : List ℕ). ta12Call ks l rm km) e; one = refl }

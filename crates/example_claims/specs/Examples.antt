@@ -95,14 +95,19 @@ pub record EitherWay : Type 0 where
   pub opens : ta82Call endsInZeros (upward 0 16) version7
       ≡ record { refusal = 0; key = 0xa7 ∷ 0x28 ∷ 0x53 ∷ 0xdc ∷ 0x09 ∷ 0x67 ∷ 0xc8 ∷ 0xf3 ∷ 0xcf ∷ 0xd0 ∷ []; number = 0x5c32; «failed_checks» = 0 }
 
--- 1n: "With TA22's challenge reversed response and key are always others." A challenge that is the same backwards gives the same, under
--- every session key and masks
-abbrev pub Palindrome : Type 0
-Palindrome = (ks c : List ℕ) (rm km : ℕ) → reversed c ≡ c → ta22Reversed ks c rm km ≡ ta22Call ks c rm km
+-- 1n: "With TA22's challenge reversed response and key are always others." A challenge that is the same backwards, as 01 02 03 04
+-- 05 05 04 03 02 01 is, gives the same ones, whatever the session key and the masks
+
+abbrev pub turnsRound : List ℕ
+turnsRound = 0x01 ∷ 0x02 ∷ 0x03 ∷ 0x04 ∷ 0x05 ∷ 0x05 ∷ 0x04 ∷ 0x03 ∷ 0x02 ∷ 0x01 ∷ []
+
+pub record Palindrome : Type 0 where
+  pub same : (ks c : List ℕ) (rm km : ℕ) → reversed c ≡ c → ta22Reversed ks c rm km ≡ ta22Call ks c rm km
+  pub one : reversed turnsRound ≡ turnsRound
 
 -- ---- f
 
--- 2b: "f takes two halves to the same under one round key." The four bytes to which the two halves of `FCollides` go, under a round key of zeros
+-- 2b: "f takes two halves to the same under one round key." Under a round key of zeros, as in `FCollides`: to 01 9c 10 b0
 pub record FBytes : Type 0 where
   pub first : f half₁ (zeros 12) ≡ 0x01 ∷ 0x9c ∷ 0x10 ∷ 0xb0 ∷ []
   pub second : f half₂ (zeros 12) ≡ 0x01 ∷ 0x9c ∷ 0x10 ∷ 0xb0 ∷ []
