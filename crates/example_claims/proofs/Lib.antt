@@ -1,2 +1,3 @@
 pub mod UnsealingLaws
 pub mod ComputedClaims
+pub mod SharpClaims
