@@ -52,7 +52,7 @@ def _table() -> list[Block]:
             "Each is true, false, false as a reason (the conclusion may hold, but it does not "
             "follow) or open (neither proved nor refuted here)."
         ),
-        Table(heads, rows, "claims"),
+        Table(heads, rows, "claims", cell=44),
     ]
 
 

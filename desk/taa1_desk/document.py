@@ -40,6 +40,7 @@ class Table(NamedTuple):
     rows: Sequence[Any]
     class_: str = ""
     title: str = ""
+    cell: int = CELL
 
 
 class Fields(NamedTuple):
@@ -89,24 +90,24 @@ class Document(NamedTuple):
 # ---- as text
 
 
-def _shown(value: Any) -> list[str]:
-    """A cell's lines."""
+def _shown(value: Any, cell: int) -> list[str]:
+    """A cell's lines, its words so wide at most."""
     if isinstance(value, Boxes):
         return [" ".join(["[ ]" if value.tick else "__"] * value.number)]
     if isinstance(value, (bytes, tuple)):
         return [grouped(value)]
     if isinstance(value, Noted):
-        return [line for words in (value.words, *value.notes) for line in _shown(words)]
+        return [line for words in (value.words, *value.notes) for line in _shown(words, cell)]
     said = "-" if value is None else str(value)
-    return textwrap.wrap(said, CELL, break_on_hyphens=False) or [""]
+    return textwrap.wrap(said, cell, break_on_hyphens=False) or [""]
 
 
-def columns(rows: Iterable[Any], heads: Sequence[str] = ()) -> list[str]:
+def columns(rows: Iterable[Any], heads: Sequence[str] = (), cell: int = CELL) -> list[str]:
     """Rows in columns, numbers to the right."""
     cells = [row.cells if isinstance(row, Row) else row for row in rows]
     right = page.numbers(cells, len(heads or cells[0])) if cells else [False] * len(heads)
     shown = [[[head] for head in heads]] * bool(heads)
-    shown += [[_shown(value) for value in row] for row in cells]
+    shown += [[_shown(value, cell) for value in row] for row in cells]
     wide = [max(len(line) for lines in column for line in lines) for column in zip(*shown)]
     made = []
     for row in shown:
@@ -131,7 +132,7 @@ def _lines(block: Block) -> list[str]:
         return [*(f"  {line}" for line in columns(block.rows)), ""]
     if isinstance(block, Table):
         title = [block.title] if block.title else []
-        return [*title, *(f"  {line}" for line in columns(block.rows, block.heads)), ""]
+        return [*title, *(f"  {line}" for line in columns(block.rows, block.heads, block.cell)), ""]
     if isinstance(block, Fields):
         return [*(f"{name} {'_' * (40 - len(name))}" for name in block.names), ""]
     if isinstance(block, Lines):

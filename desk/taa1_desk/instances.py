@@ -18,8 +18,8 @@ _TOPICS = (instances_books, instances_core, instances_keys, instances_texts)  # 
 
 # The claims of which there is no instance, and why.
 NONE = {
-    "other-keys-other-texts": "two keys share a text because there are more keys than texts, and "
-    "that does not say which two: none was found, and none can be worked out",
+    "other-keys-other-texts": "that there are more keys than texts does not say which two share "
+    "one, and to find two by trying would take some 2^60 sealings",
     "wrong-version-1": "an example would settle it",
     "encryption-hides": "what one who lacks the sealing key can find out is not a value that "
     "could be shown",

@@ -92,10 +92,11 @@ pub fn write(root: &Path, all: &[Generated]) -> Result<Vec<String>, String> {
         let made = one.put(&file).ok_or_else(missing)?;
         if made != file {
             fs::write(&path, made).map_err(|error| said(error.to_string()))?;
-            changed.push(one.path.clone());
+            if !changed.contains(&one.path) {
+                changed.push(one.path.clone());
+            }
         }
     }
-    changed.dedup();
     Ok(changed)
 }
 
