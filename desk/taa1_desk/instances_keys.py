@@ -2,8 +2,6 @@
 
 from __future__ import annotations
 
-from typing import Any, Callable
-
 from .instance import (
     ALTERED, ALTERED_WORKING, COUNTED, GIVEN, KINDS, PLAIN, PROOF, SEALED, TRIED, UPWARD, WORKING,
     Entry, Instance, Maker, Ring, Row, Steps, body_of, both, by, changed, field, hold, ring_of,
@@ -264,17 +262,17 @@ def last_byte_xored(of: Maker) -> Instance:
 @shows("still-holds")
 def still_holds(of: Maker) -> Instance:
     """The book under the ring of each mistake, sealed and opened."""
-    reversed_: dict[str, Callable[..., Any]] = {
-        "inputs": lambda steps, s: s._replace(rand2=s.rand2[::-1])
-    }
-    mistakes = {"challenge reversed": Steps(of.desk, reversed_), "last byte ⊕": _xored_last(of)}
+    reversed_ = of.sitting._replace(rand2=of.sitting.rand2[::-1])
+    rings = (
+        ("challenge reversed", by("ring"), Ring.of(of.desk.call("ring", *reversed_)["ring"])),
+        ("last byte ⊕", ALTERED_WORKING, ring_of(_xored_last(of).keys(of.sitting))),
+    )
     rows: list[Row] = []
-    for name, steps in mistakes.items():
-        ring = ring_of(steps.keys(of.sitting))
+    for name, mark, ring in rings:
         sealed = of.seal_book(of.plain, ring)
         hold(of.open_book(sealed, ring) == of.plain)
-        rows.append((f"{both('D')}, {name}", ALTERED_WORKING, ring.d))
-        rows.append((f"{both('O')}, {name}", ALTERED_WORKING, ring.o))
+        rows.append((f"{both('D')}, {name}", mark, ring.d))
+        rows.append((f"{both('O')}, {name}", mark, ring.o))
         rows.append(("entry 0's text under that ring", by("seal_book"), sealed[6:21]))
         rows.append(("the book opened under it", by("open_book"), "the model book again"))
     return Instance("the whole book", rows)

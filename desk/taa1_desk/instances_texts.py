@@ -279,13 +279,13 @@ def one_byte_of_output(of: Maker) -> Instance:
 def equal_changes(of: Maker) -> Instance:
     """Two equal changes in one group."""
     entry = of.entries[0]
+    other = entry._replace(key=changed(changed(entry.key, 0), 1))
     data, text = _altered(of, entry, 0, 1)
-    found = of.unsealed(entry, text)
-    hold(found.failed == 0 and found.body != body_of(entry))
+    hold(of.seal(other) == text and of.unsealed(entry, text) == (body_of(other), 0))
     rows: list[Row] = [
         ("BL2's output of its text", WORKING, of.core(entry).data[:15]),
         ("its first two bytes ⊕ 01", ALTERED, data),
-        ("the text of that", WORKING, text),
+        ("the text of that", of.sealing(entry.kind), text),
         of.opens("opens to", entry.kind, text, of.key(entry.kind), entry.version),
     ]
     if KINDS[entry.kind].seal == "ta51":

@@ -203,6 +203,8 @@ class Made(Case):
                 self.assertEqual(WORKED.sealed_book(ring, entries), answer["out"])
             else:
                 self.assertEqual(name, "ring")
+                keys = WORKED.recipe(reference.Sitting(*given))
+                self.assertEqual(b"".join(keys.ring), answer["ring"])
             compared[name] += 1
         self.assertGreater(compared["ta82"] + compared["ta52"], 20)
         self.assertEqual(len(compared), 21)
