@@ -77,7 +77,7 @@ def argument_sheet(
     after them their instances."""
     made = Maker(desk, sitting, ring, plain)
     blocks: list[Block] = [
-        Fields(("Candidate", "Marker", "Date")),
+        Fields(("Candidate", "Marker", "Date", "Points in all")),
         Head("The question"),
         Words(QUESTION),
         *_steps(),

@@ -149,8 +149,8 @@ mod tests {
         ];
         for line in lines {
             let (_, faults) = read(&format!("[[part]]\n{line}\n"), &KNOWN);
-            let said = format!("line 2: neither a comment");
-            assert!(faults[0].starts_with(&said), "{line}: {faults:?}");
+            let said = "line 2: neither a comment";
+            assert!(faults[0].starts_with(said), "{line}: {faults:?}");
         }
         let (_, faults) = read("name = \"a\"\n", &KNOWN);
         assert!(faults[0].starts_with("line 1: neither"), "{faults:?}");
