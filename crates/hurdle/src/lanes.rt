@@ -8,8 +8,8 @@ use crate::round::place;
 use crate::round::second;
 use crate::round::split;
 use crate::round::third;
-use crate::tables::S;
-use crate::tables::SPREAD;
+use crate::tables::s_copy;
+use crate::tables::spread_copy;
 ghost use mathlib.Core.List.{_++_};
 ghost use mathlib.Core.Path.{_≡_};
 ghost use Prim.Native.Nat.{_+_, _≤_};
@@ -144,8 +144,8 @@ fn rounds_x4(
     ensures { λ o. ⌜ eachLane (λ j. halvesAt o j ≡ roundsOver back
         (byLane (now (ka .entry)) (now (kb .entry)) (now (kc .entry)) (now (kd .entry)) j) 16 (halvesAt h j)) ⌝ }
 {
-    let s = S;
-    let w = SPREAD;
+    let s = s_copy();
+    let w = spread_copy();
     let a = &ka[..];
     let b = &kb[..];
     let c = &kc[..];

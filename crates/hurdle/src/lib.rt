@@ -9,6 +9,7 @@ use crate::lanes::crypt_x4;
 use crate::round::crypt;
 use crate::tables::S_INVERSE;
 use crate::tables::entry;
+use crate::tables::s_copy;
 use arrays::have_lengths;
 use arrays::part8;
 use arrays::part16;
@@ -93,7 +94,8 @@ fn entries(s: &[u8; 256], x: [u8; 3]) -> [u8; 3]
 pub fn substitute(x: [u8; 3]) -> [u8; 3]
     ensures { λ r. ⌜ r ≡ table 3 (λ i. sOf ! (x ! i)) ⌝ }
 {
-    entries(&S, x)
+    let s = s_copy();
+    entries(&s, x)
 }
 
 pub fn substitute_back(x: [u8; 3]) -> [u8; 3]

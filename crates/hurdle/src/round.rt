@@ -1,6 +1,6 @@
 // f, and the sixteen rounds on the halves L and R, which are words here.
-use crate::tables::S;
-use crate::tables::SPREAD;
+use crate::tables::s_copy;
+use crate::tables::spread_copy;
 use arrays::word;
 use std::num::wrapping_add_u8;
 ghost use mathlib.Core.List.{_++_};
@@ -171,8 +171,8 @@ pub fn block_of(h: Halves) -> [u8; 8]
 fn rounds(keys: &[u8; 192], h: Halves, back: bool) -> Halves
     ensures { λ o. ⌜ o ≡ roundsOver back (now (keys .entry)) 16 h ⌝ }
 {
-    let s = S;
-    let w = SPREAD;
+    let s = s_copy();
+    let w = spread_copy();
     let laid = &keys[..];
     let mut state = h;
     for i in 0..8 {

@@ -1,6 +1,8 @@
 // The constants of HURDLE-II (000, 6.5 and 6.7).
 ghost use mathlib.Core.Path.{_≡_};
 ghost use Rattle.standard.specs.Bytes.{_!_};
+ghost use Rattle.standard.specs.Hurdle.{S as sOf};
+ghost use Rattle.hurdle.specs.RoundSteps.{spreads};
 
 pub const S: [u8; 256] = *b"\
     \xf4\x65\x01\x00\xba\x7a\xa7\x47\x98\xdd\x9d\xad\x96\x5d\xaa\x3d\
@@ -330,4 +332,17 @@ pub(crate) fn entry(s: &[u8; 256], x: u8) -> u8
     ensures { λ r. ⌜ r ≡ now (s .entry) ! x ⌝ }
 {
     s[x as usize]
+}
+
+// Copies of S and SPREAD, to be lent. A function that names a table is proved with all its entries in sight, so the others call these.
+pub(crate) fn s_copy() -> [u8; 256]
+    ensures { λ r. ⌜ r ≡ sOf ⌝ }
+{
+    S
+}
+
+pub(crate) fn spread_copy() -> [u32; 256]
+    ensures { λ r. ⌜ r ≡ spreads ⌝ }
+{
+    SPREAD
 }

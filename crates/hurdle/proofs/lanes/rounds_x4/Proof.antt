@@ -1,10 +1,8 @@
 -- i rounds are made in each lane.
-use Rattle.standard.proofs.Prelude.{_≡_, refl, _-_, _≤_, zero-le, arith, now}
+use Rattle.standard.proofs.Prelude.{_≡_, refl, _-_, _≤_, zero-le, arith, now, needs}
 use Rattle.hurdle.proofs.LaneLaws.{Turned, rounds-more-x4}
 use Rattle.hurdle.specs.Lanes.{byLane}
-use Rattle.hurdle.specs.RoundSteps.{roundsOver, spreads}
-use Rattle.standard.specs.Bytes.{bit}
-use Rattle.standard.specs.Hurdle.{S}
+use Rattle.hurdle.specs.RoundSteps.{roundsOver}
 use Rattle.hurdle.proofs.lanes.rounds_x4.Tie as tie
 
 abbrev Inv-loop : tie.InvT-loop
@@ -18,15 +16,16 @@ unfolding roundsOver
 loop-holds c = (zero-le, (refl, refl, refl, refl))
 
 loop-again : tie.Need-loop-again Inv-loop μ-loop
-unfolding S spreads bit
 loop-again c =
     let made = c .before in
     let placed = made .before in
     let head = placed .before .before .before .before in
-    let x = head .before .before .before .before .before .args in
+    let copied = head .before .before .before .before .before in
+    let x = copied .before .before .args in
     let K = byLane (now (x .ka)) (now (x .kb)) (now (x .kc)) (now (x .kd)) in
     let more = rounds-more-x4 (x .back) K (x .h) (head .loop .i) (placed .place .result) (head .loop .state) (c .exchanged-x4 .result) (made .f-x4 .result) in
-    (omega arith, more (placed .place .ensures .0) (head .loop .inv .1) (made .f-x4 .ensures) (c .exchanged-x4 .ensures))
+    let f = rw (copied .before .s-copy .ensures, copied .spread-copy .ensures) at (made .f-x4 .ensures) in
+    (omega arith, more (placed .place .ensures .0) (head .loop .inv .1) f (c .exchanged-x4 .ensures))
 
 returns : tie.Need-returns Inv-loop μ-loop
 returns c =
@@ -36,5 +35,5 @@ returns c =
 pub rounds-x4-spec : {M : Type 1} → Rattle.hurdle.proofs.lanes.rounds_x4.Statement.statement M
 rounds-x4-spec =
     tie.close
-    (tie.spec Inv-loop μ-loop loop-holds (λ c κs. omega arith) (λ c. omega arith) (λ c κs. omega arith) (λ c κs. tt) (λ c. omega arith)
+    (tie.spec Inv-loop μ-loop (λ c κs. search needs) (λ c κs. search needs) loop-holds (λ c κs. omega arith) (λ c. omega arith) (λ c κs. omega arith) (λ c κs. tt) (λ c. omega arith)
     (λ c. omega arith) loop-again returns)
