@@ -99,7 +99,7 @@ STEPS: tuple[Step, ...] = (
     Step(
         "What the flag notices",
         "To open to one entry only is not to notice every change. Some changes of one byte are"
-        " always noticed (9b); others may lead from one text that opens to another (9c, 9e).",
+        " always noticed (9b); others may lead from one text that opens to another (9d, 9f).",
     ),
     Step(
         "Marking by equal records",
@@ -137,7 +137,7 @@ PARTS: tuple[Part, ...] = (
         " needs: how the dropped byte comes back, where the candidate traces back. ('Unsealing"
         " undoes sealing' holds this step, and lacks nothing.)",
         "The conclusion alone; a route that rests on a sentence which is false or no reason (2c,"
-        " 3d, 9c); or chance: 'few texts open' is no argument, since 256^12 of kind 3 do.",
+        " 3d, 9d); or chance: 'few texts open' is no argument, since 256^12 of kind 3 do.",
     ),
     Part(
         "one result",
@@ -167,9 +167,9 @@ PARTS: tuple[Part, ...] = (
         "What is no longer so without it?",
         "For each property that the argument uses what is lost, in any words. The zero byte, or"
         " the chaining: 256 inputs share a text (3b, 3d, 3c). A cipher that can be undone: two"
-        " blocks may have one encryption. What is given: the text opens to other entries, too (1b,"
-        " 1j, 1k). Where the checks are used: so many texts unseal to one entry (5c), or eight"
-        " (5e).",
+        " blocks may have one encryption, and two inputs one text (2e). What is given: the text"
+        " opens to other entries, too (1b, 1j, 1k). Where the checks are used: so many texts"
+        " unseal to one entry (5c), or eight (5e).",
         "One of the properties that were named, and no more.",
         "Nothing, or a sentence that is false.",
     ),
@@ -331,7 +331,8 @@ CLAIMS: tuple[Claim, ...] = (
         "false",
         "example",
         "as kind 3, version 7, 7d3bf4c53bec9b33be0c296b64dc2f opens under O 00 01 .. 0f and under"
-        " O 00 01 .. 0b 00 bf 58 8f to two keys; of the other kinds no such text was looked for",
+        " O 00 01 .. 0b 00 bf 58 8f to two keys; so it does as kinds 4 and 6, 1d has such a text"
+        " of kinds 2 and 5, and of kind 1 nothing is shown",
         "Under two rings a text may open to two entries.",
         "claims",
         "FalseClaims.TwoRings",
@@ -344,7 +345,7 @@ CLAIMS: tuple[Claim, ...] = (
         "false",
         "example",
         "as kind 3 under O 00 01 .. 0f, f4204db56932c32411c2c607ad680c opens with versions 7 and"
-        " 5075 to two keys; so it does as kinds 4 and 6, and of kinds 1, 2 and 5 nothing is shown",
+        " 5075 to two keys; so it does as kinds 4 and 6; of kinds 1, 2 and 5 nothing is shown",
         "With two versions a text may open to two entries.",
         "claims",
         "FalseClaims.TwoVersions",
@@ -356,8 +357,8 @@ CLAIMS: tuple[Claim, ...] = (
         "For kind 1 a wrong version is always noticed.",
         "open",
         "",
-        "no text was found that opens with two versions as kind 1, and nothing proves that there"
-        " is none",
+        "neither a text that opens with two versions as kind 1 nor a proof that there is none is"
+        " known here",
         "",
         "",
         "",
@@ -464,6 +465,19 @@ CLAIMS: tuple[Claim, ...] = (
     ),
     Claim(
         "2e",
+        "cipher-not-undone",
+        "Without a cipher that can be undone two inputs that end in a zero byte would share a"
+        " text.",
+        "true",
+        "for all",
+        "if two blocks have one encryption, they can't be told apart in the left block",
+        "",
+        "claims",
+        "TrueClaims.CipherNotUndone",
+        "CoreClaims.cipher-not-undone",
+    ),
+    Claim(
+        "2f",
         "encryption-hides",
         "Encryption hides the key.",
         "open",
@@ -974,20 +988,33 @@ CLAIMS: tuple[Claim, ...] = (
     ),
     Claim(
         "9c",
+        "sharp",
+        "At every other place the flag may miss a change of one byte, for every kind.",
+        "true",
+        "example",
+        "for each kind and each other byte a text is computed that opens, and opens with that"
+        " byte changed",
+        "",
+        "example_claims",
+        "Sharp.Sharp",
+        "SharpClaims.sharp",
+    ),
+    Claim(
+        "9d",
         "flag-notices-every-change",
         "The flag notices every change.",
         "false",
         "example",
         "as kind 3, version 7, under O 00 01 .. 0f, f20234e6a621c279ee4f4cf0ad6279 and"
-        " f20034e6a621c279ee4f4cf0ad6279 differ in one bit and open to different keys; 9d has the"
-        " other kinds",
+        " f20034e6a621c279ee4f4cf0ad6279 differ in one bit and open to different keys; so they do"
+        " as kinds 4 and 6, and 9e has kinds 1, 2 and 5",
         "From a text that opens, a change of one bit may lead to another.",
         "claims",
         "FalseClaims.OneBit",
         "ExampleClaims.one-bit",
     ),
     Claim(
-        "9d",
+        "9e",
         "one-byte-1-2-5",
         "For kinds 1, 2 and 5 the flag notices every change of one byte.",
         "false",
@@ -1001,7 +1028,7 @@ CLAIMS: tuple[Claim, ...] = (
         "ComputedClaims.one-byte",
     ),
     Claim(
-        "9e",
+        "9f",
         "last-eight",
         "A change in the last eight bytes is always noticed.",
         "false",

@@ -125,7 +125,7 @@ abbrev pub EveryBit : Type 0
 EveryBit = (a : Algorithm) (s : List ℕ) (v : Version) (b : List ℕ) (i d : ℕ) → length s ≡ sealingSize a → Legal a b
     → inLeftBlock a ≤ i → i < keyLength a → d < 256 → FrontKept a s v b (changed 12 i d b)
 
--- 9e: "A change in the last eight bytes is always noticed." Beside every text that opens there is another that opens and has the same first
+-- 9f: "A change in the last eight bytes is always noticed." Beside every text that opens there is another that opens and has the same first
 -- seven bytes
 pub record LastEightChanged (a : Algorithm) (s : List ℕ) (v : Version) (t u : List ℕ) : Type 0 where
   pub opens : Opens a s v u
@@ -224,7 +224,7 @@ pub record TwoVersions : Type 0 where
   pub second : ta82Call text′ (upward 0 16) version5075
       ≡ record { refusal = 0; key = 0xa2 ∷ 0x4f ∷ 0x5a ∷ 0x19 ∷ 0x8f ∷ 0xec ∷ 0xb3 ∷ 0xee ∷ 0x72 ∷ 0xa6 ∷ []; number = 0x961c; «failed_checks» = 0 }
 
--- 9c: "The flag notices every change." Two texts that differ in one bit, of the second byte, both open, to different keys
+-- 9d: "The flag notices every change." Two texts that differ in one bit, of the second byte, both open, to different keys
 
 abbrev pub ofSecond : ℕ → List ℕ
 ofSecond x = 0xf2 ∷ x ∷ 0x34 ∷ 0xe6 ∷ 0xa6 ∷ 0x21 ∷ 0xc2 ∷ 0x79 ∷ 0xee ∷ 0x4f ∷ 0x4c ∷ 0xf0 ∷ 0xad ∷ 0x62 ∷ 0x79 ∷ []

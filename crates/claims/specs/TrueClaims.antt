@@ -26,8 +26,9 @@ pub record Undone : Type 0 where
   pub back : (k b : List ℕ) → length k ≡ 16 → length b ≡ 8 → decryptCall k (encryptCall k b .bytes) ≡ record { refusal = 0; bytes = b }
   pub forth : (k b : List ℕ) → length k ≡ 16 → length b ≡ 8 → encryptCall k (decryptCall k b .bytes) ≡ record { refusal = 0; bytes = b }
 
--- 2x: "Without a cipher that can be undone two inputs that end in a zero byte would share a text." Whatever encrypts the blocks: if it takes
--- two blocks to one, inputs that have them on the left, and whatever on the right, have one text. With the cipher's encryption it is BL1
+-- 2e: "Without a cipher that can be undone two inputs that end in a zero byte would share a text." Whatever encrypts the blocks: if it
+-- takes two blocks to one, inputs that have them on the left, and whatever on the right, have one text. With the cipher's encryption it is
+-- BL1
 
 -- sixteen bytes: a block, seven bytes and the zero byte
 abbrev pub endedBy : List ℕ → List ℕ → List ℕ

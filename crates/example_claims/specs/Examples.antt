@@ -17,7 +17,7 @@ use Rattle.claims.specs.Variants.{ta82AtEnd, reversed, ta22Reversed}
 
 -- ---- changes of one byte
 
--- 9d: "For kinds 1, 2 and 5 the flag notices every change of one byte." Under D 00 01 .. 09 a bit of the first byte of a text of kind 1 is
+-- 9e: "For kinds 1, 2 and 5 the flag notices every change of one byte." Under D 00 01 .. 09 a bit of the first byte of a text of kind 1 is
 -- changed, and under O 00 01 .. 0f the third byte of one of kind 2: each opens before and after, to different keys. Kind 5 is TA51's as
 -- kind 2 is, so that with O's bytes as G the second is an example of kind 5, too
 

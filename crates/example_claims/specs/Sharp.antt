@@ -1,4 +1,4 @@
--- The bytes of which 7b claims nothing: examples for each.
+-- The bytes of which `Noticed` claims nothing: examples for each.
 use mathlib.Core.List.{List}
 use mathlib.Core.Logic.{_⊎_}
 use mathlib.Core.Path.{_≡_}
@@ -8,8 +8,9 @@ use Rattle.standard.specs.declared.Algorithm.{Algorithm}
 use Rattle.claims.specs.Entries.{Opens, upward, version7}
 use Rattle.claims.specs.TrueClaims.{changed, noticedFrom}
 
--- sharp: "The bounds of 7b are sharp." For each kind and each other byte there is a text that opens, and a change of that byte with which
--- it opens still: under D 00 01 .. 09, or O or G 00 01 .. 0f, and with version 7. The change is byte i ⊕ d, where d is not 0
+-- 9c: "At every other place the flag may miss a change of one byte, for every kind." For each kind and each other byte there is a text that
+-- opens, and a change of that byte with which it opens still: under D 00 01 .. 09, or O or G 00 01 .. 0f, and with version 7. The change is
+-- byte i ⊕ d, where d is not 0
 pub record Unnoticed (a : Algorithm) (i d : ℕ) (t : List ℕ) : Type 0 where
   pub change : d ≡ 0 → ⊥
   pub before : Opens a (upward 0 (sealingSize a)) version7 t
