@@ -5,8 +5,8 @@ from __future__ import annotations
 from typing import Any
 
 from .instance import (
-    ALTERED_WORKING, BY_PROOF, COUNTED, EXAMPLE, GIVEN, PROOF, TRIED, UPWARD, WORKING, Core,
-    Instance, Maker, Row, Steps, both, by, hold, shows, xor,
+    ALTERED, ALTERED_WORKING, BY_PROOF, COUNTED, EXAMPLE, GIVEN, PROOF, TRIED, UPWARD, WORKING, Core,
+    Instance, Maker, Row, Steps, both, by, changed, hold, shows, xor,
 )  # fmt: skip
 
 # ---- the cipher
@@ -75,6 +75,28 @@ def because_s_permutes(of: Maker) -> Instance:
             ("block", by("seal_book"), block),
             ("after sixteen rounds", ALTERED_WORKING, made),
             ("the rounds again, their keys backwards", ALTERED_WORKING, back),
+        ],
+    )
+
+
+@shows("cipher-not-undone")
+def cipher_not_undone(of: Maker) -> Instance:
+    """BL1 over an encryption that clears a block's last byte before it."""
+    data = of.core(of.entries[0]).data
+
+    def text(block: bytes) -> bytes:
+        left = of.bytes_of("encrypt", of.ring.o, block[:7] + b"\0")
+        right = xor(data[8:], left)
+        return left[:7] + of.bytes_of("encrypt", of.ring.o, right[:7] + b"\0")
+
+    other = changed(data[:8], 7)
+    hold(text(data[:8]) == text(other))
+    return Instance(
+        "an encryption that clears a block's last byte first, so that it can't be undone",
+        [
+            ("input of BL1", WORKING, data),
+            ("another, with the same right block", ALTERED, other + data[8:]),
+            ("text of either", ALTERED_WORKING, text(other)),
         ],
     )
 
