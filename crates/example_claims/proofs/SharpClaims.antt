@@ -1,6 +1,6 @@
 -- The bounds of 7b are sharp: a table of examples, a test of it that computes, and what the test says.
-use Rattle.standard.proofs.Prelude.{_≡_, refl, sym, ap, _∙_, Bool, true, false, not, _&&_, _⊎_, inl, inr, List, [], _∷_, ℕ, _≤_, _<_, eqb, leb, ltb}
-use Rattle.standard.proofs.Prelude.{length, eqb-true, eqb-false, not-true, lt-leb, le-ltb}
+use Rattle.standard.proofs.Prelude.{_≡_, refl, sym, ap, _∙_, Bool, true, false, not, _&&_, _⊎_, inl, inr, List, [], _∷_, ℕ, _+_, _-_, _≤_, _<_, eqb}
+use Rattle.standard.proofs.Prelude.{leb, ltb, length, eqb-true, eqb-false, not-true, lt-leb, le-ltb}
 use lib.ListN.{getD}
 use Rattle.standard.specs.Bytes.{_!_, bit, part, choose}
 use Rattle.standard.specs.Expansions.{exp4}
@@ -17,18 +17,12 @@ use Rattle.claims.proofs.TermLaws.{literal-bytes, pair}
 use Rattle.example_claims.specs.Sharp.{Unnoticed, Sharp}
 use Rattle.example_claims.proofs.UnsealingLaws.{answered}
 
--- ---- the examples: for byte i the change, and then the text; no row where 7b says that each change is noticed
+-- ---- the examples, in the order of the bytes: the change, and then the text; there is no row where 7b says that each change is noticed
 
 -- kind 1
 abbrev rows31 : List (List ℕ)
 rows31 =
     (0x80 ∷ 0x54 ∷ 0x1f ∷ 0x2a ∷ 0x27 ∷ 0x76 ∷ 0x84 ∷ 0x45 ∷ 0x3c ∷ 0xad ∷ 0x91 ∷ 0x93 ∷ 0xd1 ∷ 0xe0 ∷ 0xac ∷ 0xaa ∷ [])
-    ∷ []
-    ∷ []
-    ∷ []
-    ∷ []
-    ∷ []
-    ∷ []
     ∷ (0x2c ∷ 0x4b ∷ 0x82 ∷ 0xf6 ∷ 0xd0 ∷ 0xfc ∷ 0xcb ∷ 0x7c ∷ 0x51 ∷ 0x42 ∷ 0x9d ∷ 0x7d ∷ 0xf4 ∷ 0xd0 ∷ 0xba ∷ 0xb7 ∷ [])
     ∷ (0xe2 ∷ 0x06 ∷ 0xf0 ∷ 0x67 ∷ 0x75 ∷ 0x67 ∷ 0xc2 ∷ 0x4c ∷ 0x8d ∷ 0x42 ∷ 0xd7 ∷ 0x23 ∷ 0xd7 ∷ 0x95 ∷ 0x32 ∷ 0x75 ∷ [])
     ∷ (0x6d ∷ 0x0d ∷ 0x47 ∷ 0xaf ∷ 0x23 ∷ 0x10 ∷ 0x12 ∷ 0x65 ∷ 0xb6 ∷ 0x7e ∷ 0xad ∷ 0x5c ∷ 0x24 ∷ 0x44 ∷ 0x13 ∷ 0x36 ∷ [])
@@ -45,10 +39,6 @@ rows51 =
     (0x4f ∷ 0xf4 ∷ 0xd4 ∷ 0x15 ∷ 0xc0 ∷ 0x60 ∷ 0x1d ∷ 0x6e ∷ 0x21 ∷ 0x81 ∷ 0xc8 ∷ 0xa7 ∷ 0x10 ∷ 0x5f ∷ 0x42 ∷ 0x30 ∷ [])
     ∷ (0xc0 ∷ 0x7c ∷ 0xff ∷ 0x5d ∷ 0x91 ∷ 0x01 ∷ 0x4a ∷ 0xa7 ∷ 0xee ∷ 0xed ∷ 0xbb ∷ 0x58 ∷ 0x30 ∷ 0x30 ∷ 0x3d ∷ 0xce ∷ [])
     ∷ (0xf4 ∷ 0x57 ∷ 0xb8 ∷ 0x28 ∷ 0x85 ∷ 0xcc ∷ 0xb4 ∷ 0x48 ∷ 0x19 ∷ 0x8c ∷ 0x9d ∷ 0x93 ∷ 0xbb ∷ 0x19 ∷ 0xec ∷ 0x5f ∷ [])
-    ∷ []
-    ∷ []
-    ∷ []
-    ∷ []
     ∷ (0xf4 ∷ 0xd6 ∷ 0xf9 ∷ 0xb3 ∷ 0x2e ∷ 0x46 ∷ 0xc1 ∷ 0x96 ∷ 0x03 ∷ 0xb8 ∷ 0x98 ∷ 0xb4 ∷ 0xfd ∷ 0x90 ∷ 0xc9 ∷ 0xf8 ∷ [])
     ∷ (0x60 ∷ 0x51 ∷ 0xfb ∷ 0xe3 ∷ 0xcd ∷ 0x3a ∷ 0x2f ∷ 0x93 ∷ 0x2c ∷ 0x3d ∷ 0x64 ∷ 0x71 ∷ 0xa7 ∷ 0xe9 ∷ 0x85 ∷ 0xa7 ∷ [])
     ∷ (0x5e ∷ 0x2f ∷ 0x6b ∷ 0x32 ∷ 0x5d ∷ 0x26 ∷ 0x9b ∷ 0xeb ∷ 0x67 ∷ 0x79 ∷ 0xaf ∷ 0x6f ∷ 0x06 ∷ 0x8a ∷ 0xa9 ∷ 0xa3 ∷ [])
@@ -64,11 +54,6 @@ abbrev rows81 : List (List ℕ)
 rows81 =
     (0x50 ∷ 0x01 ∷ 0xc3 ∷ 0x6a ∷ 0x61 ∷ 0xbf ∷ 0x3e ∷ 0x2c ∷ 0x00 ∷ 0x00 ∷ 0x00 ∷ 0x00 ∷ 0x00 ∷ 0x00 ∷ 0x00 ∷ 0x00 ∷ [])
     ∷ (0x1b ∷ 0xd3 ∷ 0xaa ∷ 0x6b ∷ 0x2c ∷ 0x09 ∷ 0x72 ∷ 0x9a ∷ 0x00 ∷ 0x00 ∷ 0x00 ∷ 0x00 ∷ 0x00 ∷ 0x00 ∷ 0x00 ∷ 0x00 ∷ [])
-    ∷ []
-    ∷ []
-    ∷ []
-    ∷ []
-    ∷ []
     ∷ (0x1b ∷ 0x2b ∷ 0xb0 ∷ 0xed ∷ 0xf6 ∷ 0x48 ∷ 0x0f ∷ 0xa9 ∷ 0x09 ∷ 0xfd ∷ 0x45 ∷ 0xc8 ∷ 0xa2 ∷ 0x21 ∷ 0x4f ∷ 0x3d ∷ [])
     ∷ (0x97 ∷ 0x68 ∷ 0x50 ∷ 0x0c ∷ 0xa4 ∷ 0xe8 ∷ 0x3e ∷ 0x4e ∷ 0xc4 ∷ 0x7e ∷ 0xb5 ∷ 0x12 ∷ 0x35 ∷ 0x33 ∷ 0xb3 ∷ 0xfe ∷ [])
     ∷ (0xb1 ∷ 0x91 ∷ 0x67 ∷ 0xd4 ∷ 0xfe ∷ 0xf2 ∷ 0x23 ∷ 0xf8 ∷ 0xfd ∷ 0xf6 ∷ 0x44 ∷ 0x34 ∷ 0x20 ∷ 0xde ∷ 0x3d ∷ 0x74 ∷ [])
@@ -90,8 +75,11 @@ abbrev isExample : Form → (keys : List ℕ) → ℕ → List ℕ → Bool
 isExample F keys i row = not (eqb (row ! 0) 0) && opens F keys (part 1 15 row) && opens F keys (changed 15 i (row ! 0) (part 1 15 row))
 
 -- there is one for each byte before `from`, and for each from the eighth on
+abbrev rowOf : (from : ℕ) → List (List ℕ) → ℕ → List ℕ
+rowOf from rows i = getD rows (choose (ltb i 7) i (from + (i - 7))) []
+
 abbrev areExamples : Form → (from : ℕ) → (keys : List ℕ) → List (List ℕ) → Bool
-areExamples F from keys rows = every 15 (λ i. choose (leb from i && ltb i 7) true (isExample F keys i (getD rows i [])))
+areExamples F from keys rows = every 15 (λ i. choose (leb from i && ltb i 7) true (isExample F keys i (rowOf from rows i)))
 
 -- the key of the core, of a kind whose sealing key is 00 01 ..
 abbrev coreKey : Algorithm → List ℕ
@@ -135,10 +123,10 @@ outside from i (inr h) = rw (le-ltb i 7 h) (go (leb from i))
 example : (k : Algorithm) (rows : List (List ℕ)) → areExamples (formOf k) (noticedFrom k) (schedule (coreKey k)) rows ≡ true
     → (i : ℕ) → i < 15 → (i < noticedFrom k) ⊎ (7 ≤ i) → (d : ℕ) × (t : List ℕ) × Unnoticed k i d t
 example k rows e i h o =
-    let row = getD rows i [] in
+    let row = rowOf (noticedFrom k) rows i in
     let r : isExample (formOf k) (schedule (coreKey k)) i row ≡ true =
     ap (λ (t : Bool). choose t true (isExample (formOf k) (schedule (coreKey k)) i row)) (sym (outside (noticedFrom k) i o))
-    ∙ every-at 15 (λ j. choose (leb (noticedFrom k) j && ltb j 7) true (isExample (formOf k) (schedule (coreKey k)) j (getD rows j []))) e i h in
+    ∙ every-at 15 (λ j. choose (leb (noticedFrom k) j && ltb j 7) true (isExample (formOf k) (schedule (coreKey k)) j (rowOf (noticedFrom k) rows j))) e i h in
     let s = and-split (not (eqb (row ! 0) 0) && opens (formOf k) (schedule (coreKey k)) (part 1 15 row)) _ r in
     let t = and-split (not (eqb (row ! 0) 0)) _ (s .0) in (
       row ! 0,
