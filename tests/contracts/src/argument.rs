@@ -11,6 +11,7 @@ pub const FILE: &str = "crates/claims/argument.toml";
 const TRUE: &str = "true";
 const OPEN: &str = "open";
 const VERDICTS: [&str; 4] = [TRUE, "false", "false as a reason", OPEN];
+const CELL_ENDS: &str = "a | would end a cell of the table";
 const PROVED: [&str; 2] = ["for all", "example"];
 
 const KEYS: [Keys; 4] = [
@@ -92,10 +93,7 @@ impl Row {
             ),
             (self.sentence.is_empty(), "no sentence"),
             (self.why.is_empty(), "no reason (why)"),
-            (
-                texts.iter().any(|text| text.contains('|')),
-                "a | would end a cell of the table",
-            ),
+            (texts.iter().any(|text| text.contains('|')), CELL_ENDS),
             (
                 !VERDICTS.contains(&&self.verdict[..]),
                 "its verdict is not true, false, false as a reason or open",
@@ -223,6 +221,12 @@ impl Argument {
             before = row.step;
             let of = |fault| format!("row '{}': {fault}", row.name);
             faults.extend(wrong.into_iter().map(of));
+        }
+        for part in &self.parts {
+            let texts = [&part.name, &part.asks, &part.full, &part.half, &part.none];
+            if texts.iter().any(|text| text.contains('|')) {
+                faults.push(format!("part '{}': {CELL_ENDS}", part.name));
+            }
         }
         let counts = [
             (self.steps.len(), "step"),
@@ -555,6 +559,11 @@ theorem = ""
             ("\"claims\"\nstatement = \"True.Opens\"", "\"more_claims\"\nstatement = \"False.Shut\"", "row 'shut': its statement is another row's"),
             ("[[rule]]\nwords = \"Another sentence is read.\"", "", "no rule"),
             ("{hides}", "{seek}", "{seek} names no row"),
+            (
+                "\"some\"",
+                "\"a | b\"",
+                "part 'uniqueness': a | would end a cell of the table",
+            ),
             ("{hides}", "{hides", "{hides).} names no row"),
             ("points = 3", "points = \"3\"", "line 10, [[part]]: no text is called 'points'"),
         ];
