@@ -989,11 +989,12 @@ CLAIMS: tuple[Claim, ...] = (
     Claim(
         "9c",
         "sharp",
-        "At every other place the flag may miss a change of one byte, for every kind.",
+        "Some change of each other byte goes unnoticed: of the first for kind 1, of the first"
+        " three for kinds 2 and 5, of the first two for kinds 3, 4 and 6, and of the last eight"
+        " for all.",
         "true",
         "example",
-        "for each kind and each other byte a text is computed that opens, and opens with that"
-        " byte changed",
+        "for each of them there is a text that opens before and after a change of it",
         "",
         "example_claims",
         "Sharp.Sharp",
