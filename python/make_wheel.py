@@ -89,9 +89,9 @@ def packages() -> dict[str, bytes]:
     """The files of the module and the desk."""
     library.make()
     found = {
-        f"{package.name}/{path.name}": path.read_bytes()
+        f"{package.name}/{path.relative_to(package).as_posix()}": path.read_bytes()
         for package in PACKAGES
-        for path in sorted((*package.glob("*.py"), package / "py.typed"))
+        for path in sorted((*package.rglob("*.py"), package / "py.typed"))
     }
     found[f"taa1/{library.NAME}"] = Path(library.find()).read_bytes()
     printtables = ROOT / "target" / "bin" / "printtables"

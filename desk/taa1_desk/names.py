@@ -6,9 +6,8 @@ SCK under KSO, as EN 300 392-7 does; 000 numbers its inputs and outputs only.
 
 from __future__ import annotations
 
-from typing import NamedTuple, Optional, Sequence
+from typing import NamedTuple, Optional
 
-from .document import columns
 from .records import KINDS
 
 
@@ -42,7 +41,6 @@ _ALL = (
     Term("flag", "MF", "manipulation flag"),
 )
 TERMS: dict[str, Term] = {term.name: term for term in _ALL}
-
 # The names in a sitting's file, and the values that they name.
 IN_SITTING = {
     "root": "root",
@@ -56,7 +54,6 @@ IN_SITTING = {
     "response_mask": "response mask",
     "key_mask": "key mask",
 }
-
 SIDES = {
     1: "TA12 alone: the radio proves itself",
     2: "TA22 alone: the network proves itself",
@@ -166,23 +163,3 @@ def kind_rows() -> list[tuple[str, ...]]:
         )
         for kind, names in KIND_NAMES.items()
     ]
-
-
-def _table(rows: Sequence[Sequence[str]]) -> str:
-    return "".join(f"  {line}\n" for line in columns(rows))
-
-
-def kinds_text() -> str:
-    """The kinds and the keys with both names, for `taa1 help kinds`."""
-    terms = [("name", "field", "what"), *TERMS.values()]
-    keys = [(name, words) for name, words in KEY_WORDS.items()]
-    return (
-        "The kinds of entries. A sealed text has 15 bytes; a version is 0 to 65535.\n\n"
-        + _table([KIND_HEADS, *kind_rows()])
-        + "\n"
-        + _table(keys)
-        + "\nThe values of a sitting and of its working: the desk's name, and the field's.\n\n"
-        + _table(terms)
-        + "\nThe number of sides.\n\n"
-        + _table([(str(sides), what) for sides, what in SIDES.items()])
-    )

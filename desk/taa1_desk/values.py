@@ -8,11 +8,12 @@ has hexadecimal digits as strings. What is no such value raises ValueError.
 
 from __future__ import annotations
 
-from typing import Iterable
+from typing import Any, Callable, Iterable
 
-from taa1.calls import IDENTITY as IDENTITY
+from taa1 import calls
 
 DIGITS = frozenset("0123456789abcdefABCDEF")
+IDENTITY = calls.IDENTITY  # digits
 MASK = 4  # digits, as an identity's
 
 
@@ -52,3 +53,11 @@ def string(words: Iterable[str], length: int) -> bytes:
     if len(digits) != 2 * length:
         raise ValueError(f"{len(digits)} hexadecimal digits, not {2 * length}")
     return bytes.fromhex(digits)
+
+
+def of_name(name: str, take: Callable[..., Any], *given: Any) -> Any:
+    """A value of a name; a ValueError has it in front."""
+    try:
+        return take(*given)
+    except ValueError as error:
+        raise ValueError(f"{name} {error}") from None

@@ -153,7 +153,7 @@ class Browser:
     def print(self, paper: str) -> bytes:
         """The page as PDF."""
         size = f"@page {{ size: {paper}; }}"
-        style = f"document.head.append(Object.assign(document.createElement('style'), {{id: 'size'}}))"
+        style = "document.head.append(Object.assign(document.createElement('style'), {id: 'size'}))"
         self.order("Runtime.evaluate", expression=f"window.size || {style}")
         self.order("Runtime.evaluate", expression=f"size.textContent = {size!r}")
         answer = self.order("Page.printToPDF", preferCSSPageSize=True)
@@ -298,7 +298,7 @@ def main() -> None:
             browser.open(page, width)
             (folder / f"{page.stem}.{name}.png").write_bytes(browser.picture())
         for paper in POINTS:
-            command = ["pdftoppm", "-gray", "-r", "70", "-png", "-", folder / f"{page.stem}.{paper}"]
+            command = ["pdftoppm", "-gray", "-r", "70", "-png", "-", str(folder / f"{page.stem}.{paper}")]
             subprocess.run(command, input=browser.print(paper), check=True, timeout=120)
     browser.close()
 

@@ -14,14 +14,18 @@ from typing import Any, NamedTuple, Optional
 
 from taa1 import Sitting
 from taa1_desk.cli import main
-from taa1_desk.desk import Desk
+from taa1_desk.command.inputs import read_sitting
+from taa1_desk.engine import Engine
+from taa1_desk.handed import HandIn, KeyFile
+from taa1_desk.marker import Marker
+from taa1_desk.reading.books import parse_lines
 from taa1_desk.records import PLAIN, Entry, Ring, split
-from taa1_desk.texts import parse_lines, read_sitting
+from taa1_desk.sheet import Sheet
 
 ROOT = Path(__file__).resolve().parents[2]
 COMMAND = [sys.executable, "-W", "error", str(ROOT / "taa1")]
 CLASS = ROOT / "samples" / "class"
-DESK = Desk()
+DESK = Engine()
 SITTING = read_sitting(str(CLASS / "sitting.txt"))
 LINES = (CLASS / "model.txt").read_text()
 PLAIN_BOOK = parse_lines(DESK, LINES, "model.txt")
@@ -40,6 +44,18 @@ def seal(sitting: Sitting = SITTING, plain: bytes = PLAIN_BOOK) -> bytes:
     """A plain book, sealed under a sitting's ring."""
     sealed: bytes = DESK.call("seal_book", ring_for(sitting).data, plain)["out"]
     return sealed
+
+
+def sheet_of(
+    marker: Marker, name: str, data: bytes, form: str = "", keys: Optional[KeyFile] = None
+) -> Sheet:
+    """The sheet of one hand-in, without points."""
+    return Sheet.of(marker.mark(HandIn(name, data, keys, form)), name)
+
+
+def book_sheet(marker: Marker, name: str, book: bytes, keys: Optional[KeyFile] = None) -> Sheet:
+    """The same of a book's bytes, whatever they look like."""
+    return sheet_of(marker, name, book, "bytes", keys)
 
 
 class Run(NamedTuple):

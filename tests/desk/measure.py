@@ -16,11 +16,13 @@ from pathlib import Path
 ROOT = Path(__file__).resolve().parents[2]
 sys.path[:0] = [str(ROOT / folder) for folder in ("python", "desk")]
 
-from taa1_desk.desk import Desk  # noqa: E402
-from taa1_desk.mark import Marker  # noqa: E402
+from taa1_desk.command.inputs import read_sitting  # noqa: E402
+from taa1_desk.engine import Engine  # noqa: E402
+from taa1_desk.marking.sealed import SealedMarker  # noqa: E402
+from taa1_desk.marking.slipped import work  # noqa: E402
+from taa1_desk.marking.slips import SLIPS  # noqa: E402
+from taa1_desk.reading.sittings import sitting_ring  # noqa: E402
 from taa1_desk.records import KINDS, SEALED, Entry  # noqa: E402
-from taa1_desk.slips import SLIPS, work  # noqa: E402
-from taa1_desk.texts import read_sitting, sitting_ring  # noqa: E402
 
 SITTING = ROOT / "samples" / "class" / "sitting.txt"
 DRAW = random.Random(1)
@@ -38,11 +40,11 @@ def entry(kind: int) -> Entry:
 def main() -> None:
     """Makes the class, and prints how long its marking takes."""
     candidates, entries = ([int(arg) for arg in sys.argv[1:]] + [1000, 100][len(sys.argv) - 1 :])[:2]
-    desk = Desk()
+    engine = Engine()
     sitting = read_sitting(str(SITTING))
     plain = b"".join(entry(1 + at % len(KINDS)).data for at in range(entries))
-    model = Marker(desk, sitting, sitting_ring(desk, sitting, SITTING.name), plain).model
-    slips = list(work(desk, sitting, plain))
+    model = SealedMarker(engine, sitting, sitting_ring(engine, sitting, SITTING.name), plain).model
+    slips = list(work(engine, sitting, plain))
     with tempfile.TemporaryDirectory() as folder:
         (Path(folder) / "plain").write_bytes(plain)
         names = []
@@ -55,9 +57,11 @@ def main() -> None:
                 records = [r if DRAW.random() < 0.5 else DRAW.randbytes(SEALED) for r in records]
             names.append(Path(folder) / f"{number}.book")
             names[-1].write_bytes(b"".join(records))
-        command = [sys.executable, ROOT / "taa1", "mark", SITTING, Path(folder) / "plain", *names]
+        command = [sys.executable, *map(str, (ROOT / "taa1", "mark", SITTING, Path(folder) / "plain", *names))]
         what = f"{candidates:,} books of {entries:,} entries, {len(SLIPS)} slips"
-        for form, more in (("text", []), ("pages", ["--html", Path(folder) / "pages"])):
+        pages = ["--html", str(Path(folder) / "pages")]
+        ways: dict[str, list[str]] = {"text": [], "pages": pages}
+        for form, more in ways.items():
             start = time.monotonic()
             subprocess.run([*command, *more], stdout=subprocess.DEVNULL, check=True)
             print(f"{what}, as {form}: {time.monotonic() - start:.1f} s")

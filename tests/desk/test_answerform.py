@@ -7,21 +7,24 @@ import re
 import unittest
 from typing import Callable, Iterable, Mapping, Optional
 
-from common import CLASS, DESK, PLAIN_BOOK, RING, SITTING, Case, here, ring_for, seal
-from taa1_desk import answerform, paper
-from taa1_desk.document import as_text
-from taa1_desk.handins import Reader
-from taa1_desk.keysheet import KeyFile
-from taa1_desk.mark import Marker, Sheet
-from taa1_desk.opened import OpenedMarker
+from common import CLASS, DESK, PLAIN_BOOK, RING, SITTING, Case, here, ring_for, seal, sheet_of
+from said import SEALING
+from taa1_desk.handed import KeyFile
+from taa1_desk.marking.opened import OpenedMarker
+from taa1_desk.marking.sealed import SealedMarker
+from taa1_desk.marking.working import Steps
+from taa1_desk.reading import answerform
+from taa1_desk.reading.sittings import Heading
 from taa1_desk.records import SEALED, split
-from taa1_desk.sheets import others, sheet_text
-from taa1_desk.texts import Heading
-from taa1_desk.working import Steps
+from taa1_desk.sheet import Sheet
+from taa1_desk.showing import paper
+from taa1_desk.showing.document import as_text
+from taa1_desk.showing.phrases import others
+from taa1_desk.showing.sheet_text import sheet_text
 
 INPUTS = (CLASS / "sitting.txt", CLASS / "model.txt")
 HEADING = Heading("Key management", "3 December")
-READER = Reader(Marker(DESK, SITTING, RING, PLAIN_BOOK))
+READER = SealedMarker(DESK, SITTING, RING, PLAIN_BOOK)
 RECORDS = split(seal(), SEALED)
 KEYS = {name: value for name, value in Steps(DESK).keys(SITTING).items() if value and name != "C"}
 FORM = as_text(paper.answer_form(paper.examination(DESK, SITTING, HEADING, PLAIN_BOOK, "f")))
@@ -46,7 +49,7 @@ def filled(
 
 
 def mark(text: str, keys: Optional[KeyFile] = None) -> Sheet:
-    return READER.mark("ann.txt", text.encode(), "", keys)
+    return sheet_of(READER, "ann.txt", text.encode(), "", keys)
 
 
 class Forms(unittest.TestCase):
@@ -71,7 +74,7 @@ class Forms(unittest.TestCase):
             ("an argument", text.replace("_" * 96, "12 entries, since 3 is no 4.", 2).encode(), ""),
         ):
             with self.subTest(name):
-                sheet = READER.mark("ann.txt", given)
+                sheet = sheet_of(READER, "ann.txt", given)
                 self.assertEqual((sheet.problem, sheet.read_as), (None, f"an answer form{how}"))
                 self.assertTrue(sheet.perfect, sheet_text(sheet))
                 states = {mark.name: mark.state for mark in sheet.keys.marks}
@@ -83,7 +86,7 @@ class Forms(unittest.TestCase):
         keys = {name: value or b"" for name, value in Steps(DESK).keys(other).items()}
         sheet = mark(filled(split(seal(other), SEALED), keys))
         (slip,) = sheet.slips
-        self.assertEqual(slip.name, "TA22's challenge reversed (RAND2)")
+        self.assertEqual(slip.name, SEALING["ta22-reversed"])
         self.assertEqual((slip.entries, slip.keys), ((0, 1), ("response 2", "key 2", "D")))
         self.assertEqual((sheet.right, sheet.following), (10, 2))
 
@@ -215,12 +218,12 @@ class Forms(unittest.TestCase):
         self.assertIn("this looks like another sitting's book", "".join(sheet.problems))
         self.assertEqual((sheet.problem, sheet.right), (None, 0))
         said = "it can't be read as form: it has no table of the answer form"
-        self.assertEqual(READER.mark("ann.txt", seal().hex().encode(), "form").problem, said)
+        self.assertEqual(sheet_of(READER, "ann.txt", seal().hex().encode(), "form").problem, said)
         text = filled(split(seal(other), SEALED), {}).encode()
-        self.assertEqual(READER.mark("ann.txt", text, "form").problem, None)
+        self.assertEqual(sheet_of(READER, "ann.txt", text, "form").problem, None)
         opened = OpenedMarker(DESK, SITTING, ring_for(SITTING), seal(), "handout")
         said = "this looks like an answer form with a sealed book, where what was opened is wanted"
-        self.assertIn(said, opened.mark("ann.txt", filled().encode()).problem or "")
+        self.assertIn(said, sheet_of(opened, "ann.txt", filled().encode()).problem or "")
         of = paper.examination(DESK, SITTING, HEADING, PLAIN_BOOK, "f")
         for document, what in (
             (paper.question_paper(of), "the question paper, with no answer in it"),

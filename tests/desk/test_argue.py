@@ -12,18 +12,20 @@ from unittest import mock
 import reference
 from common import CLASS, DESK, ENTRIES, PLAIN_BOOK, RING, SITTING, Case, here, ring_for, seal, taa1
 from taa1 import Refused, Sitting
-from taa1_desk.argue import argument_sheet
-from taa1_desk.claims import CLAIMS, PARTS, RULES, STEPS
-from taa1_desk.desk import Desk
-from taa1_desk.document import as_page, as_text
-from taa1_desk.instance import ALTERED, ALTERED_WORKING, BY_PROOF, COUNTED, GIVEN, WORKING, Maker
-from taa1_desk.instances import INSTANCES, NONE, PROOF, Instance
+from taa1_desk.engine import Engine as Desk
+from taa1_desk.marking.working import Steps
 from taa1_desk.names import both
-from taa1_desk.page import Code, grouped
-from taa1_desk.paper import QUESTION
+from taa1_desk.reading.sittings import Heading
 from taa1_desk.records import PLAIN, SEALED, Entry, split
-from taa1_desk.texts import Heading
-from taa1_desk.working import Steps
+from taa1_desk.showing.argue import argument_sheet
+from taa1_desk.showing.claims import CLAIMS, PARTS, RULES, STEPS
+from taa1_desk.showing.document import as_page, as_text
+from taa1_desk.showing.html import Code, grouped
+from taa1_desk.showing.instance import (
+    ALTERED, ALTERED_WORKING, BY_PROOF, COUNTED, GIVEN, WORKING, Maker,
+)  # fmt: skip
+from taa1_desk.showing.instances import INSTANCES, NONE, PROOF, Instance
+from taa1_desk.showing.paper import QUESTION
 
 INPUTS = (CLASS / "sitting.txt", CLASS / "model.txt")
 KIND1 = PLAIN_BOOK[:PLAIN]  # a book of kind 1 alone

@@ -7,22 +7,23 @@ from functools import lru_cache
 from typing import Union
 
 import said
-from common import DESK, ring_for
+from common import DESK, book_sheet, ring_for, sheet_of
 from exams import Exam
 from planted import KeyFile, OpenedBook, SealedBook, key_files, opened_books, sealed_books
-from taa1_desk.forms import text_of
-from taa1_desk.keysheet import parse
-from taa1_desk.mark import Marker, Sheet
-from taa1_desk.opened import OpenedMarker
-from taa1_desk.sheets import sheet_text
-from taa1_desk.texts import parse_sitting
+from taa1_desk.marking.opened import OpenedMarker
+from taa1_desk.marking.sealed import SealedMarker
+from taa1_desk.reading.decoding import decoded as text_of
+from taa1_desk.reading.keyfile import parse
+from taa1_desk.reading.sittings import parse_sitting
+from taa1_desk.sheet import Sheet
+from taa1_desk.showing.sheet_text import sheet_text
 
 
 @lru_cache(maxsize=None)
-def marker(exam: Exam) -> Marker:
+def marker(exam: Exam) -> SealedMarker:
     """Marks books beside a planted sitting's model."""
     sitting = parse_sitting(exam.sitting_text().encode(), exam.name)[0]
-    return Marker(DESK, sitting, ring_for(sitting), exam.plain)
+    return SealedMarker(DESK, sitting, ring_for(sitting), exam.plain)
 
 
 @lru_cache(maxsize=None)
@@ -58,7 +59,7 @@ class SealedBooks(unittest.TestCase):
         seen = set()
         for book in sealed_books():
             with self.subTest(book.name):
-                sheet = marker(book.exam).mark(book.name, book.book)
+                sheet = book_sheet(marker(book.exam), book.name, book.book)
                 self.assertEqual(sheet.right, book.right)
                 getattr(self, f"_{book.group.replace(' ', '_')}", self._one_slip)(book, sheet)
                 seen.add(book.group)
@@ -121,7 +122,7 @@ class KeyFiles(unittest.TestCase):
             with self.subTest(file.name):
                 text = text_of(file.text)
                 keys = parse(text[0] if text else "")
-                sheet = marker(file.exam).mark(file.name, file.book, keys)
+                sheet = book_sheet(marker(file.exam), file.name, file.book, keys)
                 states = {mark.name: mark.state for mark in sheet.keys.marks}
                 short = {"D"} if file.name == "both/short" else set()
                 unread = {name for name, value in keys.values.items() if not value}
@@ -174,7 +175,7 @@ class OpenedBooks(unittest.TestCase):
     def test_planted(self) -> None:
         for book in opened_books():
             with self.subTest(book.name):
-                sheet = opened_marker(book.exam, book.sealed).mark(book.name, book.handed)
+                sheet = sheet_of(opened_marker(book.exam, book.sealed), book.name, book.handed)
                 flags = sheet.flags
                 assert flags is not None
                 self.assertEqual(sheet.right, book.right)

@@ -11,10 +11,10 @@ from typing import ClassVar
 
 from browser import DPI, MARGIN, MISSING, PHONE, POINTS, SCREEN, Browser, pictures, poppler, printed
 from common import CLASS, DESK, RING, SITTING, seal, taa1
-from taa1_desk.page import page, tag, text
-from taa1_desk.pictures import FILLINGS, HEIGHT, STYLE, Part, bar, fillings
+from taa1_desk.marking.working import Steps, xor
 from taa1_desk.records import SEALED, split
-from taa1_desk.working import Steps, xor
+from taa1_desk.showing.html import Html, page, tag, text
+from taa1_desk.showing.pictures import FILLINGS, HEIGHT, STYLE, Part, bar, fillings
 
 HEADING = "title = Key management, the winter paper\ndate = 3 December\n"
 BOOK = CLASS / "model.txt"
@@ -33,7 +33,7 @@ def _keys(wrong: bytes) -> str:
     session_key = xor(steps.ta11(SITTING.root, SITTING.rs), wrong)
     made = steps.keys(SITTING, {"session key 1": session_key})
     values = {"session key 1": session_key, "O": xor(RING.o, wrong)}
-    values.update({name: made[name] for name in ("response 1", "key 1")})
+    values.update({name: made[name] or b"" for name in ("response 1", "key 1")})
     return "".join(f"{name} = {value.hex()}\n" for name, value in values.items())
 
 
@@ -154,7 +154,7 @@ class Looking(unittest.TestCase):
         wide = text("p", "word " * 300, style="white-space: nowrap")
         over = text("p", "one", style="margin-bottom: -2.4em") + text("p", "two")
         broken = text("p", "entries", style="width: 1em")
-        boxed = tag("p", "1" + text("b", "23", style="outline: 1px solid") + "4")
+        boxed = tag("p", Html("1") + text("b", "23", style="outline: 1px solid") + Html("4"))
         for width in (SCREEN, PHONE):
             for part, said in ((wide, "cut off: word"), (over, "over each other: one two"),
                                (broken, "broken: entries"), (boxed, "a line through: 4")):  # fmt: skip

@@ -6,13 +6,20 @@ import csv
 import io
 import json
 import re
+import unittest
 from fractions import Fraction
 from typing import Any
 
-from common import CLASS, DESK, PLAIN_BOOK, ROOT, SITTING, Case, seal, taa1
-from taa1_desk import pictures
+from common import CLASS, DESK, PLAIN_BOOK, RING, ROOT, SITTING, Case, seal, taa1
+from taa1_desk.application import mark_class
+from taa1_desk.handed import HandIn, LeftOut
+from taa1_desk.marking.counting import COUNTED
+from taa1_desk.marking.sealed import SealedMarker
+from taa1_desk.problems import Problem
+from taa1_desk.reading.candidates import Named
+from taa1_desk.reading.schemes import DEFAULT, parse
 from taa1_desk.records import PLAIN, SEALED, Entry, split
-from taa1_desk.results import COUNTED
+from taa1_desk.showing import pictures
 
 INPUTS = (CLASS / "sitting.txt", CLASS / "model.txt")
 MODEL = split(seal(), SEALED)
@@ -188,6 +195,22 @@ class Maxima(Case):
         bad = self.file("scheme", "keys asked = 2\n")
         said = f"{bad}, line 1: keys asked: 2, where 0 or 1 is wanted"
         self.fails(2, said, "mark", *INPUTS, *self.books, *asked)
+
+
+class Application(unittest.TestCase):
+    """What another front needs: one call, without a file."""
+
+    def test_one_call(self) -> None:
+        marker = SealedMarker(DESK, SITTING, RING, PLAIN_BOOK)
+        hand_ins = iter((HandIn("ann.book", seal()), HandIn("ben.book", Problem("ben.book: no such file"))))
+        names = Named(["Ann", "Ben"], ["Cho"], [], [False, True])
+        left_out = [LeftOut("", "dee.book", "a link")]
+        of = mark_class(marker, hand_ins, parse(DEFAULT, "the default"), names, left_out)
+        self.assertEqual([(sheet.candidate, sheet.name) for sheet in of.sheets], [("Ann", "ann.book"), ("Ben", "ben.book")])
+        self.assertEqual([sheet.problem for sheet in of.sheets], [None, "no such file"])
+        self.assertEqual([sheet.points and sheet.points.sum for sheet in of.sheets], [12, 0])
+        self.assertEqual((of.summary.perfect, of.summary.unreadable, of.absent), (1, 1, ("Cho",)))
+        self.assertEqual((of.left_out, of.has_unread), (tuple(left_out), True))
 
 
 class Names(Case):

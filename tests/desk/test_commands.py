@@ -17,11 +17,13 @@ from unittest import mock
 
 from common import CLASS, COMMAND, DESK, PLAIN_BOOK, RING, ROOT, SITTING, Case, Run, here, seal, taa1
 from taa1 import NAMES, Refused, __version__
-from taa1_desk import files
 from taa1_desk.cli import parser
-from taa1_desk.files import MOST_BYTES, Problem, write_file
-from taa1_desk.overview import EXAMPLES
-from taa1_desk.texts import sitting_bytes
+from taa1_desk.command import files
+from taa1_desk.command.files import write_file
+from taa1_desk.command.overview import EXAMPLES
+from taa1_desk.problems import Problem
+from taa1_desk.reading.decoding import MOST_BYTES
+from taa1_desk.reading.sittings import sitting_bytes
 
 INPUTS = (CLASS / "sitting.txt", CLASS / "model.txt")
 SEALED_BOOK = seal()
@@ -40,7 +42,7 @@ class Good(Case):
         self.assertEqual(digits.decode(), SEALED_BOOK.hex() + "\n")
         self.assertEqual(self.accepted("open", INPUTS[0], stdin=SEALED_BOOK), PLAIN_BOOK)
         self.assertEqual(self.accepted("open", INPUTS[0], stdin=digits), PLAIN_BOOK)
-        listing = self.accepted("list", INPUTS[1])
+        listing = self.accepted("book", "--lines", INPUTS[1])
         self.assertEqual(self.accepted("open", "--lines", INPUTS[0], stdin=SEALED_BOOK), listing)
         said = self.accepted("check", INPUTS[1])
         self.assertEqual(said, b"well formed, entries 12\n")
@@ -187,7 +189,7 @@ class Good(Case):
             ("sitting", INPUTS[0]),
             ("ring", INPUTS[0]),
             ("book", INPUTS[1]),
-            ("list", INPUTS[1]),
+            ("book", "--lines", INPUTS[1]),
             ("model", *INPUTS),
             ("model", *INPUTS, "--json"),
             ("model", *INPUTS, "--html"),
@@ -214,7 +216,7 @@ class Good(Case):
         runs = [subprocess.Popen(command, stderr=subprocess.PIPE) for _ in range(6)]
         errors = [run.communicate()[1].decode() for run in runs]
         self.assertEqual(sorted(run.returncode for run in runs), [0, 2, 2, 2, 2, 2])
-        said = f"taa1: {name}: it is there already, and draw replaces no file\n"
+        said = f"taa1: {name}: {files.THERE}\n"
         self.assertEqual(sorted(errors), ["", *[said] * 5])
         self.assertEqual(len(self.accepted("ring", name)), 60)
         self.assertEqual(os.listdir(self.folder), ["sitting.txt"])
@@ -223,8 +225,9 @@ class Good(Case):
         """A new file takes no other's place, also where a file may have one name only."""
         name = self.folder / "new"
         for fails in (False, True):
-            patched = mock.patch("taa1_desk.files.os.link", side_effect=PermissionError(1, "not permitted"))
-            with patched if fails else nullcontext():
+            patched = mock.patch("taa1_desk.command.files.os.link", side_effect=PermissionError(1, "not permitted"))
+            context: Any = patched if fails else nullcontext()
+            with context:
                 write_file(str(name), b"first", private=True, new=True)
                 with self.assertRaisesRegex(Problem, "it is there already"):
                     write_file(str(name), b"second", private=True, new=True)
@@ -240,7 +243,6 @@ READERS: tuple[tuple[Any, ...], ...] = (
     ("ring", "f"),
     ("book", "f"),
     ("book", "--lines", "f"),
-    ("list", "f"),
     ("check", "f"),
     ("seal", "f", INPUTS[1]),
     ("seal", INPUTS[0], "f"),
@@ -271,7 +273,7 @@ WRITERS: tuple[tuple[Any, ...], ...] = (
     ("ring", INPUTS[0]),
     ("seal", *INPUTS),
     ("open", INPUTS[0], CLASS / "ann.book"),
-    ("list", INPUTS[1]),
+    ("book", "--lines", INPUTS[1]),
     ("check", INPUTS[1]),
     ("columns", "plain", "/dev/null", "--hex"),
     ("lineage", CLASS / "lineage.txt"),
@@ -381,7 +383,7 @@ class Bad(Case):
                     )
                     self.assertEqual((done.returncode, done.stderr.decode()), (2, error))
         done = subprocess.run(
-            ["bash", "-c", '"$@" <&-', "-", *COMMAND, "list"], capture_output=True, check=False
+            ["bash", "-c", '"$@" <&-', "-", *COMMAND, "book", "--lines"], capture_output=True, check=False
         )
         self.assertEqual((done.returncode, done.stderr), (2, b"taa1: standard input: it is closed\n"))
 
@@ -389,7 +391,7 @@ class Bad(Case):
         read, write = os.pipe()
         os.close(read)
         try:
-            done = taa1("list", INPUTS[1], stdout=write)
+            done = taa1("book", "--lines", INPUTS[1], stdout=write)
         finally:
             os.close(write)
         self.assertEqual((done.status, done.error), (2, "taa1: standard output: Broken pipe\n"))
@@ -421,7 +423,7 @@ class Bad(Case):
         """The commands in the order of the work, each with an example that works."""
         said = self.accepted("--help").decode()
         self.assertEqual(self.accepted("help").decode(), said)
-        commands = list(next(a.choices for a in parser()._actions if a.dest == "command") or ())
+        commands = [name for a in parser()._actions if a.dest == "command" for name in a.choices or ()]
         self.assertEqual(set(EXAMPLES), set(commands))
         listed = [line.split()[0] for line in said.splitlines() if re.match(r"  [a-z]", line)]
         self.assertEqual(set(listed), set(commands))
@@ -486,11 +488,11 @@ class Bad(Case):
         sitting = self.file("sitting", INPUTS[0].read_bytes())
         model = self.file("model", INPUTS[1].read_bytes())
         args = (sitting, model, book)
-        for command in (("mark", *args), ("model", sitting, model), ("seal", sitting, model)):
-            for file in command[1:]:
+        for name, given in (("mark", args), ("model", args[:2]), ("seal", args[:2])):
+            for file in given:
                 before = file.read_bytes()
-                said = f"{file}: it is read, so nothing is written over it: give the output another name"
-                self.fails(2, said, *command, "-o", file)
+                said = f"{file}: {files.READ}"
+                self.fails(2, said, name, *given, "-o", file)
                 self.assertEqual(file.read_bytes(), before)
 
     def test_hand_ins_stay(self) -> None:
@@ -518,14 +520,14 @@ class Bad(Case):
         self.assertEqual({path: path.read_bytes() for path in before}, before)
         self.file("book", PLAIN_BOOK)
         with open(self.folder / "book", "rb") as book:
-            done = subprocess.run([*COMMAND, "list", "-o", "book"], stdin=book, cwd=self.folder,
+            done = subprocess.run([*COMMAND, "book", "--lines", "-o", "book"], stdin=book, cwd=self.folder,
                                   capture_output=True, check=False)  # fmt: skip
         self.assertEqual((done.returncode, (self.folder / "book").read_bytes()), (2, PLAIN_BOOK))
         self.assertEqual(done.stderr.decode(), f"taa1: book: {files.READ}\n")
         for options in ((), ("--csv",), ("--json",), ("--dry",), ("--html", "pages")):
             for _ in range(2):  # the second time, what the first one wrote is replaced
-                done = taa1("mark", *INPUTS, "class", "-o", "class/marks", *options, cwd=self.folder)
-                self.assertEqual(done.status, 1, done.error)  # the link is named
+                marked = taa1("mark", *INPUTS, "class", "-o", "class/marks", *options, cwd=self.folder)
+                self.assertEqual(marked.status, 1, marked.error)  # the link is named
 
     def test_pages_stay(self) -> None:
         """Nor does a page replace what is read."""
@@ -554,18 +556,27 @@ class Bad(Case):
 CHECKED = ("python/taa1", "python/make_wheel.py", "desk/taa1_desk", "examples/python/sitting.py")
 
 
-class Types(Case):
-    """The type hints, where a checker is installed."""
+class Checked(Case):
+    """Type hints and unused names, where a checker is installed."""
+
+    def clean(self, tool: str, *args: str, **more: str) -> None:
+        """A checker has nothing to say."""
+        command = [sys.executable, "-m", tool]
+        if subprocess.run([*command, "--version"], capture_output=True, check=False).returncode:
+            found = shutil.which(tool) or shutil.which(f"{tool}3")  # another Python's
+            if found is None:
+                self.skipTest(f"no {tool}")
+            command = [found]
+        tests = [str(path.relative_to(ROOT)) for path in sorted((ROOT / "tests" / "desk").glob("*.py"))]
+        done = subprocess.run(
+            [*command, *args, *CHECKED, *tests], cwd=ROOT, env={**os.environ, **more}, capture_output=True, check=False
+        )
+        self.assertEqual((done.returncode, done.stderr), (0, b""), done.stdout.decode())
 
     def test_mypy(self) -> None:
-        command = [sys.executable, "-m", "mypy"]
-        if subprocess.run([*command, "--version"], capture_output=True, check=False).returncode:
-            found = shutil.which("mypy")  # another Python's
-            if found is None:
-                self.skipTest("no mypy")
-            command = [found]
-        done = subprocess.run(
-            [*command, "--strict", "--cache-dir", str(self.folder), *CHECKED],
-            cwd=ROOT, env={**os.environ, "MYPYPATH": "python:desk"}, capture_output=True, check=False,
-        )  # fmt: skip
-        self.assertEqual(done.returncode, 0, done.stdout.decode())
+        """The modules and these tests."""
+        self.clean("mypy", "--strict", "--cache-dir", str(self.folder), MYPYPATH="python:desk:tests/desk")
+
+    def test_pyflakes(self) -> None:
+        """Nothing is imported or named for nothing."""
+        self.clean("pyflakes")

@@ -11,7 +11,7 @@ import unittest
 import examples
 from common import CLASS, ROOT, Case
 from taa1_desk import cli
-from taa1_desk.slips import SLIPS
+from taa1_desk.marking.slips import SLIPS
 
 
 class Docs(unittest.TestCase):

@@ -3,9 +3,10 @@
 from __future__ import annotations
 
 from common import CLASS, Case
-from taa1_desk.draw import draw_book, draw_kinds
+from taa1_desk.command.files import THERE
 from taa1_desk.names import KIND_NAMES
 from taa1_desk.records import KINDS, PLAIN, Entry, split
+from taa1_desk.setting.draw import draw_book, draw_kinds
 
 
 class Books(Case):
@@ -15,7 +16,7 @@ class Books(Case):
         """The entries of a book that is drawn."""
         made = self.accepted("draw", "--book", *options)
         plain = self.accepted("book", stdin=made)
-        self.assertEqual(self.accepted("list", stdin=plain), made)
+        self.assertEqual(self.accepted("book", "--lines", stdin=plain), made)
         return [Entry.of(record) for record in split(plain, PLAIN)]
 
     def test_kinds(self) -> None:
@@ -53,7 +54,7 @@ class Books(Case):
 
     def test_replaces_nothing(self) -> None:
         name = self.file("book.txt", "the examination's\n")
-        said = f"{name}: it is there already, and draw replaces no file"
+        said = f"{name}: {THERE}"
         self.fails(2, said, "draw", "--book", "-o", name)
         self.assertEqual(name.read_text(), "the examination's\n")
 

@@ -7,7 +7,8 @@ import stat
 from unittest import mock
 
 from common import Case
-from taa1_desk.files import Problem, write_file, write_folder
+from taa1_desk.command.files import write_file, write_folder
+from taa1_desk.problems import Problem
 
 OLD = {"a": b"old a", "b": b"old b"}
 NEW = {"a": b"new a", "b": b"new b", "c": b"new c"}
@@ -40,7 +41,7 @@ class Folder(Case):
                         raise error
                     rename(*args)  # type: ignore[arg-type]
 
-                with mock.patch("taa1_desk.files.os.rename", failing):
+                with mock.patch("taa1_desk.command.files.os.rename", failing):
                     with self.assertRaises((Problem, KeyboardInterrupt)):
                         write_folder(str(self.folder), NEW)
                 self.assertEqual(self.content(), OLD)

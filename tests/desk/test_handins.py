@@ -14,30 +14,37 @@ import threading
 import time
 import unittest
 from pathlib import Path
-from typing import Any
+from typing import Any, Callable
 
 import planted
-from common import CLASS, DESK, ENTRIES, PLAIN_BOOK, RING, SITTING, Case, here, ring_for, seal
+from common import CLASS, DESK, ENTRIES, PLAIN_BOOK, RING, SITTING, Case, here, ring_for, seal, sheet_of
 from taa1 import Sitting
-from taa1_desk import answerform, files, forms, handins, keysheet, opened, texts
-from taa1_desk.files import MOST_BYTES
-from taa1_desk.forms import FORMS
-from taa1_desk.handins import LINK, NO_BOOK, Reader, page_names
-from taa1_desk.mark import Marker, Sheet
-from taa1_desk.opened import OpenedMarker
+from taa1_desk.command.folders import LINK, NO_BOOK, page_names
+from taa1_desk.marking.opened import OpenedMarker
+from taa1_desk.marking.sealed import SealedMarker
+from taa1_desk.reading import answerform, answers, decoding, forms, handin, keyfile
+from taa1_desk.reading import lines as line_reading
+from taa1_desk.reading.books import format_lines
+from taa1_desk.reading.decoding import MOST_BYTES
+from taa1_desk.reading.forms import FORMS
+from taa1_desk.reading.lineends import LINE_ENDS
+from taa1_desk.reading.sittings import Heading
 from taa1_desk.records import SEALED, split
-from taa1_desk.sheets import others, sheet_text
-from taa1_desk.texts import format_lines
+from taa1_desk.sheet import Sheet
+from taa1_desk.showing import paper
+from taa1_desk.showing.document import as_text
+from taa1_desk.showing.phrases import others
+from taa1_desk.showing.sheet_text import sheet_text
 
 INPUTS = (CLASS / "sitting.txt", CLASS / "model.txt")
 BOOK = seal()
 RECORDS = split(BOOK, SEALED)
-READER = Reader(Marker(DESK, SITTING, RING, PLAIN_BOOK))
+READER = SealedMarker(DESK, SITTING, RING, PLAIN_BOOK)
 OTHER = SITTING._replace(
     root=SITTING.root[::-1], rs=bytes(10), rso=bytes(range(10)), c=bytes(range(50, 60)), group_key=bytes(12)
 )  # another sitting
 HEX = "hexadecimal"
-DUMP, WORDS, OCTAL = (FORMS[name].what for name in ("dump", "words", "octal"))
+DUMP, WORDS = (FORMS[name].what for name in ("dump", "words"))
 
 
 def dumped(*command: str, data: bytes = BOOK) -> bytes:
@@ -85,8 +92,6 @@ CERTAIN: dict[str, tuple[Any, str]] = {
     "od -x": (dumped("od", "-x"), WORDS),
     "od -An -x": (dumped("od", "-An", "-x"), WORDS),
     "od -tx4": (dumped("od", "-tx4"), WORDS),
-    "od": (dumped("od"), OCTAL),
-    "od -b": (dumped("od", "-b"), OCTAL),
     "od -tu1": (dumped("od", "-tu1"), FORMS["decimal"].what),
     "decimal": (", ".join(map(str, BOOK)), FORMS["decimal"].what),
     "base64": (dumped("base64"), "base64"),
@@ -116,7 +121,7 @@ CERTAIN: dict[str, tuple[Any, str]] = {
 }
 for tool, given in (
     ("xxd", {"": DUMP, "-p": HEX, "-u": DUMP, "-g1": DUMP, "-c 21": DUMP, "-i": HEX}),
-    ("hexdump", {"-C": DUMP, "": WORDS, "-b": OCTAL}),
+    ("hexdump", {"-C": DUMP, "": WORDS}),
 ):
     if shutil.which(tool):
         for options, read_as in given.items():
@@ -256,7 +261,7 @@ class Forms(unittest.TestCase):
         for name, (content, how) in CERTAIN.items():
             with self.subTest(name):
                 data = content.encode() if isinstance(content, str) else content
-                sheet = READER.mark("ann.book", data)
+                sheet = sheet_of(READER, "ann.book", data)
                 self.assertIsNone(sheet.problem)
                 self.assertTrue(sheet.perfect)
                 self.assertEqual(sheet.read_as, how)
@@ -266,7 +271,7 @@ class Forms(unittest.TestCase):
         self.assertEqual(RECORDS[0], RECORD)
         for name, text in FIXED.items():
             with self.subTest(name):
-                self.assertEqual(READER.read(text.encode()).book, RECORD)
+                self.assertEqual(READER.reader.read(text.encode()).book, RECORD)
 
     def test_repeated(self) -> None:
         """A line `*` of a dump stands for lines like the one before, up to the next address."""
@@ -278,18 +283,18 @@ class Forms(unittest.TestCase):
     def test_strange(self) -> None:
         for name, (data, said, form) in STRANGE.items():
             with self.subTest(name):
-                sheet = READER.mark("ann.book", data)
+                sheet = sheet_of(READER, "ann.book", data)
                 advice = f"; --as ann.book={form} marks it all the same"
                 self.assertEqual(sheet.problem, said + advice)
                 self.assertEqual((sheet.right, sheet.entries), (0, ()))
-                self.assertIsNone(READER.mark("ann.book", data, form).problem)
+                self.assertIsNone(sheet_of(READER, "ann.book", data, form).problem)
 
     def test_ours(self) -> None:
         """Who fails gets a number: a book with half of the model's kinds and versions, each as
         often as the model has it, is this sitting's; with one fewer, or one too often, it is not."""
         for name, (data, said, right) in OURS.items():
             with self.subTest(name):
-                sheet = READER.mark("ann.book", data)
+                sheet = sheet_of(READER, "ann.book", data)
                 self.assertEqual((sheet.problem, sheet.problems, sheet.right), (None, (said,), right))
                 self.assertTrue(sheet.has_unread)
         other = split(seal(OTHER), SEALED)
@@ -297,17 +302,17 @@ class Forms(unittest.TestCase):
         often = [*other[:5], *[other[0]] * 7]
         for records in (few, often):
             self.assertIn("no sealed book" if records is few else "another sitting's",
-                          READER.mark("ann.book", b"".join(records)).problem or "")  # fmt: skip
+                          sheet_of(READER, "ann.book", b"".join(records)).problem or "")  # fmt: skip
 
     def test_left_bytes(self) -> None:
         """With bytes after the last record, at least half of the records must share something."""
         noise = [b"\x8f" * SEALED for _ in RECORDS]
         for shared, marked in ((6, True), (5, False)):
             book = b"".join([*[RECORDS[0]] * shared, *noise[shared:]]) + b"??"
-            sheet = READER.mark("a", book)
+            sheet = sheet_of(READER, "a", book)
             self.assertEqual(sheet.problem is None, marked, sheet.problem)
         whole = b"".join([RECORDS[0], *noise[1:]])
-        self.assertIsNone(READER.mark("a", whole).problem)
+        self.assertIsNone(sheet_of(READER, "a", whole).problem)
 
     def test_hopeless(self) -> None:
         """No form is offered for what can be no book in any."""
@@ -317,7 +322,7 @@ class Forms(unittest.TestCase):
             (b"%PDF-1.7\n\xff", "this looks like a PDF document"),
             (b"PK\3\4" + BOOK, "this looks like a zip archive or an office document"),
         ):
-            self.assertEqual(READER.mark("ann.book", data).problem, said)
+            self.assertEqual(sheet_of(READER, "ann.book", data).problem, said)
 
     def test_one_bad_row(self) -> None:
         """Of a record in each line, a line that has too few or too many digits is named, and
@@ -331,14 +336,14 @@ class Forms(unittest.TestCase):
             (spaced, spaced[5][:-3], 40),
             (rows, f"0x{rows[5][2:]}  # entry 5", 40),
         ):
-            sheet = READER.mark("a", "\n".join([*given[:5], bad, *given[6:]]).encode())
+            sheet = sheet_of(READER, "a", "\n".join([*given[:5], bad, *given[6:]]).encode())
             self.assertEqual((sheet.problem, sheet.right, sheet.missing, sheet.unread), (None, 11, (), (5,)))
             self.assertIn(f"line 6 has {digits} digits, not 42", others(sheet))
             self.assertIn("in a line that can't be read: the model's entry 5", others(sheet))
             self.assertEqual(sheet.read_as, f"{HEX}, a record in each line")
-        self.assertEqual(READER.mark("a", "\n".join([*rows[:5], *rows[6:]]).encode()).read_as, HEX)
+        self.assertEqual(sheet_of(READER, "a", "\n".join([*rows[:5], *rows[6:]]).encode()).read_as, HEX)
         for line in ("Candidate 17, Ann", "kind,ESI,version,text"):
-            sheet = READER.mark("a", "\n".join([*spaced[:5], line, *spaced[6:]]).encode())
+            sheet = sheet_of(READER, "a", "\n".join([*spaced[:5], line, *spaced[6:]]).encode())
             self.assertEqual((sheet.problem, sheet.right, sheet.missing), (None, 11, (5,)))
             said = "line 6 has other than hexadecimal digits, and is not read"
             self.assertIn(said, others(sheet))
@@ -346,7 +351,7 @@ class Forms(unittest.TestCase):
         for given in (rows, spaced, labelled, [f"record {at} = {row}" for at, row in enumerate(rows)]):
             for letter in "Olx":
                 bad = given[5][:-4] + letter + given[5][-3:]
-                sheet = READER.mark("a", "\n".join([*given[:5], bad, *given[6:]]).encode())
+                sheet = sheet_of(READER, "a", "\n".join([*given[:5], bad, *given[6:]]).encode())
                 self.assertEqual((sheet.problem, sheet.right, sheet.missing, sheet.unread), (None, 11, (), (5,)))
                 self.assertIn(f"line 6: {letter!r} is no hexadecimal digit, so it is not read", others(sheet))
                 self.assertNotIn("missing", sheet_text(sheet))
@@ -362,7 +367,7 @@ class Forms(unittest.TestCase):
                         heads = ["entry"] * numbered + ["kind", "ESI", "version", "sealed text"]
                         table = [[*[str(at)] * numbered, *row] for at, row in enumerate(given)]
                         lines_ = [between.join(f"{quote}{cell}{quote}" for cell in row) for row in (heads, *table)]
-                        sheet = READER.mark("a", "\r\n".join(lines_).encode())
+                        sheet = sheet_of(READER, "a", "\r\n".join(lines_).encode())
                         self.assertTrue(sheet.perfect, (lines_[:2], sheet.problem, sheet.problems))
                         self.assertEqual(sheet.problems, ())
             for put in (
@@ -371,99 +376,94 @@ class Forms(unittest.TestCase):
                 "entry={}; kind={}; identity={}; version={}; text={}\n",
             ):
                 text = "".join(put.format(at, *row) for at, row in enumerate(given))
-                sheet = READER.mark("a", text.encode())
+                sheet = sheet_of(READER, "a", text.encode())
                 self.assertTrue(sheet.perfect, (text[:90], sheet.problem, sheet.problems))
         rows_ = ["kind;ESI;version;text", *(";".join(row) for row in cells)]
         rows_[6] = rows_[6][:-3] + "O" + rows_[6][-2:]
-        sheet = READER.mark("a", "\n".join(rows_).encode())
+        sheet = sheet_of(READER, "a", "\n".join(rows_).encode())
         self.assertEqual((sheet.problem, sheet.right, sheet.missing, sheet.unread), (None, 11, (), (5,)))
         self.assertEqual(sheet.problems, ("line 7: text: 'O' is no hexadecimal digit, so it is not read",))
         head = "kind, ESI, version, text\n"
-        table = head + "".join(f"{r[0]:02x}, {r[1:4].hex()}, {r[4:6].hex()}, {r[6:].hex()}\n" for r in RECORDS)
-        self.assertTrue(READER.mark("a", table.encode()).perfect)
+        listed = head + "".join(f"{r[0]:02x}, {r[1:4].hex()}, {r[4:6].hex()}, {r[6:].hex()}\n" for r in RECORDS)
+        self.assertTrue(sheet_of(READER, "a", listed.encode()).perfect)
 
     def test_last_digit(self) -> None:
         """Digits that lack the last one are read, but for the last byte; a digit that is
         lost elsewhere shifts the rest, and is named."""
         for text in (BOOK.hex()[:-1], lines(16)[:-2]):
-            sheet = READER.mark("a", text.encode())
+            sheet = sheet_of(READER, "a", text.encode())
             self.assertEqual((sheet.problem, sheet.right, sheet.left), (None, 11, 20))
             self.assertIn("the last byte has one digit, and is not read", others(sheet))
         said = "this looks like an odd number of hexadecimal digits, 503 (a record is wanted in 42 digits)"
         lost = BOOK.hex()[:99] + BOOK.hex()[100:]
-        self.assertEqual(READER.mark("a", lost.encode()).problem, f"{said}; --as a=bytes marks it all the same")
+        self.assertEqual(sheet_of(READER, "a", lost.encode()).problem, f"{said}; --as a=bytes marks it all the same")
 
     def test_line_ends(self) -> None:
         """Changed line ends are said, and not repaired."""
         record = bytes.fromhex("02") + RECORDS[2][1:10] + b"\n\n" + RECORDS[2][12:]
         book = b"".join([*RECORDS[:2], record, *RECORDS[3:]])
-        self.assertEqual(READER.mark("a", book).right, 11)
-        sheet = READER.mark("a", book.replace(b"\n", b"\r\n"))
-        said = f"{DAMAGED}: its line ends were changed, and each 0a is 0d 0a now"
+        self.assertEqual(sheet_of(READER, "a", book).right, 11)
+        sheet = sheet_of(READER, "a", book.replace(b"\n", b"\r\n"))
+        said = f"{DAMAGED}: bytes were lost or added within it; records in place: 3 counted from the start, 9 counted from the end"
         self.assertEqual(sheet.problem, f"{said}; --as a=bytes marks it all the same")
-        forced = READER.mark("a", book.replace(b"\n", b"\r\n"), "bytes")
+        forced = sheet_of(READER, "a", book.replace(b"\n", b"\r\n"), "bytes")
         self.assertEqual((forced.problem, forced.right), (None, 2))
 
     def test_line_ends_of_the_model(self) -> None:
         """Every change of line ends that a right record shows is named; one that none shows
         is damage all the same, and no bytes in front."""
         plain, sealed = _with_line_ends()
-        reader = Reader(Marker(DESK, SITTING, RING, plain))
+        reader = SealedMarker(DESK, SITTING, RING, plain)
         records = split(sealed, SEALED)
-        changes = {
-            (b"\n", b"\r\n"): "0a is 0d 0a now",
-            (b"\n", b"\r"): "0a is 0d now",
-            (b"\n", b""): "0a is lost",
-            (b"\r\n", b"\n"): "0d 0a is 0a now",
-            (b"\r", b"\n"): "0d is 0a now",
-            (b"\r", b""): "0d is lost",
-        }
-        zeros = reader.mark("a", sealed.replace(b"\0", b"")).problem or ""
+        ends = f"{DAMAGED}: {LINE_ENDS}"
+        zeros = sheet_of(reader, "a", sealed.replace(b"\0", b"")).problem or ""
         self.assertTrue(zeros.startswith(f"{DAMAGED}: each 00 is lost;"), zeros)
         identities = b"".join(r[:1] + bytes([r[1] ^ 0x80]) + r[2:] for r in records)
-        self.assertIn("each 0d is 0a now", noted(reader.mark("a", identities.replace(b"\r", b"\n"))))
-        for (old, new), said in changes.items():
+        self.assertIn(ends, noted(sheet_of(reader, "a", identities.replace(b"\r", b"\n"))))
+        for old, new in (
+            (b"\n", b"\r\n"), (b"\n", b"\r"), (b"\n", b""), (b"\r\n", b"\n"), (b"\r", b"\n"), (b"\r", b"")
+        ):  # fmt: skip
             wrong = records[0][:6] + b"\x8f" * 15
             for book in (sealed, b"".join([wrong, *records[1:]]), b"".join(records[1:])):
                 damaged = book.replace(old, new)
                 self.assertNotEqual(damaged, book)
-                said_of = noted(reader.mark("a", damaged))
-                self.assertIn(f"{DAMAGED}: its line ends were changed, and each {said}", said_of)
-            self.assertTrue(reader.mark("a", sealed).perfect)
+                said_of = noted(sheet_of(reader, "a", damaged))
+                self.assertIn(ends, said_of)
+            self.assertTrue(sheet_of(reader, "a", sealed).perfect)
 
     def test_bytes_within(self) -> None:
         """Bytes that were lost or added within a book, wherever that is."""
         for at in (1, 5, 10):
             for damaged in (BOOK[: 21 * at + 9] + BOOK[21 * at + 10 :], BOOK[: 21 * at] + b"?" + BOOK[21 * at :]):
-                sheet = READER.mark("a", damaged)
+                sheet = sheet_of(READER, "a", damaged)
                 first, last = (at + 1, 11 - at) if len(damaged) < len(BOOK) else (at, 12 - at)
                 counted = f"records in place: {first} counted from the start, {last} counted from the end"
                 said = f"{DAMAGED}: bytes were lost or added within it; {counted}"
                 self.assertEqual(noted(sheet), said)
                 self.assertEqual(sheet.problem is None, 2 * first >= len(damaged) // SEALED)
                 said = f"this looks like a book with bytes lost or added within it; {counted}"
-                self.assertEqual(noted(READER.mark("a", damaged.hex().encode())), said)
+                self.assertEqual(noted(sheet_of(READER, "a", damaged.hex().encode())), said)
 
     def test_truncated(self) -> None:
         """The whole records are marked, and the cut one is said."""
         for cut in (1, 10, 20):
-            sheet = READER.mark("a", BOOK[:-cut])
+            sheet = sheet_of(READER, "a", BOOK[:-cut])
             self.assertEqual((sheet.problem, sheet.right, sheet.left), (None, 11, 21 - cut))
             self.assertIn(f"the last record is cut short: {21 - cut} of 21 bytes", others(sheet))
-        sheet = READER.mark("a", BOOK + b"\n")
+        sheet = sheet_of(READER, "a", BOOK + b"\n")
         self.assertEqual((sheet.problem, sheet.right, sheet.left), (None, 12, 1))
         self.assertEqual(others(sheet), ["1 more byte after the last record"])
 
     def test_wrong_but_ours(self) -> None:
         """A book of this sitting is marked, however wrong: one right identity is enough."""
         wrong = b"".join(record[:6] + bytes(15) for record in RECORDS)
-        self.assertEqual(READER.mark("a", wrong).problem, None)
+        self.assertEqual(sheet_of(READER, "a", wrong).problem, None)
         slip = seal(SITTING._replace(c=SITTING.c[::-1], root=SITTING.root[::-1]))
         one = slip[:-21] + RECORDS[11]
-        self.assertEqual(READER.mark("a", one).problem, None)
+        self.assertEqual(sheet_of(READER, "a", one).problem, None)
         for worked in ("C reversed", "root reversed"):
             other = {"C reversed": {"c": SITTING.c[::-1]}, "root reversed": {"root": SITTING.root[::-1]}}
-            sheet = READER.mark("a", seal(SITTING._replace(**other[worked])))  # type: ignore[arg-type]
+            sheet = sheet_of(READER, "a", seal(SITTING._replace(**other[worked])))  # type: ignore[arg-type]
             self.assertEqual((sheet.problem, sheet.slips[0].name), (None, worked))
 
     def test_bad_content(self) -> None:
@@ -475,12 +475,11 @@ class Forms(unittest.TestCase):
             for _ in range(draw.randint(1, 5)):
                 at = draw.randrange(len(data))
                 data[at : at + draw.randint(0, 3)] = draw.randbytes(draw.randint(0, 3))
-            sheet = READER.mark("a", bytes(data))
+            sheet = sheet_of(READER, "a", bytes(data))
             self.assertTrue(sheet.problem is None or sheet.problem.isprintable())
         start = time.process_time()
         for part in (b"/* ", b"{", b"b'", b"0x", b"00000000 01\n", b"*\n", b"01 ", b"b\"\\", b"\1", b"# \r"):
-            data = part * (MOST_BYTES // len(part))
-            self.assertIsNotNone(READER.mark("a", data).problem, part)
+            self.assertIsNotNone(sheet_of(READER, "a", part * (MOST_BYTES // len(part))).problem, part)
         self.assertLess(time.process_time() - start, 30)
 
     def test_in_time(self) -> None:
@@ -496,11 +495,12 @@ class Forms(unittest.TestCase):
             ("entry kind ESI version sealed text\n", "1", "a"), ("kind,ESI,version,text\n", "1,", "a"),
             ("", '"', ""), ("", "kind: ", ""), ("", "1;2;3;4\n", ""), ("", "/* ", ""),
         ):  # fmt: skip
-            for read in (
-                lambda data: READER.mark("a", data),
-                lambda data: reader.mark("a", data),
-                lambda data: keysheet.read("a", data),
-            ):
+            reads: tuple[Callable[[bytes], object], ...] = (
+                lambda data: sheet_of(READER, "a", data),
+                lambda data: sheet_of(reader, "a", data),
+                lambda data: keyfile.read("a", data),
+            )
+            for read in reads:
                 took = []
                 most = MOST_BYTES if part == " " else MOST_BYTES // 4
                 for size in (most // 2, most):
@@ -515,7 +515,7 @@ class Forms(unittest.TestCase):
         """No pattern over what a candidate wrote has a repeat within another, nor two that
         follow each other and take the same letters."""
         count = 0
-        for module in (handins, forms, answerform, keysheet, opened, texts, files):
+        for module in (handin, forms, answerform, keyfile, answers, line_reading, decoding):
             tree = ast.parse(Path(module.__file__ or "").read_text())
             for node in ast.walk(tree):
                 if not (isinstance(node, ast.Call) and isinstance(node.func, ast.Attribute)):
@@ -531,25 +531,25 @@ class Forms(unittest.TestCase):
         is echoed whole."""
         for data in (RECORDS[0][:6] * 8 * 10_000, bytes([1]) * 21 * 30_000):
             begun = time.process_time()
-            problem = READER.mark("a", data).problem or ""
+            problem = sheet_of(READER, "a", data).problem or ""
             self.assertIn(" records, where the model has 12 and at most 2,048 are compared: ask for", problem)
             self.assertLess(time.process_time() - begun, 5)
-        self.assertEqual(READER.mark("a", BOOK * 5).right, 12)
+        self.assertEqual(sheet_of(READER, "a", BOOK * 5).right, 12)
         long = "Z" * 900_000
         for text in (long, f"{long} = 00", f"entry {long}", f"entry 0 {long}"):
-            said = sheet_text(READER.mark("a", BOOK, "", keysheet.read("a", text.encode())))
-            said += sheet_text(READER.mark("a", text.encode()))
+            said = sheet_text(sheet_of(READER, "a", BOOK, "", keyfile.read("a", text.encode())))
+            said += sheet_text(sheet_of(READER, "a", text.encode()))
             reader = OpenedMarker(DESK, SITTING, RING, BOOK, "handout")
-            said += sheet_text(reader.mark("a", text.encode()))
+            said += sheet_text(sheet_of(reader, "a", text.encode()))
             self.assertLess(len(said), 5000)
 
     def test_forced(self) -> None:
         """A form that is given is not questioned; what can't be read so is said."""
-        self.assertEqual(READER.mark("a", BOOK.hex().encode(), "bytes").problem, None)
+        self.assertEqual(sheet_of(READER, "a", BOOK.hex().encode(), "bytes").problem, None)
         said = "it can't be read as hex: it is no text"
-        self.assertEqual(READER.mark("a", BOOK, "hex").problem, said)
+        self.assertEqual(sheet_of(READER, "a", BOOK, "hex").problem, said)
         said = "it can't be read as hex: line 1, column 2: 'o' is no hexadecimal digit"
-        self.assertEqual(READER.mark("a", b"dog", "hex").problem, said)
+        self.assertEqual(sheet_of(READER, "a", b"dog", "hex").problem, said)
 
 
 class Planted(unittest.TestCase):
@@ -558,16 +558,16 @@ class Planted(unittest.TestCase):
     def test_planted(self) -> None:
         """Each is marked or not as it must be; what is marked is read right, and what is
         not says what it looks like."""
-        readers: dict[str, Reader] = {}
+        readers: dict[str, SealedMarker] = {}
         count = 0
         for each in planted.hand_ins():
             count += 1
             exam = each.exam
             if exam.name not in readers:
                 sitting = Sitting(*exam.sitting)
-                readers[exam.name] = Reader(Marker(DESK, sitting, ring_for(sitting), exam.plain))
+                readers[exam.name] = SealedMarker(DESK, sitting, ring_for(sitting), exam.plain)
             with self.subTest(each.name):
-                sheet = readers[exam.name].mark("ann", each.content)
+                sheet = sheet_of(readers[exam.name], "ann", each.content)
                 if each.marked is not None:
                     self.assertEqual(sheet.problem is None, each.marked, sheet.problem)
                 if sheet.problem is None:
@@ -715,6 +715,57 @@ class Folders(Case):
         self.assertIn("Not marked, for somebody to decide", index)
         self.assertIn("Ann Archer_17-book.txt.html", [path.name for path in (self.folder / "pages").iterdir()])
 
+    def rows(self, name: str, files: dict[str, bytes]) -> tuple[list[dict[str, str]], Any]:
+        """The rows of a class with one candidate's folder, and what the command did."""
+        for file, content in files.items():
+            (self.folder / name / "ann").mkdir(parents=True, exist_ok=True)
+            (self.folder / name / "ann" / file).write_bytes(content)
+        done = self.mark(name, "--csv")
+        return list(csv.DictReader(done.out.decode().splitlines())), done
+
+    def test_one_row(self) -> None:
+        """A candidate's folder is one row: its book, and its keys or answer form whatever they are
+        called, if there is one of each. What is more than that is named."""
+        ring: bytes = DESK.call("ring", *SITTING)["ring"]
+        keys = f"D = {ring[:10].hex()}\nO = {ring[10:26].hex()}\n".encode()
+        of = paper.examination(DESK, SITTING, Heading(), PLAIN_BOOK, "f")
+        blank = as_text(paper.answer_form(of))
+        form = re.sub("(?m)^( *[0-9]+  D \\(DCK\\) +)[_ ]+$", lambda row: row[1] + ring[:10].hex(" "), blank).encode()
+        self.assertNotEqual(form, blank.encode())
+        letter = b"Dear colleague,\nhere is my work.\n"
+        for number, (files, points, status) in enumerate((
+            ({"work.bin": BOOK, "values.txt": keys}, "15", 0),
+            ({"work.bin": BOOK, "x.keys": keys}, "15", 0),
+            ({"work.txt": BOOK.hex().encode(), "form.txt": form}, "13", 0),
+            ({"work.bin": BOOK, "values.txt": keys, "scan.pdf": b"%PDF-1.7"}, "15", 1),
+            ({"work.bin": BOOK, "letter.txt": letter}, "12", 1),
+            ({"a.keys": keys, "work.bin": BOOK, "b.keys": keys}, "12", 1),
+            ({"a.keys": keys, "a.bin": BOOK, "b.keys": keys}, "15", 1),
+            ({"scan.pdf": b"%PDF-1.7", "values.txt": keys}, "3", 1),
+            ({"values.txt": keys}, "3", 1),
+            ({"a.book": BOOK, "b.book": BOOK, "values.txt": keys}, "3", 1),
+        )):  # fmt: skip
+            with self.subTest(sorted(files)):
+                rows, done = self.rows(f"class{number}", files)
+                mine = [row for row in rows if row["candidate"] == "ann"]
+                self.assertEqual([(row["points"], done.status) for row in mine], [(points, status)], done.error)
+                for name in files:  # each is marked, read as keys or named
+                    said = self.mark(f"class{number}", "--dry").out.decode()
+                    self.assertIn(name, said)
+        said = "2 books in this folder, a.book, b.book: keep one, or name the one that counts by itself"
+        self.assertIn(said, mine[0]["problem"])
+        self.assertIn("class9/ann: ", done.error)
+
+    def test_keys_beside_unmarked(self) -> None:
+        """Keys count whatever the book is, and the book counts 0 until somebody decides."""
+        ring: bytes = DESK.call("ring", *SITTING)["ring"]
+        (self.folder / "gus.book").write_bytes(b"%PDF-1.7")
+        (self.folder / "gus.keys").write_text(f"D = {ring[:10].hex()}\nO = {ring[10:26].hex()}\n")
+        done = self.mark("gus.book", "--csv")
+        row = next(csv.DictReader(done.out.decode().splitlines()))
+        self.assertEqual((row["right"], row["points"], row["of points"], done.status), ("0", "3", "15", 1))
+        self.assertIn("the book is not marked, and counts 0 until somebody decides", row["problem"])
+
     def test_passed_over(self) -> None:
         """Whatever may be somebody's work and is not marked is named, and its candidate."""
         (self.room / "dee.keys").write_text("D = 00\n")
@@ -786,7 +837,7 @@ class Folders(Case):
         """Where a shell names the keys among the hand-ins, they are those of their book."""
         names = sorted(path.relative_to(self.folder) for path in self.room.glob("ann.*"))
         self.assertEqual([name.name for name in names], ["ann.book", "ann.keys"])
-        for given in (names, names[::-1], [*names, "class/ben.hex"]):
+        for given in (names, names[::-1], [*names, Path("class/ben.hex")]):
             done = self.mark(*given)
             self.assertEqual((done.status, done.error), (0, ""))
             self.assertIn("class/ann.book: 12 of 12 entries right; opens\n  right: D\n", done.out.decode())
@@ -799,7 +850,7 @@ class Folders(Case):
 
     def test_keys_by_old_lines(self) -> None:
         """Lines of keys may end as a Mac's or a DOS machine's, in UTF-16."""
-        ring = DESK.call("ring", *SITTING)["ring"]
+        ring: bytes = DESK.call("ring", *SITTING)["ring"]
         text = f"D = {ring[:10].hex()}\rO = {ring[10:26].hex()}\r"
         for data in (text.encode(), text.replace("\r", "\r\n").encode("utf-16")):
             (self.room / "ann.keys").write_bytes(data)

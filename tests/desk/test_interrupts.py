@@ -11,7 +11,7 @@ from types import FrameType
 from typing import Any, Callable, Optional
 
 from common import CLASS, COMMAND, ROOT, Case
-from taa1_desk import files
+from taa1_desk.command import files, interrupts
 
 OLD = {"a.html": b"old a", "b.html": b"old b", "unwanted.html": b"old"}
 NEW = {"a.html": b"new a", "b.html": b"new b", "c.html": b"new c"}
@@ -67,7 +67,7 @@ class Hearing(Case):
     def setUp(self) -> None:
         """Sets them as for a command in the foreground."""
         super().setUp()
-        for number in files.SIGNALS:
+        for number in interrupts.SIGNALS:
             usual: Any = signal.default_int_handler if number == signal.SIGINT else signal.SIG_DFL
             self.addCleanup(signal.signal, number, signal.signal(number, usual))
 
@@ -82,7 +82,7 @@ class Lines(Hearing):
         def trace(frame: FrameType, event: str, arg: Any) -> Any:
             nonlocal lines
             code = frame.f_code
-            if code.co_filename != files.__file__ or code.co_name in ("interruptible", "interrupt"):
+            if code.co_filename not in (files.__file__, interrupts.__file__) or code.co_name in ("interruptible", "interrupt"):
                 return None
             if event == "line":
                 lines += 1
@@ -91,13 +91,13 @@ class Lines(Hearing):
             return trace
 
         try:
-            with files.interruptible():
+            with interrupts.interruptible():
                 sys.settrace(trace)
                 try:
                     work()
                 finally:
                     sys.settrace(None)
-        except files.Interrupted as interrupted:
+        except interrupts.Interrupted as interrupted:
             self.assertEqual(interrupted.number, number)
             return True
         return None if lines < at else False
@@ -108,7 +108,7 @@ class Lines(Hearing):
 
     def every_line(self, work: Callable[[], None], before: dict[str, bytes], after: dict[str, bytes]) -> None:
         """The folder is as before or as after, wherever the signal comes."""
-        handlers = [signal.getsignal(each) for each in files.SIGNALS]
+        handlers = [signal.getsignal(each) for each in interrupts.SIGNALS]
         seen = set()
         for number in (signal.SIGINT, signal.SIGTERM):
             at, came = 0, None
@@ -122,8 +122,8 @@ class Lines(Hearing):
                 self.assertIn(self.content(), (before, after), at)
                 seen.add((came, self.content() == after))
             self.assertGreater(at, 10)
-        self.assertEqual(handlers, [signal.getsignal(each) for each in files.SIGNALS])
-        self.assertEqual(signal.pthread_sigmask(signal.SIG_BLOCK, ()) & files.SIGNALS, set())
+        self.assertEqual(handlers, [signal.getsignal(each) for each in interrupts.SIGNALS])
+        self.assertEqual(signal.pthread_sigmask(signal.SIG_BLOCK, ()) & interrupts.SIGNALS, set())
         self.assertLessEqual({(True, False), (True, True), (None, True)}, seen)
 
     def test_folder(self) -> None:
@@ -146,7 +146,7 @@ class Command(Hearing):
 
     def test_importing(self) -> None:
         """From our first line on."""
-        for module in ("taa1", "taa1.engine", "ctypes", "argparse", "taa1_desk.cli", "taa1_desk.slips"):
+        for module in ("taa1", "taa1.engine", "ctypes", "argparse", "taa1_desk.cli", "taa1_desk.marking.slips"):
             with self.subTest(module):
                 command = [sys.executable, "-c", IMPORTING, module, str(ROOT / "taa1"), "slips"]
                 done = subprocess.run(command, capture_output=True, check=False, timeout=60)
@@ -239,7 +239,7 @@ class Command(Hearing):
         """A signal that was ignored before is ignored still, as for a job in the background."""
         code = "import signal, sys; signal.signal(signal.SIGINT, signal.SIG_IGN); "
         code += "import os; os.execv(sys.argv[1], sys.argv[1:])"
-        command = [sys.executable, "-c", code, *COMMAND, "list"]
+        command = [sys.executable, "-c", code, *COMMAND, "book", "--lines"]
         run = subprocess.Popen(command, stdin=subprocess.PIPE, stdout=subprocess.PIPE, stderr=subprocess.PIPE)
         wait_for(run, "SigIgn", signal.SIGINT)
         run.send_signal(signal.SIGINT)

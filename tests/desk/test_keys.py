@@ -3,22 +3,31 @@
 from __future__ import annotations
 
 import json
+import random
 import unittest
 from fractions import Fraction
+from unittest import mock
 
-from common import CLASS, DESK, ENTRIES, LINES, PLAIN_BOOK, RING, SITTING, Case, ring_for, seal, taa1
-from taa1_desk.keysheet import KeyFile, parse
-from taa1_desk.mark import Marker
+from common import CLASS, DESK, ENTRIES, LINES, PLAIN_BOOK, RING, SITTING, Case, book_sheet, ring_for, seal, taa1
+from said import SEALING
+from taa1_desk.asked import KEYS
+from taa1_desk.handed import KeyFile
+from taa1_desk.marking.counting import counts, summary
+from taa1_desk.marking.scoring import score
+from taa1_desk.marking.sealed import SealedMarker
+from taa1_desk.marking.slipped import work
+from taa1_desk.marking.slips import SLIPS
+from taa1_desk.marking.working import Steps
 from taa1_desk.names import field
+from taa1_desk.points import Points, said
+from taa1_desk.reading.keyfile import parse
+from taa1_desk.reading.schemes import DEFAULT
+from taa1_desk.reading.schemes import parse as parse_scheme
 from taa1_desk.records import KINDS, SEALED, split
-from taa1_desk.results import counts, key_result
-from taa1_desk.scheme import DEFAULT, Points, said, score
-from taa1_desk.scheme import parse as parse_scheme
-from taa1_desk.sheets import sheet_text, summary
-from taa1_desk.slips import SLIPS
-from taa1_desk.working import KEYS, Steps
+from taa1_desk.showing.result import key_result
+from taa1_desk.showing.sheet_text import sheet_text
 
-MARKER = Marker(DESK, SITTING, RING, PLAIN_BOOK)
+MARKER = SealedMarker(DESK, SITTING, RING, PLAIN_BOOK)
 MODEL = MARKER.model
 VALUES = {name: value or b"" for name, value in Steps(DESK).keys(SITTING).items()}
 SCHEME = parse_scheme(DEFAULT, "the default")
@@ -26,7 +35,7 @@ SCHEME = parse_scheme(DEFAULT, "the default")
 
 def points(records: list[bytes], scheme: str = "", keys: dict[str, bytes] = {}) -> Points:
     """The points of a book by a scheme."""
-    sheet = MARKER.mark("book", b"".join(records), KeyFile(keys))
+    sheet = book_sheet(MARKER, "book", b"".join(records), KeyFile(keys))
     return score(parse_scheme(scheme, "scheme"), sheet)
 
 
@@ -70,7 +79,7 @@ class Values(unittest.TestCase):
 
     def said(self, **values: bytes) -> list[str]:
         file = KeyFile({name.replace("_", " "): value for name, value in values.items()})
-        return sheet_text(MARKER.mark("book", b"".join(MODEL), file)).splitlines()[1:]
+        return sheet_text(book_sheet(MARKER, "book", b"".join(MODEL), file)).splitlines()[1:]
 
     def test_another(self) -> None:
         """A value that is another one of the model's is called so."""
@@ -83,11 +92,11 @@ class Values(unittest.TestCase):
         for value in ("session key", "response", "key"):
             one, two = f"{value} 1", f"{value} 2"
             values = {**VALUES, one: VALUES[two], two: VALUES[one]}
-            (slip,) = MARKER.mark("book", b"".join(MODEL), KeyFile(values)).slips
+            (slip,) = book_sheet(MARKER, "book", b"".join(MODEL), KeyFile(values)).slips
             self.assertEqual((slip.name, slip.keys), (f"{value}s 1 and 2 exchanged", (one, two)))
         sitting = SITTING._replace(rs=SITTING.rs[::-1])
         made = {name: value or b"" for name, value in Steps(DESK).keys(sitting).items()}
-        (slip,) = MARKER.mark("book", seal(sitting), KeyFile(made)).slips
+        (slip,) = book_sheet(MARKER, "book", seal(sitting), KeyFile(made)).slips
         self.assertEqual(slip.name, "RS reversed")
 
     def test_refuted(self) -> None:
@@ -95,18 +104,18 @@ class Values(unittest.TestCase):
         own = {"session key 1": bytes(16)}
         sitting = SITTING._replace(rand2=SITTING.rand2[::-1])
         made = {name: value or b"" for name, value in Steps(DESK).keys(sitting, own).items()}
-        (slip,) = MARKER.mark("book", b"".join(MODEL), KeyFile({**made, **own})).slips
-        self.assertEqual((slip.name, slip.others), ("TA22's challenge reversed (RAND2)", ()))
+        (slip,) = book_sheet(MARKER, "book", b"".join(MODEL), KeyFile({**made, **own})).slips
+        self.assertEqual((slip.name, slip.others), (SEALING["ta22-reversed"], ()))
 
     def test_one_challenge(self) -> None:
         """Where one side runs, no slip speaks of both challenges."""
         sitting = SITTING._replace(sides=1)
-        marker = Marker(DESK, sitting, ring_for(sitting), PLAIN_BOOK)
+        marker = SealedMarker(DESK, sitting, ring_for(sitting), PLAIN_BOOK)
         for rand1, name in (
-            (SITTING.rand1[::-1], "TA12's challenge reversed (RAND1)"),
+            (SITTING.rand1[::-1], SEALING["ta12-reversed"]),
             (SITTING.rand2, "RAND2 for RAND1"),
         ):
-            (slip,) = marker.mark("book", seal(sitting._replace(rand1=rand1))).slips
+            (slip,) = book_sheet(marker, "book", seal(sitting._replace(rand1=rand1))).slips
             self.assertEqual((slip.name, slip.others), (name, ()))
 
     def test_slips_under_own_keys(self) -> None:
@@ -127,17 +136,66 @@ class Values(unittest.TestCase):
                 steps.sealed(entry, ring, strings) if place in places else follows[place]
                 for place, entry in enumerate(ENTRIES)
             ]
-            sheet = MARKER.mark("book", b"".join(book), KeyFile({"D": own}))
+            sheet = book_sheet(MARKER, "book", b"".join(book), KeyFile({"D": own}))
             (slip,) = sheet.slips
             self.assertEqual((slip.name, slip.entries, slip.own, slip.part), (name, places, True, ""))
             self.assertEqual(sheet.following, len(set(ones) - set(places)))
             self.assertIn(", worked from the candidate's own keys\n", sheet_text(sheet))
 
+    def test_follows_by_bytes(self) -> None:
+        """A record follows that is some entry's under own keys, byte for byte, wherever it stands
+        and whatever stands in that entry's place; each entry counts once, and none that is right."""
+        own = KeyFile({"D": bytes(range(10))})
+        under = split(DESK.call("seal_book", RING._replace(d=bytes(range(10))).data, PLAIN_BOOK)["out"], SEALED)
+        decoy = MODEL[0][:6] + bytes(15)
+        for records, follow, right in (
+            ([decoy, *MODEL[2:], under[0]], 1, 10),  # the decoy has the entry's place, and its head
+            ([under[1], under[0], *MODEL[2:]], 2, 10),
+            ([under[0], under[0], *MODEL[2:]], 1, 10),
+            ([under[0], *MODEL[:2], *MODEL[2:]], 0, 12),
+            ([under[0], MODEL[1], *MODEL[2:]], 1, 11),
+        ):
+            sheet = book_sheet(MARKER, "book", b"".join(records), own)
+            self.assertEqual((sheet.following, sheet.right), (follow, right))
+            made = score(SCHEME, sheet)
+            self.assertEqual(made.of("entries right under own keys"), Fraction(follow, 2))
+
+    def test_guess_decides_no_point(self) -> None:
+        """Whatever a wrong record is taken for, the points are the same."""
+        draw = random.Random(7)
+        scheme = parse_scheme("redundancy byte = 1/7\norder = -1/3\n", "scheme")
+        ring = RING._replace(o=bytes(range(16)), d=bytes(range(10)))
+        under = split(DESK.call("seal_book", ring.data, PLAIN_BOOK)["out"], SEALED)
+        slips = [worked.records for worked in work(DESK, SITTING, PLAIN_BOOK)]
+        file = KeyFile({"D": ring.d, "O": ring.o})
+        different = 0
+        for _ in range(60):
+            pool = [*MODEL, *under, *(record for _ in range(3) for record in draw.choice(slips).values())]
+            records = draw.choices(pool, k=draw.randint(1, 16))
+            for at in range(0, len(records), 3):
+                other = draw.choice(MODEL)
+                records[at] = draw.choice((records[at], records[at][:6] + other[6:], other[:6] + draw.randbytes(15)))
+            book = b"".join(records)
+            found = []
+            for sign in (1, -1, 0):
+                signs = MARKER.book.signs_of
+                turned = lambda record, sign=sign, signs=signs: {at: sign * w for at, w in signs(record).items() if sign}  # noqa: E731
+                with mock.patch.object(MARKER.book, "signs_of", turned):
+                    sheet = book_sheet(MARKER, "book", book, file)
+                made = score(scheme, sheet)
+                found.append((made.sum, made.most, sheet.right, sheet.following, sheet.extra, len(sheet.missing)))
+                different += [entry.model for entry in sheet.entries] != [
+                    entry.model for entry in book_sheet(MARKER, "book", book, file).entries
+                ]
+            self.assertEqual(found[0], found[1], records)
+            self.assertEqual(found[0], found[2], records)
+        self.assertGreater(different, 10)  # the guess did matter elsewhere
+
     def test_unread(self) -> None:
         """A value that can't be read is handed in, and wrong."""
         for digits in ("0" * 31, "hello", "0102"):
             file = parse(f"O = {digits}\nG = {VALUES['G'].hex()}\n")
-            sheet = MARKER.mark("book", b"".join(MODEL), file)
+            sheet = book_sheet(MARKER, "book", b"".join(MODEL), file)
             self.assertEqual([mark.state for mark in sheet.keys.marks], ["wrong", "right"])
             made = score(SCHEME, sheet)
             self.assertEqual((made.sum, made.most, sheet.slips), (13, 15, ()))
@@ -148,13 +206,14 @@ class Values(unittest.TestCase):
         """What a side has that does not run is not asked for: it gives and costs nothing."""
         for sides, idle in ((1, "2"), (2, "1")):
             sitting = SITTING._replace(sides=sides)
-            marker = Marker(DESK, sitting, ring_for(sitting), PLAIN_BOOK)
+            marker = SealedMarker(DESK, sitting, ring_for(sitting), PLAIN_BOOK)
             values = {n: v for n, v in Steps(DESK).keys(sitting).items() if v and n[-1] != idle}
             names = [f"{name} {idle}" for name in ("session key", "response", "key")]
             zeros = dict(zip(names, (bytes(16), bytes(4), bytes(10))))
             other = {name: VALUES[name] for name in names}
-            for more in ({}, zeros, other):
-                sheet = marker.mark("book", b"".join(marker.model), KeyFile({**values, **more}))
+            none: dict[str, bytes] = {}
+            for more in (none, zeros, other):
+                sheet = book_sheet(marker, "book", b"".join(marker.model), KeyFile({**values, **more}))
                 made = score(SCHEME, sheet)
                 self.assertEqual((made.sum, made.most), (12 + 8, 12 + 8))
                 states = {mark.name: mark.state for mark in sheet.keys.marks}
@@ -167,14 +226,14 @@ class Values(unittest.TestCase):
         own = bytes(10)
         ring = RING._replace(d=DESK.call("tb4", own, VALUES["key 2"])["bytes"])
         sealed = DESK.call("seal_book", ring.data, PLAIN_BOOK)["out"]
-        sheet = MARKER.mark("book", sealed, KeyFile({"key 1": own}))
+        sheet = book_sheet(MARKER, "book", sealed, KeyFile({"key 1": own}))
         self.assertEqual([entry.follows for entry in sheet.entries[:3]], ["D", "D", ""])
 
     def test_given_key(self) -> None:
         """C is given; a wrong one explains identities."""
         own = bytes(range(10))
         sealed = DESK.call("seal_book", RING._replace(c=own).data, PLAIN_BOOK)["out"]
-        sheet = MARKER.mark("book", sealed, KeyFile({"C": own}))
+        sheet = book_sheet(MARKER, "book", sealed, KeyFile({"C": own}))
         self.assertEqual((sheet.right, sheet.following), (0, 12))
 
 
@@ -196,7 +255,7 @@ class Schemes(unittest.TestCase):
         ):
             with self.assertRaisesRegex(Exception, f"^scheme, line 1: {problem}$"):
                 parse_scheme(line, "scheme")
-        with self.assertRaisesRegex(Exception, "^scheme, line 2: order for the second time$"):
+        with self.assertRaisesRegex(Exception, "^scheme, line 2: order for the second time, after line 1$"):
             parse_scheme("order = -1\norder = -2", "scheme")
 
     def test_signs(self) -> None:
@@ -242,7 +301,7 @@ class Schemes(unittest.TestCase):
         the words, the counts and the points agree."""
         for often in (1, 2, 11, 12, 20):
             book = [MODEL[0]] * often + MODEL[often:]
-            sheet = MARKER.mark("book", b"".join(book))
+            sheet = book_sheet(MARKER, "book", b"".join(book))
             made = points(book)
             self.assertEqual((sheet.extra, counts(sheet).extra), (often - 1, often - 1))
             self.assertEqual(made.of("extra records"), 1 - often)
@@ -303,7 +362,7 @@ class Schemes(unittest.TestCase):
             (KeyFile({**VALUES, "O": bytes(2)}), False),
             (parse("O = 0102030"), False),
         ):
-            sheet = MARKER.mark("book", b"".join(MODEL), keys)
+            sheet = book_sheet(MARKER, "book", b"".join(MODEL), keys)
             self.assertEqual((sheet.right, sheet.perfect), (12, perfect))
             self.assertEqual(summary([sheet]).perfect, int(perfect))
 

@@ -14,6 +14,7 @@ import types
 import unittest
 import venv
 import zipfile
+from typing import Any, Callable
 from unittest import mock
 
 import make_wheel
@@ -21,7 +22,7 @@ import taa1
 from common import DESK, ROOT, Case
 from taa1 import library
 
-ENGINE = DESK.engine
+ENGINE = DESK.host
 KEY = bytes(range(16))
 
 
@@ -136,12 +137,13 @@ cat crates/engine/src/*.rt /proc/sys/kernel/random/uuid >target/staticlib/libeng
         other = self.source.with_name("other.rt")
         paths = (self.source, self.source.parent, self.edit, self.list, other)
         for moment in (None, 0):
-            for change in (
+            changes: tuple[Callable[[], Any], ...] = (
                 lambda: self.source.write_text(f"changed {moment}\n"),
                 lambda: other.write_text("added\n"),
                 lambda: other.replace(self.source),
                 lambda: self.list.write_text(f"engine: {moment}\n"),
-            ):
+            )
+            for change in changes:
                 change()
                 if moment is not None:
                     for path in filter(os.path.exists, paths):

@@ -10,21 +10,24 @@ import unittest
 from typing import Any
 from unittest import mock
 
-from common import CLASS, DESK, ENTRIES, PLAIN_BOOK, ROOT, Case, here, ring_for, taa1
+from common import CLASS, DESK, ENTRIES, PLAIN_BOOK, ROOT, Case, book_sheet, here, ring_for, taa1
 from common import SITTING as SAMPLE
 from common import seal as sealed_under
 from taa1 import Sitting
 from taa1.binding import Binding
-from taa1_desk.mark import Marker, Sheet
+from taa1_desk.command.inputs import read_sitting
+from taa1_desk.marking.clauses import STEPS
+from taa1_desk.marking.sealed import SealedMarker
+from taa1_desk.marking.slipped import work
+from taa1_desk.marking.slips import SLIPS, slips_of
+from taa1_desk.reading.sittings import sitting_bytes
 from taa1_desk.records import KINDS, SEALED, Entry, split
-from taa1_desk.slips import SLIPS, slips_of, work
-from taa1_desk.texts import read_sitting, sitting_bytes
-from taa1_desk.working import STEPS
+from taa1_desk.sheet import Sheet
 
 # The sample's masks are the same from either end.
 SITTING = SAMPLE._replace(response_mask=0x1221, key_mask=0x4DDE)
 RING = ring_for(SITTING)
-MARKER = Marker(DESK, SITTING, RING, PLAIN_BOOK)
+MARKER = SealedMarker(DESK, SITTING, RING, PLAIN_BOOK)
 MODEL = MARKER.model
 
 # Exchanged masks make a D of four bytes, and no book; with both sides, the other is no slip.
@@ -51,7 +54,8 @@ def sealed_with(**inputs: object) -> bytes:
 
 def under(**keys: bytes) -> bytes:
     """The model's book under a ring with other keys."""
-    return DESK.call("seal_book", RING._replace(**keys).data, PLAIN_BOOK)["out"]
+    sealed: bytes = DESK.call("seal_book", RING._replace(**keys).data, PLAIN_BOOK)["out"]
+    return sealed
 
 
 def with_kinds(**kinds: int) -> bytes:
@@ -106,7 +110,7 @@ PLANTED: dict[str, bytes] = {
     "O for G": under(g=RING.o),
     "G for O": under(o=RING.g),
     "G and O exchanged": under(g=RING.o, o=RING.g),
-    "group key filled with zeros for its TB7 form": under(g=S.group_key + bytes(4)),
+    "group key filled with zeros for its TB7 form": under(g=bytes(S.group_key) + bytes(4)),
     "root for O": under(o=S.root),
     "kind 2 for kind 5": with_kinds(k5=2),
     "kind 5 for kind 2": with_kinds(k2=5),
@@ -183,8 +187,8 @@ class Slips(unittest.TestCase):
         for sides, derives, answers, others in ((1, "TA11", "TA12", "TA2"), (2, "TA21", "TA22", "TA1")):
             same = "TA21 for TA11" if sides == 1 else "TA11 for TA21"
             sitting = SITTING._replace(sides=sides)
-            marker = Marker(DESK, sitting, ring_for(sitting), PLAIN_BOOK)
-            (slip,) = marker.mark("a", seal(sitting._replace(rs=SITTING.rs[::-1]))).slips
+            marker = SealedMarker(DESK, sitting, ring_for(sitting), PLAIN_BOOK)
+            (slip,) = book_sheet(marker, "a", seal(sitting._replace(rs=SITTING.rs[::-1]))).slips
             self.assertEqual({slip.name, *slip.others}, {"RS reversed", same})
             steps = {each.name: each.step_in(sides) for each in slips_of(sitting)}
             self.assertEqual(steps["RS reversed"], (derives, f"5.6.{sides}"))
@@ -207,7 +211,7 @@ class Slips(unittest.TestCase):
             MODEL[at][:4] + MODEL[other][4:6] + MODEL[at][6:] for at, other in ((4, 7), (7, 4))
         )
         for records in (seal(plain=book(sealed)), b"".join(written)):
-            (slip,) = MARKER.mark("a", records).slips
+            (slip,) = book_sheet(MARKER, "a", records).slips
             self.assertEqual((slip.name, slip.entries), ("two entries' versions exchanged", (4, 7)))
 
     def test_clauses(self) -> None:
@@ -224,14 +228,14 @@ class Slips(unittest.TestCase):
                 worked.records[at] if entry.kind in kinds else MODEL[at]
                 for at, entry in enumerate(ENTRIES)
             ]
-            (found,) = MARKER.mark("a", b"".join(book)).slips
+            (found,) = book_sheet(MARKER, "a", b"".join(book)).slips
             self.assertEqual((found.name, found.step), (slip.name, ("key and number joined", clause)))
 
     def test_planted(self) -> None:
         """Books worked apart from the table: the slip explains every wrong entry."""
         for name, sealed in PLANTED.items():
             with self.subTest(name):
-                sheet = MARKER.mark(name, sealed)
+                sheet = book_sheet(MARKER, name, sealed)
                 wrong = records_of(sheet, "wrong")
                 self.assertTrue(wrong)
                 self.assertEqual(len(wrong) + sheet.right, len(MODEL))
@@ -247,7 +251,7 @@ class Slips(unittest.TestCase):
                 continue
             with self.subTest(each.slip.name):
                 sealed = b"".join(each.records.get(i, record) for i, record in enumerate(MODEL))
-                sheet = MARKER.mark("book", sealed)
+                sheet = book_sheet(MARKER, "book", sealed)
                 named = {name for slip in sheet.slips for name in (slip.name, *slip.others)}
                 self.assertIn(each.slip.name, named)
                 explained = sorted(i for slip in sheet.slips for i in slip.entries)
@@ -257,7 +261,7 @@ class Slips(unittest.TestCase):
         """Two slips in different entries are both named."""
         one, other = (split(PLANTED[name], SEALED) for name in ("RSO reversed", "kind 2 for kind 5"))
         mixed = [b if entry.kind == 5 else a for entry, a, b in zip(ENTRIES, one, other)]
-        sheet = MARKER.mark("book", b"".join(mixed))
+        sheet = book_sheet(MARKER, "book", b"".join(mixed))
         self.assertEqual(
             [(slip.name, len(slip.entries)) for slip in sheet.slips],
             [("RSO reversed", 6), ("kind 2 for kind 5", 2)],
@@ -266,15 +270,15 @@ class Slips(unittest.TestCase):
     def test_one_identity(self) -> None:
         """A model of one radio's entries: texts show which entry is meant, wherever it stands."""
         plain = book([entry._replace(identity=0x00A001) for entry in ENTRIES])
-        marker = Marker(DESK, SITTING, RING, plain)
+        marker = SealedMarker(DESK, SITTING, RING, plain)
         slipped = split(seal(SITTING._replace(rso=SITTING.rs), plain), SEALED)
-        sheet = marker.mark("book", b"".join(slipped[1:]))
+        sheet = book_sheet(marker, "book", b"".join(slipped[1:]))
         self.assertEqual((sheet.right, sheet.missing), (5, (0,)))
         self.assertEqual([(s.name, len(s.entries)) for s in sheet.slips], [("RS for RSO", 6)])
 
     def test_the_likelier(self) -> None:
         """RS for RSO leaves D right, and RS and RSO exchanged would not."""
-        sheet = MARKER.mark("book", PLANTED["RS for RSO"])
+        sheet = book_sheet(MARKER, "book", PLANTED["RS for RSO"])
         self.assertEqual([(s.name, s.others) for s in sheet.slips], [("RS for RSO", ())])
 
 
@@ -282,7 +286,7 @@ class Books(unittest.TestCase):
     """What else can be wrong."""
 
     def mark(self, records: list[bytes], left: bytes = b"") -> Sheet:
-        return MARKER.mark("book", b"".join(records) + left)
+        return book_sheet(MARKER, "book", b"".join(records) + left)
 
     def test_right(self) -> None:
         sheet = self.mark(MODEL)
@@ -332,11 +336,11 @@ class Books(unittest.TestCase):
     def test_alike_entries(self) -> None:
         """A model that has an entry twice wants it twice."""
         plain = ENTRIES[0].data * 2 + ENTRIES[1].data
-        marker = Marker(DESK, SITTING, RING, plain)
+        marker = SealedMarker(DESK, SITTING, RING, plain)
         records = split(seal(plain=plain), SEALED)
-        self.assertTrue(marker.mark("book", b"".join(records[::-1])).perfect)
-        self.assertEqual(marker.mark("book", b"".join(records[1:])).missing, (1,))
-        third = marker.mark("book", b"".join([*records, records[0]]))
+        self.assertTrue(book_sheet(marker, "book", b"".join(records[::-1])).perfect)
+        self.assertEqual(book_sheet(marker, "book", b"".join(records[1:])).missing, (1,))
+        third = book_sheet(marker, "book", b"".join([*records, records[0]]))
         self.assertEqual(records_of(third, "doubled"), [3])
 
     def test_fields(self) -> None:
@@ -348,7 +352,7 @@ class Books(unittest.TestCase):
             (8, "number", 7),
             (6, "key", bytes(12)),
         ):
-            entry = ENTRIES[at]._replace(**{field: value})
+            entry = ENTRIES[at]._replace(**{field: value})  # type: ignore[arg-type]
             record = split(seal(plain=entry.data), SEALED)[0]
             sheet = self.mark([*MODEL[:at], record, *MODEL[at + 1 :]])
             self.assertEqual((sheet.right, records_of(sheet, "wrong")), (11, [at]))
@@ -396,10 +400,10 @@ class Books(unittest.TestCase):
             for entry in (ENTRIES * 9)[:100]
         ]
         start = time.monotonic()
-        marker = Marker(DESK, SITTING, RING, book(entries))
+        marker = SealedMarker(DESK, SITTING, RING, book(entries))
         for _ in range(50):
             records = [r if draw.random() < 0.5 else draw.randbytes(SEALED) for r in marker.model]
-            self.assertEqual(len(marker.mark("book", b"".join(records)).entries), 100)
+            self.assertEqual(len(book_sheet(marker, "book", b"".join(records)).entries), 100)
         self.assertLess(time.monotonic() - start, 30)
 
 

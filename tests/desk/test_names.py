@@ -6,9 +6,9 @@ from common import DESK, ENTRIES, RING, Case, taa1
 from taa1 import Refused
 from taa1.calls import CALLS
 from taa1_desk import names
-from taa1_desk.model import STEPS
+from taa1_desk.asked import MADE as STEPS
+from taa1_desk.reading.sittings import SITTING
 from taa1_desk.records import KINDS
-from taa1_desk.texts import SITTING
 
 
 class Names(Case):

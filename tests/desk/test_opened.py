@@ -7,18 +7,24 @@ import unittest
 from fractions import Fraction
 from unittest import mock
 
-from common import CLASS, DESK, ENTRIES, LINES, PLAIN_BOOK, RING, SITTING, Case, seal, taa1
-from taa1_desk import scheme
-from taa1_desk.damage import Damage, damaged
-from taa1_desk.files import Problem
-from taa1_desk.keysheet import KeyFile, KeyMarker
-from taa1_desk.lineends import DAMAGED as BROKEN
-from taa1_desk.mark import Marker, Sheet
-from taa1_desk.opened import OpenedMarker
+from common import CLASS, DESK, ENTRIES, LINES, PLAIN_BOOK, RING, SITTING, Case, seal, sheet_of, taa1
+from taa1_desk.handed import KeyFile
+from taa1_desk.marking.keys import KeyMarker
+from taa1_desk.marking.opened import OpenedMarker
+from taa1_desk.marking.opening_slips import OPENING_SLIPS
+from taa1_desk.marking.scoring import score
+from taa1_desk.marking.sealed import SealedMarker
+from taa1_desk.marking.slipped import opened
+from taa1_desk.marking.slips import SLIPS
+from taa1_desk.marking.working import Steps
+from taa1_desk.problems import Problem
+from taa1_desk.reading import schemes
+from taa1_desk.reading.lineends import DAMAGED as BROKEN
+from taa1_desk.reading.lineends import LINE_ENDS
 from taa1_desk.records import KINDS, PLAIN, SEALED, split
-from taa1_desk.sheets import sheet_text
-from taa1_desk.slips import OPENING_SLIPS, SLIPS, opened
-from taa1_desk.working import Steps
+from taa1_desk.setting.damage import Damage, damaged
+from taa1_desk.sheet import Sheet
+from taa1_desk.showing.sheet_text import sheet_text
 
 SEALED_BOOK = seal()
 DAMAGED = damaged(DESK, RING, ENTRIES, SEALED_BOOK, [Damage(2, 4), Damage(6)])
@@ -27,11 +33,10 @@ TRUE = [line for line in LINES.splitlines() if line.startswith("entry ")]
 TRUE[2], TRUE[6] = "entry 2 flag", "entry 6 flag"
 
 
-ENDS = "its line ends were changed, and each"
 
 
 def mark(*lines: str) -> Sheet:
-    return MARKER.mark("hand-in", "\n".join(lines).encode())
+    return sheet_of(MARKER, "hand-in", "\n".join(lines).encode())
 
 
 def but(index: int, line: str) -> Sheet:
@@ -51,12 +56,12 @@ class FollowThrough(unittest.TestCase):
         lines = [
             f"entry {at} flag" if each.failed else line for at, (each, line) in enumerate(zip(under, TRUE))
         ]
-        sheet = MARKER.mark("a", "\n".join(lines).encode(), "", own)
+        sheet = sheet_of(MARKER, "a", "\n".join(lines).encode(), "", own)
         states = {entry.index: entry.state for entry in sheet.entries}
         self.assertEqual((states[2], states[6]), ("right", "right"))
         self.assertEqual([e.index for e in sheet.entries if e.follows and e.state == "right"], [])
         self.assertEqual(sheet.following, sum(each.failed > 0 for each in under) - 2)
-        points = scheme.score(scheme.parse(scheme.DEFAULT, ""), sheet)
+        points = score(schemes.parse(schemes.DEFAULT, ""), sheet)
         self.assertEqual(points.of("entries right"), sheet.right)
         self.assertEqual(points.of("entries right under own keys"), Fraction(sheet.following, 2))
 
@@ -69,15 +74,16 @@ class FollowThrough(unittest.TestCase):
                 with self.assertRaisesRegex(Problem, "is not what the engine answers"):
                     OpenedMarker(DESK, SITTING, RING, DAMAGED, "handout")
                 with self.assertRaisesRegex(Problem, "is not what the engine answers"):
-                    Marker(DESK, SITTING, RING, PLAIN_BOOK)
+                    SealedMarker(DESK, SITTING, RING, PLAIN_BOOK)
 
     def test_keys_by_calls(self) -> None:
         """What follows from own values is what the steps give, and takes no step."""
         marker = KeyMarker(DESK, SITTING, RING)
-        for own in (
+        owns: tuple[dict[str, bytes], ...] = (
             {}, {"session key 1": bytes(16)}, {"session key 2": bytes(range(16)), "key 1": bytes(10)},
             {"key 2": bytes(range(10))},
-        ):  # fmt: skip
+        )  # fmt: skip
+        for own in owns:
             self.assertEqual(marker.worked(own), Steps(DESK).keys(SITTING, own))
             with mock.patch.object(Steps, "keys", side_effect=AssertionError):
                 marker.mark(KeyFile(own))
@@ -236,7 +242,7 @@ class Lines(unittest.TestCase):
             for i, o in enumerate(made)
         ]
         keys = KeyFile({"D": ring.d})
-        (found,) = MARKER.mark("hand-in", "\n".join(lines).encode(), "", keys).slips
+        (found,) = sheet_of(MARKER, "hand-in", "\n".join(lines).encode(), "", keys).slips
         self.assertEqual((found.name, found.entries, found.own), (slip.name, ones, True))
         self.assertEqual(mark(*lines).slips, ())
 
@@ -271,7 +277,7 @@ class Lines(unittest.TestCase):
         records = split(PLAIN_BOOK, PLAIN)
         for index, state in ((2, "unsaid"), (3, "wrong")):
             data = b"".join([*records[:index], bytes(PLAIN), *records[index + 1 :]])
-            made = {entry.model: entry for entry in MARKER.mark("hand-in", data).entries}[index]
+            made = {entry.model: entry for entry in sheet_of(MARKER, "hand-in", data).entries}[index]
             self.assertEqual((made.state, "no such kind" in made.note), (state, state == "wrong"))
 
     def test_no_book(self) -> None:
@@ -283,10 +289,10 @@ class Lines(unittest.TestCase):
                 "this looks like text that is neither lines of entries nor hexadecimal (a line is "
                 "`entry I kind K identity I version V key HEX number N`, or `entry I flag`)",
             ),
-            (PLAIN_BOOK.replace(b"\n", b""), f"this looks like {BROKEN}: {ENDS} 0a is lost"),
-            (PLAIN_BOOK.replace(b"\n", b"\r"), f"this looks like {BROKEN}: {ENDS} 0a is 0d now"),
+            (PLAIN_BOOK.replace(b"\n", b""), f"this looks like {BROKEN}: {LINE_ENDS}"),
+            (PLAIN_BOOK.replace(b"\n", b"\r"), f"this looks like {BROKEN}: {LINE_ENDS}"),
         ):
-            sheet = MARKER.mark("hand-in", data)
+            sheet = sheet_of(MARKER, "hand-in", data)
             self.assertEqual((sheet.problem, sheet.right, len(sheet.missing)), (said, 0, 12))
 
 

@@ -12,11 +12,14 @@ from typing import Optional
 from urllib.parse import unquote_to_bytes
 
 from common import CLASS, DESK, ENTRIES, RING, SITTING, Case, seal, taa1
-from taa1_desk.beside import differing
-from taa1_desk.page import grouped
+from said import SEALING
+from taa1_desk.marking.key_slips import RING_SLIPS
+from taa1_desk.marking.slips import SLIPS
+from taa1_desk.marking.working import Steps
 from taa1_desk.records import SEALED, split
-from taa1_desk.slips import RING_SLIPS, SLIPS
-from taa1_desk.working import Steps
+from taa1_desk.showing.comparison import differing
+from taa1_desk.showing.html import grouped
+from taa1_desk.showing.phrases import FAILS_MEANS, WRONG_MEANS
 
 CANDIDATES = ("ann", "ben", "cho", "dee", "eve", "fay")
 VOID = {"meta", "rect", "path", "line", "br", "wbr"}
@@ -137,8 +140,10 @@ class Pages(Case):
             "Entry 2: kind 2, SCK under O (KSO) by TA51",
             "Entry 4: kind 3, GCK under O (KSO) by TA81",
             "Seals no key: all 3 checks fail.",
+            f"({WRONG_MEANS}; {FAILS_MEANS})",
         ):
             self.assertIn(words, said)
+        self.assertNotRegex(" ".join(said), "refused [0-9]")
         wanted = split(self.accepted("seal", CLASS / "sitting.txt", CLASS / "model.txt"), SEALED)
         has = bytes.fromhex("".join(fay.read_text().split()))
         last = grouped(wanted[4][6:])[:-3]
@@ -166,7 +171,7 @@ class Pages(Case):
                 for name, step in taken.items():
                     if getattr(made, name) != getattr(SITTING, name):
                         self.assertIn(step, found[slip.name][0], slip.name)
-        self.assertEqual(found["TA22's challenge reversed (RAND2)"], ("TA22", "5.7"))
+        self.assertEqual(found[SEALING["ta22-reversed"]], ("TA22", "5.7"))
         self.assertEqual(found["RAND1 and RAND2 exchanged"], ("TA12 and TA22", "5.7"))
         self.assertEqual(found["RS for RSO"], ("TA41", "5.6.1"))
         self.assertEqual(found["RS reversed"], ("TA11 and TA21", "5.6"))
@@ -207,13 +212,13 @@ class Pages(Case):
         """Where entries are right and keys are not, the first sentence says so, and why."""
         made = Steps(DESK).keys(SITTING._replace(rand2=SITTING.rand2[::-1]))
         book = self.file("gus.book", seal())
-        lines = "".join(f"{name} = {made[name].hex()}\n" for name in ("response 2", "key 2"))
+        lines = "".join(f"{name} = {(made[name] or b'').hex()}\n" for name in ("response 2", "key 2"))
         self.file("gus.keys", lines + f"O = {RING.o.hex()}\nG = hello\n")
         page = Page(self.mark(book, status=1) / "gus.book.html")
         said = next(text for text in page.texts if "entries right" in text)
         self.assertTrue(said.endswith(
             "All 12 entries right; 3 of 4 keys wrong. One slip explains response 2 and key 2: "
-            "TA22's challenge reversed (RAND2)."), said)  # fmt: skip
+            f"{SEALING['ta22-reversed']}."), said)  # fmt: skip
         self.assertIn("wrong: not to be read", page.texts)
 
     def test_missing(self) -> None:

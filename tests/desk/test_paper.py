@@ -9,19 +9,21 @@ from unittest import mock
 
 from common import CLASS, DESK, ENTRIES, LINES, PLAIN_BOOK, SITTING, Case, here, seal, taa1
 from taa1 import Sitting
-from taa1_desk import paper
-from taa1_desk.document import Document, as_page, as_text
-from taa1_desk.model import model_answer
+from taa1_desk.asked import asked
+from taa1_desk.marking.model import model_answer
+from taa1_desk.marking.working import Steps
 from taa1_desk.names import both
-from taa1_desk.page import grouped
+from taa1_desk.reading.books import format_lines
+from taa1_desk.reading.sittings import Heading, format_sitting, sitting_bytes
 from taa1_desk.records import PLAIN, SEALED, split
-from taa1_desk.texts import Heading, format_lines, format_sitting, sitting_bytes
-from taa1_desk.working import Steps
+from taa1_desk.showing import paper
+from taa1_desk.showing.document import Document, as_page, as_text
+from taa1_desk.showing.html import grouped
 from test_pages import Page
 
 INPUTS = (CLASS / "sitting.txt", CLASS / "model.txt")
-OTHER = Sitting(*(bytes(range(at, at + 16 if at == 60 else at + 10)) for at in (60, 90, 120, 150, 180, 210)),
-                bytes(range(30, 42)), 3, 0x000F, 0x3FF0)  # fmt: skip
+_ROOT, *_TENS = (bytes(range(at, at + 16 if at == 60 else at + 10)) for at in (60, 90, 120, 150, 180, 210))
+OTHER = Sitting(_ROOT, *_TENS, bytes(range(30, 42)), 3, 0x000F, 0x3FF0)  # type: ignore[call-arg, arg-type]
 
 
 def examined(sitting: Sitting, plain: bytes = PLAIN_BOOK) -> paper.Examination:
@@ -114,7 +116,7 @@ class Paper(Case):
             of = examined(SITTING._replace(sides=sides))
             page = as_page(paper.answer_form(of))
             self.assertEqual(page.count("<i></i>"), boxes + 21 * len(ENTRIES))
-            rows = [row for _, values in paper.asked(sides) for row in (v.row for v in values)]
+            rows = [row for _, values in asked(sides) for row in (v.row for v in values)]
             self.assertEqual(rows, list(range(1, last + 1)))
             for name in ("Name", "Candidate's number", "Date", "row", "entry"):
                 self.assertIn(name, unescape(page))
@@ -136,7 +138,7 @@ class Paper(Case):
         model = model_answer(DESK, SITTING, PLAIN_BOOK, "f")
         values = {key["name"]: grouped(key["value"]) for key in model["keys"]}
         core = ["EXP1", "EXP2's last byte", "EXP2", "left block", "chaining", "right block", "BL1"]
-        for title, names, steps in (
+        wanted: tuple[tuple[str, list[str], list[str]], ...] = (
             ("TA11: session key 1 (KS)", ["session key 1"], core),
             ("TA12: response 1 (RES1) and key 1 (DCK1)", ["response 1", "key 1"],
              [*core, "bytes chosen by a mask", "bytes chosen by a mask"]),
@@ -144,7 +146,8 @@ class Paper(Case):
             ("TA41: O (KSO)", ["O"], core),
             ("TB4: D (DCK)", ["D"], []),
             ("TB7: G (EGSKO)", ["G"], []),
-        ):  # fmt: skip
+        )  # fmt: skip
+        for title, names, steps in wanted:
             lines = [line for line in parts[title].splitlines()[2:] if not line.endswith("taken")]
             self.assertEqual([self.step(line) for line in lines], [*steps, title.split(":")[0]])
             self.assertIn(" | ".join(values[name] for name in names), lines[-1])

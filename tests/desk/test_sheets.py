@@ -5,18 +5,20 @@ from __future__ import annotations
 import random
 import unittest
 
-from common import DESK, ENTRIES, PLAIN_BOOK, RING, SITTING
-from taa1_desk.mark import Marker
+from common import DESK, ENTRIES, PLAIN_BOOK, RING, SITTING, book_sheet
+from taa1_desk.marking.sealed import SealedMarker
 from taa1_desk.records import SEALED
-from taa1_desk.sheets import MOST_LINES, failed_checks, sheet_text, spans
+from taa1_desk.showing.phrases import MOST_LINES
+from taa1_desk.showing.sheet_text import sheet_text
+from taa1_desk.words import failed_checks, spans
 
-MARKER = Marker(DESK, SITTING, RING, PLAIN_BOOK)
+MARKER = SealedMarker(DESK, SITTING, RING, PLAIN_BOOK)
 MODEL = MARKER.model
 
 
 def said(*records: bytes) -> list[str]:
     """The lines of a book's sheet."""
-    return sheet_text(MARKER.mark("book", b"".join(records))).splitlines()
+    return sheet_text(book_sheet(MARKER, "book", b"".join(records))).splitlines()
 
 
 def failing(kind: int, *failed: int) -> str:
@@ -60,7 +62,7 @@ class Words(unittest.TestCase):
             part + bytes([_xor(part)])
             for part in _cut(entry.key + number, (2, 3, 3, 3))
         )
-        text = _core(stretched + b"\0", MARKER.ring.o, entry.version)
+        text = _core(stretched + b"\0", RING.o, entry.version)
         record = MODEL[2][:6] + text
         self.assertIn(
             "  entry 2: seals no key: 1 of 5 checks fails: the three zero bits",
@@ -97,7 +99,7 @@ class Lines(unittest.TestCase):
 
     def test_zeros(self) -> None:
         """Zeros in the place of records that were not worked are called so, in one line."""
-        sheet = MARKER.mark("book", b"".join(MODEL[:9]) + bytes(3 * SEALED))
+        sheet = book_sheet(MARKER, "book", b"".join(MODEL[:9]) + bytes(3 * SEALED))
         self.assertIn("  entries 9 to 11: zero bytes alone\n", sheet_text(sheet))
 
     def test_further_attempts(self) -> None:
@@ -112,9 +114,9 @@ class Lines(unittest.TestCase):
         """A book of 1,025 records: some lines, and every record is counted."""
         draw = random.Random(3)
         entries = [entry._replace(identity=draw.getrandbits(24)) for entry in ENTRIES * 10]
-        marker = Marker(DESK, SITTING, RING, b"".join(entry.data for entry in entries))
+        marker = SealedMarker(DESK, SITTING, RING, b"".join(entry.data for entry in entries))
         noise = b"".join(draw.randbytes(SEALED) for _ in range(1025))
-        lines = sheet_text(marker.mark("book", noise)).splitlines()
+        lines = sheet_text(book_sheet(marker, "book", noise)).splitlines()
         self.assertLess(len(lines), 5 + MOST_LINES)
         self.assertRegex(lines[1], "^  905 extra records: 1025 records, where the model has 120 entries$")
         self.assertIn("more: more than the model has; there is no such kind", "\n".join(lines))
@@ -138,7 +140,7 @@ def _core(text: bytes, sealing_key: bytes, version: int) -> bytes:
     """A text under a sealing key and version: two encryptions, byte 8 dropped."""
     pair = version.to_bytes(2, "big")
     key = bytes(byte ^ pair[at % 2] for at, byte in enumerate(sealing_key))
-    left = DESK.call("encrypt", key, text[:8])["bytes"]
-    right = DESK.call("encrypt", key, bytes(a ^ b for a, b in zip(text[8:], left)))["bytes"]
+    left: bytes = DESK.call("encrypt", key, text[:8])["bytes"]
+    right: bytes = DESK.call("encrypt", key, bytes(a ^ b for a, b in zip(text[8:], left)))["bytes"]
     out = left + right
     return out[:7] + out[8:]

@@ -6,8 +6,9 @@ import re
 
 from common import CLASS, DESK, ENTRIES, LINES, PLAIN_BOOK, RING, SITTING, Case, taa1
 from taa1 import NAMES
+from taa1_desk.command.files import THERE
+from taa1_desk.reading.sittings import sitting_bytes
 from taa1_desk.records import KINDS
-from taa1_desk.texts import sitting_bytes
 
 NAMED = (CLASS / "sitting.txt").read_text()
 
@@ -38,7 +39,7 @@ class Sittings(Case):
 
     def test_drawn(self) -> None:
         """What is drawn is a sitting; no two are the same; masks have four and ten ones."""
-        drawn = set()
+        drawn: set[bytes] = set()
         for sides in (None, 1, 2, 3):
             name = self.folder / f"{sides}.txt"
             self.accepted("draw", "-o", name, *(("--sides", sides) if sides else ()))
@@ -53,7 +54,7 @@ class Sittings(Case):
 
     def test_no_sitting_is_replaced(self) -> None:
         name = self.file("sitting.txt", "the examination's\n")
-        self.fails(2, f"{name}: it is there already, and draw replaces no file", "draw", "-o", name)
+        self.fails(2, f"{name}: {THERE}", "draw", "-o", name)
         self.assertEqual(name.read_text(), "the examination's\n")
 
     def test_heading(self) -> None:
@@ -155,14 +156,14 @@ class Rings(Case):
 
 
 class Books(Case):
-    """taa1 book, list and check."""
+    """taa1 book and check."""
 
     def test_both_ways(self) -> None:
         self.assertEqual(self.accepted("book", stdin=LINES.encode()), PLAIN_BOOK)
         listing = self.accepted("book", "--lines", stdin=PLAIN_BOOK).decode()
         self.assertEqual(listing, LINES.split("\n", 1)[1])
-        self.assertEqual(self.accepted("list", stdin=PLAIN_BOOK).decode(), listing)
-        self.assertEqual(self.accepted("list", stdin=PLAIN_BOOK.hex().encode()).decode(), listing)
+        self.assertEqual(self.accepted("book", "--lines", stdin=PLAIN_BOOK).decode(), listing)
+        self.assertEqual(self.accepted("book", "--lines", stdin=PLAIN_BOOK.hex().encode()).decode(), listing)
         self.assertEqual(self.accepted("book", stdin=listing.encode()), PLAIN_BOOK)
         self.assertEqual({entry.kind for entry in ENTRIES}, set(KINDS))
 
@@ -207,10 +208,10 @@ class Books(Case):
         """The listing of the specification's example."""
         record = bytes.fromhex("02123456000701020304050607 08090a0003")
         line = "entry 0 kind 2 identity 123456 version 7 key 0102030405060708090a number 3\n"
-        self.assertEqual(self.accepted("list", stdin=record).decode(), line + "entries 1\n")
+        self.assertEqual(self.accepted("book", "--lines", stdin=record).decode(), line + "entries 1\n")
 
     def test_empty(self) -> None:
-        self.assertEqual(self.accepted("list", stdin=b""), b"entries 0\n")
+        self.assertEqual(self.accepted("book", "--lines", stdin=b""), b"entries 0\n")
         self.assertEqual(self.accepted("book", stdin=b"entries 0\n"), b"")
         self.assertEqual(self.accepted("check", stdin=b"").decode(), "well formed, entries 0\n")
 
@@ -274,7 +275,7 @@ class Books(Case):
 
     def test_refused(self) -> None:
         bad = bytes([9]) + PLAIN_BOOK[1:]
-        for command in ("check", "list", "book"):
+        for command in ("check", "book"):
             self.fails(1, f"standard input: refused 3 at 0 ({NAMES[3]})", command, stdin=bad)
         short = PLAIN_BOOK[:-1]
         self.fails(1, f"standard input: refused 2 at 0 ({NAMES[2]})", "check", stdin=short)
@@ -328,7 +329,7 @@ class Sheets(Case):
             ("no operation 'ta12': they are given, ta11, ta21, ta41, tb4, ta71", "x = ta12 k rs"),
             ("no key 'kk'", "x = ta11 kk rs"),
             ("ta11 takes two parents, not 1", "x = ta11 k"),
-            ("k for the second time", "k = ta11 k rs"),
+            ("k for the second time, after line 1", "k = ta11 k rs"),
             ("the key given: 4 hexadecimal digits, not 20", "x = given 0102"),
         ):
             with self.subTest(error):

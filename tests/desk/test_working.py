@@ -9,8 +9,10 @@ from typing import Any
 
 from common import DESK, ENTRIES, PLAIN_BOOK, ROOT, SITTING, seal
 from taa1 import Sitting
+from taa1_desk.asked import KEYS
+from taa1_desk.marking.clauses import CLAUSES, STEPS
+from taa1_desk.marking.working import S, S_INVERSE, Steps
 from taa1_desk.records import KINDS, SEALED, Ring, split
-from taa1_desk.working import CLAUSES, KEYS, S, S_INVERSE, STEPS, Steps
 
 DRAW = random.Random(33)
 PLAIN_STEPS = Steps(DESK)

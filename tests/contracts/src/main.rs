@@ -46,7 +46,7 @@ const RAW: &str = "rust/src/raw.rs";
 const TABLE: &str = "python/taa1/calls.py";
 /// The argument for markers: its page, and the desk's copy.
 const GUIDE: &str = "docs/ARGUMENT.md";
-const CLAIMS: &str = "desk/taa1_desk/claims.py";
+const CLAIMS: &str = "desk/taa1_desk/showing/claims.py";
 
 /// How many things are right, and what is wrong with the others.
 type Verdict = (usize, Vec<String>);

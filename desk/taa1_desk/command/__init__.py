@@ -1,0 +1,1 @@
+"""The command line: arguments, files, folders, and what each command reads and writes."""

@@ -1,0 +1,59 @@
+"""Sittings, rings, books, schemes and lists of candidates in files."""
+
+from __future__ import annotations
+
+from typing import Optional
+
+from taa1 import Sitting
+
+from ..engine import Engine
+from ..problems import STANDARD, Problem, place
+from ..reading import candidates, schemes
+from ..reading.books import parse_plain, parse_sealed
+from ..reading.decoding import lines_text
+from ..reading.sittings import Heading, parse_ring, parse_sitting
+from ..records import Ring
+from .files import read
+
+
+def once(*names: str) -> None:
+    """Standard input can be read once only."""
+    if sum(name == STANDARD for name in names) > 1:
+        raise Problem("standard input: it can stand for one file only")
+
+
+def read_sitting(name: str) -> Sitting:
+    """The sitting in a file."""
+    return read_headed(name)[0]
+
+
+def read_headed(name: str) -> tuple[Sitting, Heading]:
+    """The sitting in a file, and its heading."""
+    return parse_sitting(read(name), place(name))
+
+
+def read_ring(engine: Engine, name: str) -> Ring:
+    """The ring in a file, or that of the sitting in it."""
+    return parse_ring(engine, read(name), place(name))
+
+
+def read_plain(engine: Engine, name: str, raw: bool = False) -> bytes:
+    """A well-formed plain book, in lines, hexadecimal or bytes."""
+    return parse_plain(engine, read(name), place(name), raw)
+
+
+def read_sealed(name: str, raw: bool = False) -> bytes:
+    """A sealed book's bytes, in hexadecimal or as they are."""
+    return parse_sealed(read(name), place(name), raw)
+
+
+def read_scheme(name: Optional[str]) -> schemes.Scheme:
+    """The scheme in a file, or the default."""
+    if name is None:
+        return schemes.parse(schemes.DEFAULT, "the default")
+    return schemes.parse(lines_text(read(name), place(name)), place(name))
+
+
+def read_list(name: Optional[str]) -> dict[str, str]:
+    """The candidates' names in a list, by their files."""
+    return candidates.parse_list(lines_text(read(name), place(name)), place(name)) if name else {}

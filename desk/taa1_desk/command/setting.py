@@ -1,0 +1,133 @@
+"""The commands that set an examination: draw, model, paper, argue."""
+
+from __future__ import annotations
+
+import argparse
+import os
+
+from taa1 import Sitting
+
+from ..showing.argue import argument_sheet
+from ..engine import Engine
+from ..marking.model import model_answer
+from ..marking.opening_slips import OPENING_SLIPS
+from ..marking.slips import EXCHANGES, SLIPS
+from ..problems import STANDARD, Problem, place, shown
+from ..reading import books, schemes, sittings
+from ..setting import draw
+from ..showing import paper
+from ..showing.document import as_page, as_text
+from ..showing.model import model_json, model_page, model_text
+from . import files, inputs
+from .inputs import once
+from .output import ACCEPTED, emit_text, json_text
+
+# What a model without entries means, to the commands that want some.
+NO_ENTRY = {
+    "mark": "there is nothing to mark",
+    "paper": "there is nothing to ask for",
+    "argue": "there is no instance of a claim",
+}
+
+
+def examination(args: argparse.Namespace) -> tuple[Engine, Sitting, sittings.Heading, bytes]:
+    """The engine, a sitting with its heading, and a plain book."""
+    once(args.sitting, args.book)
+    engine = Engine()
+    sitting, heading = inputs.read_headed(args.sitting)
+    return engine, sitting, heading, model_book(engine, args)
+
+
+def model_book(engine: Engine, args: argparse.Namespace) -> bytes:
+    """The model, a plain book, with entries in it where the command wants some."""
+    plain = inputs.read_plain(engine, args.book, args.bytes)
+    if not plain and args.command in NO_ENTRY:
+        raise Problem(f"{place(args.book)}: no entry in it, so {NO_ENTRY[args.command]}")
+    return plain
+
+
+def run_draw(args: argparse.Namespace) -> int:
+    """A sitting, or a model book, from the system's randomness."""
+    if args.output != STANDARD and os.path.isfile(args.output):
+        raise Problem(f"{shown(args.output)}: {files.THERE}")
+    given = [name for name in ("sides", "title", "date", "kinds", "entries") if getattr(args, name)]
+    wrong = [name for name in given if (name in ("kinds", "entries")) is not args.book]
+    if wrong:
+        what = "a sitting, and --book draws none" if args.book else "a book: draw --book"
+        raise Problem(f"draw: --{wrong[0]} is for {what}")
+    if args.book:
+        kinds = args.kinds or draw.draw_kinds(args.entries or draw.ENTRIES)
+        plain = draw.draw_book(kinds)
+        Engine().call("check_plain", plain)
+        emit_text(args, books.format_lines(plain), new=True)
+    else:
+        data = draw.draw_sitting(args.sides)
+        Engine().call("ring", *sittings.sitting_of(data))
+        heading = sittings.Heading(args.title or "", args.date or "")
+        emit_text(args, sittings.format_sitting(data, heading), new=True)
+    return ACCEPTED
+
+
+def run_model(args: argparse.Namespace) -> int:
+    """The model answer."""
+    engine, sitting, heading, plain = examination(args)
+    model = model_answer(engine, sitting, plain, place(args.sitting))
+    if args.html:
+        emit_text(args, model_page(model, heading.line))
+    else:
+        emit_text(args, json_text(model_json(model)) if args.json else model_text(model))
+    return ACCEPTED
+
+
+def run_paper(args: argparse.Namespace) -> int:
+    """The question paper, the blank answer form and the worked solution."""
+    if args.html is not None and (args.part or args.output != STANDARD):
+        raise Problem("paper: --html writes all three pages into its folder: no --part, no -o")
+    engine, sitting, heading, plain = examination(args)
+    of = paper.examination(engine, sitting, heading, plain, place(args.sitting))
+    parts = [args.part] if args.part else list(paper.PARTS)
+    documents = {part: paper.PARTS[part](of) for part in parts}
+    if args.html is not None:
+        content = {f"{part}.html": as_page(made).encode() for part, made in documents.items()}
+        files.write_folder(args.html, content, private={"solution.html"})
+    else:
+        text = "\n\n".join(map(as_text, documents.values()))
+        files.write(args.output, text.encode(), private="solution" in parts)
+    return ACCEPTED
+
+
+def run_argue(args: argparse.Namespace) -> int:
+    """The marking aid for the argument: claims, true and false, with instances."""
+    if args.html is not None and args.output != STANDARD:
+        raise Problem("argue: --html writes the page into its file: no -o")
+    engine, sitting, heading, plain = examination(args)
+    ring = sittings.sitting_ring(engine, sitting, place(args.sitting))
+    sheet = argument_sheet(engine, sitting, ring, heading, plain)
+    if args.html is not None:
+        files.write_file(args.html, as_page(sheet).encode(), private=True)
+    else:
+        files.write(args.output, as_text(sheet).encode(), private=True)
+    return ACCEPTED
+
+
+def run_scheme(args: argparse.Namespace) -> int:
+    """The points that marking gives, as a text to change: mark --scheme FILE."""
+    emit_text(args, schemes.DEFAULT)
+    return ACCEPTED
+
+
+def run_slips(args: argparse.Namespace) -> int:
+    """The names of the slips that marking looks for."""
+    names = dict.fromkeys(slip.name for slip in (*SLIPS, *EXCHANGES, *OPENING_SLIPS))
+    emit_text(args, "".join(f"{name}\n" for name in names))
+    return ACCEPTED
+
+
+RUNS = {
+    "draw": run_draw,
+    "model": run_model,
+    "paper": run_paper,
+    "argue": run_argue,
+    "scheme": run_scheme,
+    "slips": run_slips,
+}

@@ -1,0 +1,1 @@
+"""Setting: sittings and books from randomness, and books with flags to find."""

@@ -1,0 +1,1 @@
+"""Showing: mark sheets, the class, papers and the model as text, pages, JSON and tables."""
