@@ -120,7 +120,8 @@ def write_file(name: str, data: bytes, private: bool = False, new: bool = False)
     """Writes a file whole, or leaves what was there: a temporary one takes its name.
 
     A private file is readable by its owner alone; a new one takes the name only if no
-    file has it. A file that was read is not written over. What is no regular file, such as a pipe, is written to as it is.
+    file has it. A file that was read is not written over. What is no regular file, such as a
+    pipe, is written to as it is.
     """
     path = Path(os.path.realpath(name))
     keep(name)

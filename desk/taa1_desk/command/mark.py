@@ -167,8 +167,9 @@ def _key_file(name: str) -> KeyFile:
     if text is None or not answerform.is_form(text.text):
         return keyfile.read(shown(name), data)
     form = answerform.read(text.text)
-    said = [f"{shown(name)}: its records are not marked, since a book lies beside it"] if form.book or form.problems else []
-    return form.keys._replace(problems=(*form.keys.problems, *said))
+    said = f"{shown(name)}: its records are not marked, since a book lies beside it"
+    more = [said] if form.book or form.problems else []
+    return form.keys._replace(problems=(*form.keys.problems, *more))
 
 
 def _marker(args: argparse.Namespace) -> tuple[Marker, Heading]:

@@ -101,19 +101,17 @@ class BookMarker:
     def marked(self, book: bytes, keys: KeySheet) -> BookMarks:
         """A book's records, marked, beside keys that are marked already."""
         records = split(book, SEALED)
-        own = self._own(keys)
-        pairs = pair(records, self.model, self.places, own, self)
+        pairs = pair(records, self.model, self.places, self._own(keys), self)
         refused: Optional[Refused] = None
         try:
             self.engine.call("open_book", self.ring.data, book)
         except Refused as error:
             refused = error
-        certain = {index: place for index, place in pairs.entries.items() if self._is_certain(records, pairs, index)}
-        moved = out_of_order(certain)
+        moved = out_of_order(pairs.certain)
         slips, borrowed = self._explain(records, pairs.entries, keys)
         names = named(slips)
         free = Counter(text_of(record) for record in self.model)
-        free.subtract(text_of(self.model[place]) for place in certain.values())
+        free.subtract(text_of(self.model[place]) for place in pairs.certain.values())
         entries = []
         for index, record in enumerate(records):
             model = pairs.entries.get(index)
@@ -122,7 +120,7 @@ class BookMarker:
                 continue
             opened = self._open(record)
             differ = () if model is None else differences(opened, self.entries[model])
-            has_text = index not in certain and free[text_of(record)] > 0
+            has_text = index not in pairs.certain and free[text_of(record)] > 0
             free[text_of(record)] -= has_text
             entries.append(
                 Marked(
@@ -134,16 +132,16 @@ class BookMarker:
                     names.get(index),
                     tuple(borrowed.get(index, {}).items()),
                     record=record,
-                    follows=own_keys(record[0], keys.ring, self.ring) if keys.ring and index in pairs.following else "",
+                    follows=self._follows(record, keys) if index in pairs.following else "",
                     own_text=has_text,
                 )
             )
         missing = sorted(set(range(len(self.model))) - set(pairs.entries.values()))
         return BookMarks(tuple(entries), tuple(missing), slips, refused, len(book) % SEALED)
 
-    def _is_certain(self, records: list[bytes], pairs: Pairs, index: int) -> bool:
-        """Whether a record is its entry's byte for byte, under the model's ring or the own one."""
-        return index in pairs.following or records[index] == self.model[pairs.entries[index]]
+    def _follows(self, record: bytes, keys: KeySheet) -> str:
+        """Which of the candidate's own keys make a record."""
+        return own_keys(record[0], keys.ring, self.ring) if keys.ring else ""
 
     def _own(self, keys: KeySheet) -> dict[bytes, list[int]]:
         """The records that the engine seals under the candidate's own keys, where these make

@@ -14,7 +14,8 @@ class Pairs(NamedTuple):
     entry that it is once more, or a further attempt at."""
 
     entries: dict[int, int]
-    following: set[int]  # those that are the record of their entry under the candidate's own keys
+    certain: dict[int, int]  # those that are their entry's byte for byte, under the model's keys or own ones
+    following: set[int]  # of these, under own ones
     again: dict[int, int]
     attempts: dict[int, int]
 
@@ -74,7 +75,8 @@ def pair(
     following = {index for index in left if take_equal(index, own.get(records[index], ()))}
     again = {i: places[records[i]][0] for i in left if i not in following and records[i] in places}
     others = [index for index in left if index not in following and index not in again]
-    attempts = _attempts(records, others, free, set(entries.values()), shows)
+    certain = dict(entries)
+    attempts = _attempts(records, others, free, set(certain.values()), shows)
     others = [index for index in others if index not in attempts]
     seen = {index: shows.signs_of(records[index]) for index in others}
     for index in others:
@@ -90,7 +92,7 @@ def pair(
     for _, _, index, place in sorted(weighed):
         take(index, place)
     _pair_rest(records, [index for index in others if index not in entries], free, shows.alike, take)
-    return Pairs(entries, following, again, attempts)
+    return Pairs(entries, certain, following, again, attempts)
 
 
 def _attempts(
