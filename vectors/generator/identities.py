@@ -25,7 +25,7 @@ def _identities(group: Group) -> None:
     add("ones", "Edge", "Wrap", key=b"\xff" * 10, identity=0xFFFFFF)
     add("alternating key: the cipher's input is zero", "Edge", key=b"\x5a\xc3" * 5, identity=0x123456)
     add("sums of neighbours, not of the outermost", "Exp4Pairs", "Exp4Sum", key=bytes(range(1, 11)), identity=0x123456)
-    add("80 + 80 wraps to 00", "Exp4Sum", "Wrap", key=b"\x80\x80" + bytes(8), identity=0x123456)
+    add("c0 + c0 wraps to 80", "Exp4Sum", "Wrap", key=b"\xc0\xc0" + bytes(8), identity=0x123456)
     add("the outermost bytes alone", "Exp4Pairs", key=b"\x80" + bytes(8) + b"\x80", identity=0x123456)
     for _ in range(6):
         add("drawn", "Random", key=draw.bytes(10), identity=draw.number(24))

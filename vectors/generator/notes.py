@@ -23,7 +23,7 @@ NOTES: dict[str, Note] = {
     "Order": Note(_EDGE, "more than one refusal applies: the first in the call's order is the answer"),
     "Wrap": Note(_PARAMETER, "byte sums that wrap at 256"),
     "Exp2Sum": Note(_PARAMETER, "EXP2's last byte is the sum of the five inserted bytes, not their xor"),
-    "Exp4Pairs": Note(_PARAMETER, "EXP4 pairs neighbours, as the standard has it; osmo-tetra pairs the outermost bytes"),
+    "Exp4Pairs": Note(_PARAMETER, "EXP4 pairs neighbours; osmo-tetra pairs the outermost bytes (vectors/README.md)"),
     "Exp4Sum": Note(_PARAMETER, "EXP4 inserts sums of the pairs, not their xor"),
     "Ta21Reversed": Note(_STEP, "TA21 reverses the seed's bytes, which are no palindrome"),
     "Ta22NotReversed": Note(_PARAMETER, "TA22 does not reverse the challenge, which is no palindrome"),

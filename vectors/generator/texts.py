@@ -107,7 +107,7 @@ def _exp4(group: Group, key: bytes) -> None:
     for hexadecimal, words, flags in (
         ("0102030405060708090a", "sums 03 07 0b 0f 13 of neighbours; 0b five times of the outermost", ("Exp4Pairs", "Exp4Sum")),
         ("ffffffffffffffffffff", "every sum wraps to fe", ("Exp4Sum", "Wrap")),
-        ("80800000000000000000", "80 + 80 wraps to 00", ("Exp4Sum", "Wrap")),
+        ("c0c00000000000000000", "c0 + c0 wraps to 80", ("Exp4Sum", "Wrap")),
         ("80000000000000000080", "the outermost bytes alone", ("Exp4Pairs",)),
         ("11111111111111111111", "all bytes alike: pairs cannot be told apart", ("Edge",)),
     ):
