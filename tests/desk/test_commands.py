@@ -553,7 +553,10 @@ class Bad(Case):
         self.assertEqual(said, b"\r0 of 1\r\x1b[K")
 
 
-CHECKED = ("python/taa1", "python/make_wheel.py", "desk/taa1_desk", "examples/python/sitting.py")
+CHECKED = (
+    "python/taa1", "python/make_wheel.py", "desk/taa1_desk", "examples/python/sitting.py",
+    "vectors/make", "vectors/generator",
+)  # fmt: skip
 
 
 class Checked(Case):
@@ -575,7 +578,7 @@ class Checked(Case):
 
     def test_mypy(self) -> None:
         """The modules and these tests."""
-        self.clean("mypy", "--strict", "--cache-dir", str(self.folder), MYPYPATH="python:desk:tests/desk")
+        self.clean("mypy", "--strict", "--cache-dir", str(self.folder), MYPYPATH="python:desk:vectors:tests/desk")
 
     def test_pyflakes(self) -> None:
         """Nothing is imported or named for nothing."""

@@ -148,6 +148,25 @@ def refusals(checks: Checks, tests: list[Vector]) -> None:
     checks.check(f"{len(listed)} calls, each with a test for each of its refusals, {number} in all", wrong)
 
 
+def _otherwise(wanted: Answer) -> Answer:
+    """An answer that differs in every byte and number."""
+    return {
+        name: bytes(byte ^ 0xFF for byte in value) if isinstance(value, bytes) else value + 1
+        for name, value in wanted.items()
+    }
+
+
+def argument(checks: Checks, tests: list[Vector]) -> None:
+    """The texts in the table of docs/ARGUMENT.md are unsealed here, and the comments name its claims."""
+    rows = re.findall(r"^\| (\d+\w?) \|.*", (ROOT / "docs/ARGUMENT.md").read_text(), re.M)
+    texts = set(re.findall(r"\b[0-9a-f]{30}\b", (ROOT / "docs/ARGUMENT.md").read_text()))
+    here = {value.hex() for test in tests if test.call == "ta82" for value in test.inputs.values() if isinstance(value, bytes)}
+    wrong = [f"{text}: not unsealed" for text in sorted(texts - here)] or ([] if texts else ["no texts in it"])
+    named = {test.comment.partition(":")[0] for test in tests if "Argument" in test.flags}
+    wrong += [f"{label}: no such claim" for label in sorted(named - set(rows))]
+    checks.check(f"docs/ARGUMENT.md: {len(texts)} texts, and claims {', '.join(sorted(named))}", wrong)
+
+
 def held(checks: Checks, work: Work) -> None:
     """The vectors against an implementation, file by file."""
     total = 0
@@ -162,6 +181,8 @@ def held(checks: Checks, work: Work) -> None:
             compared += 1
             if not agrees(test.wanted, answer):
                 wrong.append(f"{test.name}: got {answer}, wanted {test.wanted}")
+            if agrees(_otherwise(test.wanted), answer):
+                wrong.append(f"{test.name}: any answer would do")
         total += compared
         if compared:
             checks.check(f"{work.name}: {path.name}, {compared} of {len(tests)}", wrong)
@@ -250,6 +271,7 @@ def main(arguments: list[str]) -> int:
     schema(checks)
     tests = [test for path in files() for test in vectors(path)]
     refusals(checks, tests)
+    argument(checks, tests)
     held(checks, EngineWork())
     held(checks, ReferenceWork())
     if arguments:

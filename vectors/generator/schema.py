@@ -97,6 +97,8 @@ def _definitions() -> Schema:
         "inputs": {"type": "object"},
         "result": {"enum": ["valid", "invalid"]},
     }
+    tests = {"type": "array", "minItems": 1}
+    made["group"] = _object({"type": {"type": "string"}, "definedIn": {"type": "string"}, "tests": tests})
     made["test"] = _object({**test, **optional}, *optional)
     made.update(_forms())
     for name, fields in ANSWERS.items():
@@ -111,8 +113,7 @@ def _definitions() -> Schema:
 
 
 def _group(name: str) -> Schema:
-    tests = {"type": "array", "minItems": 1, "items": _ref(name)}
-    return _object({"type": {"const": name}, "definedIn": {"type": "string"}, "tests": tests})
+    return {**_ref("group"), "properties": {"type": {"const": name}, "tests": {"items": _ref(name)}}}
 
 
 def _lines(values: Schema) -> str:

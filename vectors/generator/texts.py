@@ -192,16 +192,17 @@ def _argument(group: Group, kind: Kind) -> None:
     if kind.unseal not in ("ta82", "ta92"):
         return
     other = bytes(range(12)) + bytes.fromhex("00bf588f")
-    for words, text, under, version in (
-        ("11a: under O 00 01 .. 0f", "7d3bf4c53bec9b33be0c296b64dc2f", O, 7),
-        ("11a: the same text under another O, to another key", "7d3bf4c53bec9b33be0c296b64dc2f", other, 7),
-        ("11b: version 7", "f4204db56932c32411c2c607ad680c", O, 7),
-        ("11b: the same text with version 5075, to another key", "f4204db56932c32411c2c607ad680c", O, 5075),
-        ("12: a text", "f20234e6a621c279ee4f4cf0ad6279", O, 7),
-        ("12: the text with one bit changed, to another key", "f20034e6a621c279ee4f4cf0ad6279", O, 7),
+    shared, missed = "SharedText", "NotNoticed"
+    for words, flag, text, under, version in (
+        ("11a: under O 00 01 .. 0f", shared, "7d3bf4c53bec9b33be0c296b64dc2f", O, 7),
+        ("11a: the same text under another O, to another key", shared, "7d3bf4c53bec9b33be0c296b64dc2f", other, 7),
+        ("11b: version 7", shared, "f4204db56932c32411c2c607ad680c", O, 7),
+        ("11b: the same text with version 5075, to another key", shared, "f4204db56932c32411c2c607ad680c", O, 5075),
+        ("12: a text", missed, "f20234e6a621c279ee4f4cf0ad6279", O, 7),
+        ("12: the text with one bit changed, to another key", missed, "f20034e6a621c279ee4f4cf0ad6279", O, 7),
     ):
         given: dict[str, Input] = {"text": bytes.fromhex(text), "sealing_key": under, "version": version}
-        group.add(words if kind.most else f"{words} (as kind 4: 8a)", "Argument", "SharedText", **given)
+        group.add(words if kind.most else f"{words} (as kind 4: 8a)", "Argument", flag, **given)
 
 
 def groups(engine: Engine) -> list[Group]:
