@@ -167,6 +167,17 @@ def argument(checks: Checks, tests: list[Vector]) -> None:
     checks.check(f"docs/ARGUMENT.md: {len(texts)} texts, and claims {', '.join(sorted(named))}", wrong)
 
 
+def _told(answer: Answer) -> str:
+    """An answer in hexadecimal, with -- for a byte that is not known."""
+
+    def shown(value: Any) -> str:
+        if value is None or isinstance(value, int):
+            return str(value)
+        return "".join("--" if byte is None else f"{byte:02x}" for byte in value)
+
+    return ", ".join(f"{name} {shown(value)}" for name, value in answer.items())
+
+
 def held(checks: Checks, work: Work) -> None:
     """The vectors against an implementation, file by file."""
     total = 0
@@ -180,7 +191,7 @@ def held(checks: Checks, work: Work) -> None:
                 continue
             compared += 1
             if not agrees(test.wanted, answer):
-                wrong.append(f"{test.name}: got {answer}, wanted {test.wanted}")
+                wrong.append(f"{test.name}: got {_told(answer)}, wanted {_told(test.wanted)}")
             if agrees(_otherwise(test.wanted), answer):
                 wrong.append(f"{test.name}: any answer would do")
         total += compared
