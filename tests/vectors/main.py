@@ -267,7 +267,7 @@ def snippet(checks: Checks) -> None:
             Path(folder, "mine.py").write_text(MINE.format(path=path, work=work, names=names))
             done = subprocess.run(
                 [sys.executable, "-W", "error", "-c", program],
-                cwd=ROOT, env={"PYTHONPATH": folder}, capture_output=True, text=True, check=False,
+                cwd=ROOT, env={"PYTHONPATH": folder, "PYTHONDONTWRITEBYTECODE": "1"}, capture_output=True, text=True, check=False,
             )  # fmt: skip
         right = done.returncode == 0 and (done.stdout.startswith(wanted) if wanted else done.stdout == "")
         wrong = [] if right else [done.stdout[:200], done.stderr[-400:]]

@@ -9,13 +9,14 @@ from __future__ import annotations
 
 import subprocess
 from pathlib import Path
-from typing import Any, Callable, Optional, Sequence
+from typing import Any, Callable, Iterator, Optional, Sequence, TypeVar
 
 from read import ROOT, Value, Vector
 from reference import Entry, Ring, Sitting, Working
 from taa1 import Engine, KeyNumber, Refused, Version
 from taa1.calls import CALLS
 
+T = TypeVar("T")
 Answer = dict[str, Any]
 Bytes = Sequence[Optional[int]]  # a string of which bytes may be unknown
 
@@ -28,6 +29,20 @@ OPERATIONS = {1: "ta11", 2: "ta21", 3: "ta41", 4: "tb4", 5: "ta71"}
 def unknown(length: int) -> list[Optional[int]]:
     """A string of which nothing is known."""
     return [None] * length
+
+
+class Shut(Exception):
+    """A record does not open."""
+
+
+def each(string: bytes, size: int, work: Callable[[bytes], Sequence[T]]) -> Iterator[T]:
+    """What becomes of each record, joined. Equal ones are worked once."""
+    worked: dict[bytes, Sequence[T]] = {}
+    for at in range(0, len(string), size):
+        record = string[at : at + size]
+        if record not in worked:
+            worked[record] = work(record)
+        yield from worked[record]
 
 
 def known(answer: Answer) -> bool:
@@ -188,14 +203,7 @@ class ComposedWork:
 
     def diffusion(self, inputs: dict[str, Any]) -> Optional[Answer]:
         """The tally, from the block cipher."""
-        tallies: dict[bytes, list[int]] = {}
-        changes: list[int] = []
-        records = inputs["records"]
-        for at in range(0, len(records), 24):
-            record = records[at : at + 24]
-            if record not in tallies:
-                tallies[record] = self.flips(record[:16], record[16:])
-            changes += tallies[record]
+        changes = list(each(inputs["records"], 24, lambda record: self.flips(record[:16], record[16:])))
         least, greatest = min(changes, default=0), max(changes, default=0)
         return {"flips": len(changes), "total": sum(changes), "least": least, "greatest": greatest}
 
@@ -210,18 +218,14 @@ class ComposedWork:
 
     def ta12_class(self, inputs: dict[str, Any]) -> Optional[Answer]:
         """TA12 of each challenge."""
-        out: list[Optional[int]] = []
         given = dict(inputs)
         challenges = given.pop("challenges")
-        worked: dict[bytes, Answer] = {}
-        for at in range(0, len(challenges), 10):
-            challenge = challenges[at : at + 10]
-            if challenge not in worked:
-                answer = self.counted("ta12", {**given, "challenge": challenge})
-                if answer is None:
-                    return None
-                worked[challenge] = answer
-            out += [*(worked[challenge]["response"] or unknown(4)), *worked[challenge]["key"]]
+
+        def record(challenge: bytes) -> Bytes:
+            answer = self.counted("ta12", {**given, "challenge": challenge})
+            return unknown(14) if answer is None else [*(answer["response"] or unknown(4)), *answer["key"]]
+
+        out = list(each(challenges, 10, record))
         return {"index": len(challenges) // 10, "written": len(out), "out": out}
 
     def ring(self, inputs: dict[str, Any]) -> Optional[Answer]:
@@ -249,48 +253,50 @@ class ComposedWork:
         return ring[:10] if kind == 1 else ring[10:26] if kind < 5 else ring[36:]
 
     def seal_book(self, inputs: dict[str, Any]) -> Optional[Answer]:
-        """Each record's text, and its identity if TA61 is there."""
-        ring, plain = inputs["ring"], inputs["plain"]
-        worked: dict[bytes, list[Optional[int]]] = {}
-        out: list[Optional[int]] = []
-        for at in range(0, len(plain), PLAIN):
-            record = plain[at : at + PLAIN]
-            if record not in worked:
-                kind, body = record[0], record[6:]
-                identity = self.field("ta61", "identity", {"common_key": ring[26:36], "identity": int.from_bytes(record[1:4], "big")})
-                given = {"version": int.from_bytes(record[4:6], "big"), "sealing_key": self.under(ring, kind)}
-                key = {"group_key": body} if kind == 4 else {"cipher_key": body[:10]}
-                if kind not in (1, 4):
-                    given["number"] = int.from_bytes(body[10:], "big")
-                hidden: Bytes = unknown(3) if identity is None else identity.to_bytes(3, "big")
-                text = self.field(SEALS[kind], "bytes", {**key, **given})
-                worked[record] = [kind, *hidden, *record[4:6], *text]
-            out += worked[record]
+        """Each record, sealed."""
+        plain = inputs["plain"]
+        out = list(each(plain, PLAIN, lambda record: self.sealed(inputs["ring"], record)))
         count = len(plain) // PLAIN
         return {"index": count, "written": len(out), "runs": 2 * count + (count > 0), "out": out}
 
+    def sealed(self, ring: bytes, record: bytes) -> Bytes:
+        """A record's text, and its identity if TA61 is there."""
+        kind, body = record[0], record[6:]
+        shown = {"common_key": ring[26:36], "identity": int.from_bytes(record[1:4], "big")}
+        identity = self.field("ta61", "identity", shown)
+        hidden: Bytes = unknown(3) if identity is None else identity.to_bytes(3, "big")
+        given: dict[str, Any] = {"group_key": body} if kind == 4 else {"cipher_key": body[:10]}
+        if kind not in (1, 4):
+            given["number"] = int.from_bytes(body[10:], "big")
+        under = {"version": int.from_bytes(record[4:6], "big"), "sealing_key": self.under(ring, kind)}
+        return [kind, *hidden, *record[4:6], *self.field(SEALS[kind], "bytes", {**given, **under})]
+
     def open_book(self, inputs: dict[str, Any]) -> Optional[Answer]:
-        """Each record's key and number, and its identity if TA61's inverse is there."""
-        ring, sealed = inputs["ring"], inputs["sealed"]
-        worked: dict[bytes, list[Optional[int]]] = {}
-        out: list[Optional[int]] = []
-        for at in range(0, len(sealed), SEALED):
-            record = sealed[at : at + SEALED]
-            if record not in worked:
-                kind, version = record[0], int.from_bytes(record[4:6], "big")
-                opened = self.counted(UNSEALS[kind], {"text": record[6:], "sealing_key": self.under(ring, kind), "version": version})
-                assert opened is not None
-                if opened["failed_checks"]:
-                    index = at // SEALED
-                    return {"refusal": 6, "index": index, "runs": 2 * (index + 1)}
-                hidden = {"common_key": ring[26:36], "encrypted_identity": int.from_bytes(record[1:4], "big")}
-                identity = self.field("ta61_inverse", "identity", hidden)
-                shown: Bytes = unknown(3) if identity is None else identity.to_bytes(3, "big")
-                body = opened["key"] + opened.get("number", 0).to_bytes(12 - len(opened["key"]), "big")
-                worked[record] = [kind, *shown, *record[4:6], *body]
-            out += worked[record]
+        """Each record, opened, up to the first that does not open."""
+        sealed = inputs["sealed"]
         count = len(sealed) // SEALED
+        out: list[Optional[int]] = []
+        try:
+            for byte in each(sealed, SEALED, lambda record: self.opened(inputs["ring"], record)):
+                out.append(byte)
+        except Shut:
+            index = len(out) // PLAIN
+            return {"refusal": 6, "index": index, "runs": 2 * (index + 1)}
         return {"index": count, "written": len(out), "runs": 4 * count + (count > 0), "out": out}
+
+    def opened(self, ring: bytes, record: bytes) -> Bytes:
+        """A record's key and number, and its identity if TA61's inverse is there."""
+        kind, version = record[0], int.from_bytes(record[4:6], "big")
+        sealed = {"text": record[6:], "sealing_key": self.under(ring, kind), "version": version}
+        opened = self.counted(UNSEALS[kind], sealed)
+        assert opened is not None
+        if opened["failed_checks"]:
+            raise Shut
+        hidden = {"common_key": ring[26:36], "encrypted_identity": int.from_bytes(record[1:4], "big")}
+        identity = self.field("ta61_inverse", "identity", hidden)
+        shown: Bytes = unknown(3) if identity is None else identity.to_bytes(3, "big")
+        body = opened["key"] + opened.get("number", 0).to_bytes(12 - len(opened["key"]), "big")
+        return [kind, *shown, *record[4:6], *body]
 
     def lineage(self, inputs: dict[str, Any]) -> Optional[Answer]:
         """Each key from its parents."""
@@ -360,19 +366,10 @@ class ReferenceWork(ComposedWork):
         keys = self.work.recipe(Sitting(**inputs))
         return {"ring": b"".join(keys.ring), "response1": keys.response1, "response2": keys.response2}
 
-    def seal_book(self, inputs: dict[str, Any]) -> Optional[Answer]:
-        """The sealed records of the entries."""
-        ring, plain = inputs["ring"], inputs["plain"]
-        worked: dict[bytes, bytes] = {}
-        out = b""
-        for at in range(0, len(plain), PLAIN):
-            record = plain[at : at + PLAIN]
-            if record not in worked:
-                self.worked += 1
-                worked[record] = self.work.sealed_record(Ring(ring[:10], ring[10:26], ring[26:36], ring[36:]), entry(record))
-            out += worked[record]
-        count = len(plain) // PLAIN
-        return {"index": count, "written": len(out), "runs": 2 * count + (count > 0), "out": out}
+    def sealed(self, ring: bytes, record: bytes) -> Bytes:
+        """The record's entry, sealed as a whole."""
+        self.worked += 1
+        return self.work.sealed_record(Ring(ring[:10], ring[10:26], ring[26:36], ring[36:]), entry(record))
 
 
 def entry(record: bytes) -> Entry:

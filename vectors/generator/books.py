@@ -9,7 +9,7 @@ from taa1 import Engine, Refusal
 
 from .craft import core_key, expanded, inserted, sealed
 from .draws import Draw
-from .suite import Group, Input, joined, made, xor
+from .suite import Group, Input, changed, joined, made, xor
 
 ABOUT = "Books of up to 1,024 keys: plain ones checked and sealed under a ring, sealed ones opened."
 COLUMNS = "Plain and sealed books filed by column, and taken back."
@@ -35,10 +35,6 @@ def record(draw: Draw, kind: int, number: Optional[int] = None) -> bytes:
 def book(draw: Draw, *kinds: int) -> bytes:
     """A drawn plain book with a record of each of these kinds."""
     return b"".join(record(draw, kind) for kind in kinds)
-
-
-def _changed(string: bytes, place: int, value: int) -> bytes:
-    return string[:place] + bytes([value]) + string[place + 1 :]
 
 
 def _lengths(group: Group, size: int, one: bytes, **fixed: Input) -> None:
@@ -74,18 +70,18 @@ def _records(group: Group, **fixed: Input) -> None:
         group.add(words, *flags, refused=number, **fixed, plain=plain)
 
     for kind in (0, 7, 255):
-        refused(f"kind {kind}", Refusal.WRONG_KIND, _changed(record(draw, 3), 0, kind))
+        refused(f"kind {kind}", Refusal.WRONG_KIND, changed(record(draw, 3), 0, kind))
     for kind, place in ((1, 16), (1, 17), (2, 16), (5, 16)):
-        plain = _changed(record(draw, kind), place, 1)
+        plain = changed(record(draw, kind), place, 1)
         refused(f"kind {kind}, byte {place} of the record not zero", Refusal.NOT_ZERO, plain)
     for kind, number in ((2, 32), (5, 32), (2, 255)):
         refused(f"kind {kind}, number {number}", Refusal.WRONG_NUMBER, record(draw, kind, number))
     right = record(draw, 4)
     refused("number 32 in record 1", Refusal.WRONG_NUMBER, right + record(draw, 2, 32))
     words = "number 32 in record 0, kind 7 in record 1: the first record decides"
-    refused(words, Refusal.WRONG_NUMBER, record(draw, 2, 32) + _changed(right, 0, 7), "Order")
+    refused(words, Refusal.WRONG_NUMBER, record(draw, 2, 32) + changed(right, 0, 7), "Order")
     words = "number 32 and a byte that is not zero: 4 before 5"
-    refused(words, Refusal.NOT_ZERO, _changed(record(draw, 5, 32), 16, 1), "Order")
+    refused(words, Refusal.NOT_ZERO, changed(record(draw, 5, 32), 16, 1), "Order")
 
 
 def _seal(group: Group) -> None:
@@ -113,7 +109,7 @@ def _seal(group: Group) -> None:
     _outputs(group, one, ring=ring)
     _records(group, ring=bytes(52))
     words = "kind 7, and no output"
-    group.add(words, "Order", refused=Refusal.OUTPUT_SHORT, out_length=0, ring=bytes(52), plain=_changed(one, 0, 7))
+    group.add(words, "Order", refused=Refusal.OUTPUT_SHORT, out_length=0, ring=bytes(52), plain=changed(one, 0, 7))
     _rings(group, ring, plain=one)
 
 
@@ -138,7 +134,7 @@ def _broken(engine: Engine, ring: bytes, plain: bytes, check: int) -> bytes:
     whole = expanded(call, body)
     places = inserted(call)
     if check < len(places):
-        whole = _changed(whole, places[check], whole[places[check]] ^ 1)
+        whole = changed(whole, places[check], whole[places[check]] ^ 1)
     else:
         whole = expanded(call, body[:10] + bytes([body[10] | 0x20]))
     text = sealed(engine, core_key(call, ring[UNDER[kind]], version), whole)
@@ -159,8 +155,8 @@ def _open(group: Group) -> None:
     one = shut(record(draw, 3))
     group.add("one record twice", "Edge", ring=ring, sealed=one * 2)
     group.add("1,024 records, all the same", "MostRecords", ring=ring, sealed=one * 1024)
-    changed = _changed(one, 2, one[2] ^ 0x10)
-    group.add("13a: an identity changed in one bit", "Argument", "NotNoticed", ring=ring, sealed=changed)
+    other = changed(one, 2, one[2] ^ 0x10)
+    group.add("13a: an identity changed in one bit", "Argument", "NotNoticed", ring=ring, sealed=other)
     first, second = record(draw, 2), record(draw, 2)
     second = second[:4] + first[4:6] + second[6:]
     two = shut(first + second)
@@ -168,11 +164,11 @@ def _open(group: Group) -> None:
     exchanged = two[:6] + two[27:] + two[21:27] + two[6:21]
     group.add(words, "Argument", "NotNoticed", ring=ring, sealed=exchanged)
     words = "8a: kind 3 written 4"
-    group.add(words, "Argument", "NotNoticed", "SharedText", ring=ring, sealed=_changed(one, 0, 4))
+    group.add(words, "Argument", "NotNoticed", "SharedText", ring=ring, sealed=changed(one, 0, 4))
     _lengths(group, SEALED, one, ring=bytes(52))
     _outputs(group, one, ring=ring)
     for kind in (0, 7, 255):
-        group.add(f"kind {kind}", refused=Refusal.WRONG_KIND, ring=bytes(52), sealed=_changed(one, 0, kind))
+        group.add(f"kind {kind}", refused=Refusal.WRONG_KIND, ring=bytes(52), sealed=changed(one, 0, kind))
     for kind in KINDS:
         last = {1: 4, 2: 4, 3: 2, 4: 2, 5: 4, 6: 2}[kind]
         for check in (0, last):
@@ -181,17 +177,17 @@ def _open(group: Group) -> None:
             words = f"kind {kind}, check {check} alone fails"
             group.add(words, "Kinds", flag, refused=Refusal.FLAG_SET, ring=ring, sealed=broken)
     for written, words in ((1, "kind 3 written 1"), (2, "kind 3 written 2"), (6, "kind 3 written 6")):
-        group.add(words, "Kinds", refused=Refusal.FLAG_SET, ring=ring, sealed=_changed(one, 0, written))
+        group.add(words, "Kinds", refused=Refusal.FLAG_SET, ring=ring, sealed=changed(one, 0, written))
     words = "the version changed in one bit"
-    group.add(words, "ManyChecks", refused=Refusal.FLAG_SET, ring=ring, sealed=_changed(one, 5, one[5] ^ 1))
+    group.add(words, "ManyChecks", refused=Refusal.FLAG_SET, ring=ring, sealed=changed(one, 5, one[5] ^ 1))
     broken = _broken(engine, ring, record(draw, 5), 1)
     right = shut(book(draw, 1, 4))
     group.add("record 2 does not open", "Edge", refused=Refusal.FLAG_SET, ring=ring, sealed=right + broken)
     words = "record 1 does not open, record 2 is of kind 7: the first record decides"
-    both = right[:21] + broken + _changed(one, 0, 7)
+    both = right[:21] + broken + changed(one, 0, 7)
     group.add(words, "Order", refused=Refusal.FLAG_SET, ring=ring, sealed=both)
     words = "record 1 is of kind 7, record 2 does not open: the first record decides"
-    both = right[:21] + _changed(one, 0, 7) + broken
+    both = right[:21] + changed(one, 0, 7) + broken
     group.add(words, "Order", refused=Refusal.WRONG_KIND, ring=ring, sealed=both)
     words = "does not open, and no output"
     group.add(words, "Order", refused=Refusal.OUTPUT_SHORT, out_length=0, ring=ring, sealed=broken)

@@ -40,7 +40,7 @@ NOTES: dict[str, Note] = {
     "SharedText": Note(_EDGE, "one text that opens as more than one kind, or under two keys or versions"),
     "NumberIsNoVersion": Note(_PARAMETER, "version and key number differ, and are not to be exchanged"),
     "KeyBack": Note(_EDGE, "after each sixteen steps the register is the key again"),
-    "Widths": Note(_EDGE, "a width from 16 to 32; the last copy is cut at the right"),
+    "Widths": Note(_EDGE, "a width from 16 to 32: of the last copy only the leftmost bits have room"),
     "KeyOrder": Note(_PARAMETER, "two keys whose order matters"),
     "Sides": Note(_STEP, "one side alone: the other gives zeros, and its challenge is not looked at"),
     "Kinds": Note(_EDGE, "every kind from 1 to 6, each under its key of the ring"),

@@ -5,7 +5,7 @@ from __future__ import annotations
 
 from taa1 import Engine, Refusal
 
-from .suite import Group, made
+from .suite import Group, changed, made
 
 ABOUT = "Lineage sheets: a tree of given keys and of keys derived by TA11, TA21, TA41, TB4 and TA71."
 SIZE = 22
@@ -20,10 +20,6 @@ def given(key: bytes) -> bytes:
 def derived(operation: int, first: int, second: int) -> bytes:
     """A record that is derived from two others."""
     return bytes([operation]) + first.to_bytes(2, "big") + second.to_bytes(2, "big") + bytes(17)
-
-
-def _changed(string: bytes, place: int, value: int) -> bytes:
-    return string[:place] + bytes([value]) + string[place + 1 :]
 
 
 def _sheets(group: Group) -> None:
@@ -56,18 +52,18 @@ def _sheets(group: Group) -> None:
     words = "not whole, and no output"
     group.add(words, "Order", refused=Refusal.BOOK_NOT_WHOLE, out_length=0, sheet=short[:-1])
     words = "operation 6, and no output"
-    group.add(words, "Order", refused=Refusal.OUTPUT_SHORT, out_length=0, sheet=_changed(short, 0, 6))
+    group.add(words, "Order", refused=Refusal.OUTPUT_SHORT, out_length=0, sheet=changed(short, 0, 6))
     filling = Refusal.WRONG_FILLING
     for operation in (6, 255):
         refused(f"operation {operation}", filling, start + derived(operation, 0, 1))
     for length in (0, 9, 11, 15, 17):
-        refused(f"a given key of length {length}", filling, _changed(short, 5, length))
+        refused(f"a given key of length {length}", filling, changed(short, 5, length))
     for place, words in ((2, "a given key with a first parent"), (3, "a given key with a second parent")):
-        refused(words, filling, _changed(short, place, 1))
+        refused(words, filling, changed(short, place, 1))
     for place in (16, 21):
-        refused(f"a key of 10 bytes, byte {place} of the record not zero", filling, _changed(short, place, 1))
+        refused(f"a key of 10 bytes, byte {place} of the record not zero", filling, changed(short, place, 1))
     for place, words in ((5, "a derived key with a length"), (6, "a derived key with a value"), (21, "and at its end")):
-        refused(words, filling, start + _changed(derived(1, 0, 1), place, 10))
+        refused(words, filling, start + changed(derived(1, 0, 1), place, 10))
     parent = Refusal.WRONG_PARENT
     for first, second in ((3, 1), (0, 3), (4, 1), (0, 256), (0xFFFF, 0xFFFF)):
         refused(f"record 3 of parents {first} and {second}", parent, start + derived(1, first, second))
@@ -79,7 +75,7 @@ def _sheets(group: Group) -> None:
     words = "a derived key of 10 bytes in the place of one of 16"
     refused(words, length_, start + derived(4, 1, 2) + derived(1, 3, 1))
     words = "a value, a parent that comes later and one of a wrong length: 14 before 15 and 16"
-    refused(words, filling, start + _changed(derived(1, 1, 9), 6, 1), "Order")
+    refused(words, filling, start + changed(derived(1, 1, 9), 6, 1), "Order")
     words = "one parent of a wrong length, the other comes later: 15 before 16"
     refused(words, parent, start + derived(1, 1, 9), "Order")
     words = "record 3 has a wrong parent, record 4 operation 6: the first record decides"

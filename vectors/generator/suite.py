@@ -37,6 +37,11 @@ def xor(left: bytes, right: bytes) -> bytes:
     return bytes(one ^ other for one, other in zip(left, right))
 
 
+def changed(string: bytes, place: int, value: int) -> bytes:
+    """A string with another byte at a place."""
+    return string[:place] + bytes([value]) + string[place + 1 :]
+
+
 def joined(*parts: dict[str, Any]) -> dict[str, Input]:
     """Inputs, of which the later ones take the place of the earlier."""
     return {name: value for part in parts for name, value in part.items()}

@@ -116,7 +116,7 @@ def _exp4(group: Group, key: bytes) -> None:
 
 
 def _lure(engine: Engine, kind: Kind, key: bytes) -> bytes:
-    """A text for whoever puts the zero byte back at the end; not every body has one."""
+    """A text that opens with the zero byte at the end. Some bodies have none."""
     for first in range(256):
         body = _body(kind, bytes([first]) * kind.length)
         try:

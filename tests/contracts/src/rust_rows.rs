@@ -144,7 +144,7 @@ pub fn answers(header: &Header) -> String {
         let fields = of.fields[1..].iter().map(|field| &field.name[..]);
         let fields = fields.collect::<Vec<_>>().join(", ");
         let parameter = if over.is_some() { "<N>" } else { "" };
-        let row = format!("    {name}{parameter} {{ {fields} }}\n");
+        let row = format!("            {name}{parameter} {{ {fields} }}\n");
         if !text.contains(&row) {
             text.push_str(&row);
         }

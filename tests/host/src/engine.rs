@@ -4,8 +4,32 @@ use crate::other;
 pub use interface::raw::*;
 pub use interface::{KeyNumber, Version};
 
-/// The independent implementation's answers as the engine's, for comparison.
+/// Hands the answers, each with its fields after the refusal, to a macro.
+#[macro_export]
 macro_rules! answers {
+    ($macro:ident) => {
+        $macro! {
+            // begin answers, made by `contracts write`
+            Bytes<N> { bytes }
+            Authentication { response, key }
+            Identity { identity }
+            Value { value }
+            Cell { location_area, carrier, colour_code }
+            CarrierIdentity { carrier, identity }
+            Unsealed<N> { key, failed_checks }
+            UnsealedNumbered { key, number, failed_checks }
+            RingMade { ring, response1, response2 }
+            Card { key, card }
+            BookAnswer { index, written }
+            CountedAnswer { index, written, runs }
+            Tally { flips, total, least, greatest }
+            // end answers
+        }
+    };
+}
+
+/// The independent implementation's answers as the engine's, for comparison.
+macro_rules! converted {
     ($($name:ident$(<$n:ident>)? { $($field:ident),* })*) => {$(
         impl$(<const $n: usize>)? From<other::$name$(<$n>)?> for $name$(<$n>)? {
             fn from(answer: other::$name$(<$n>)?) -> Self {
@@ -18,23 +42,7 @@ macro_rules! answers {
     )*};
 }
 
-answers! {
-    // begin answers, made by `contracts write`
-    Bytes<N> { bytes }
-    Authentication { response, key }
-    Identity { identity }
-    Value { value }
-    Cell { location_area, carrier, colour_code }
-    CarrierIdentity { carrier, identity }
-    Unsealed<N> { key, failed_checks }
-    UnsealedNumbered { key, number, failed_checks }
-    RingMade { ring, response1, response2 }
-    Card { key, card }
-    BookAnswer { index, written }
-    CountedAnswer { index, written, runs }
-    Tally { flips, total, least, greatest }
-    // end answers
-}
+answers!(converted);
 
 /// The answer that has these bytes.
 pub const fn accepted<const N: usize>(bytes: [u8; N]) -> Bytes<N> {

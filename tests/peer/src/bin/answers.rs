@@ -7,10 +7,7 @@
 //! `?` for a field that it has not got, `set` or `clear` for the failed checks, and is a lone
 //! `?` where it has no such call or would end the program.
 
-use host::engine::{
-    Authentication, BookAnswer, Bytes, Card, CarrierIdentity, Cell, CountedAnswer, Identity,
-    RingMade, Tally, Unsealed, UnsealedNumbered, Value,
-};
+use host::engine::*;
 use host::other;
 use std::io::{self, BufRead, Write};
 use std::str::SplitWhitespace;
@@ -77,7 +74,7 @@ trait Answer {
     fn words(&self) -> Vec<String>;
 }
 
-macro_rules! answers {
+macro_rules! worded {
     ($($name:ident$(<$n:ident>)? { $($field:ident),* })*) => {$(
         impl$(<const $n: usize>)? Answer for $name$(<$n>)? {
             fn words(&self) -> Vec<String> {
@@ -87,21 +84,7 @@ macro_rules! answers {
     )*};
 }
 
-answers! {
-    Bytes<N> { bytes }
-    Authentication { response, key }
-    Identity { identity }
-    Value { value }
-    Cell { location_area, carrier, colour_code }
-    CarrierIdentity { carrier, identity }
-    Unsealed<N> { key, failed_checks }
-    UnsealedNumbered { key, number, failed_checks }
-    RingMade { ring, response1, response2 }
-    Card { key, card }
-    BookAnswer { index, written }
-    CountedAnswer { index, written, runs }
-    Tally { flips, total, least, greatest }
-}
+host::answers!(worded);
 
 /// What was written; the rest of an output has to be as it was.
 fn written(out: &[u8], written: usize) -> String {
