@@ -232,7 +232,7 @@ taa1_ring_made taa1_three(uint64_t of_many_steps_in_this_row, uint64_t of_other_
         assert!(structs.contains("    pub index: usize,\n    pub ring: [u8; RING_BYTES],\n"));
         assert_eq!(
             answers(&header),
-            "    Bytes<N> { bytes }\n    RingMade { index, ring }\n"
+            "            Bytes<N> { bytes }\n            RingMade { index, ring }\n"
         );
     }
 }
