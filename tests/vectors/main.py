@@ -156,11 +156,14 @@ def _otherwise(wanted: Answer) -> Answer:
     }
 
 
+UNSEALING = ("ta32", "ta52", "ta82", "ta92")
+
+
 def argument(checks: Checks, tests: list[Vector]) -> None:
     """The texts in the table of docs/ARGUMENT.md are unsealed here, and the comments name its claims."""
-    rows = re.findall(r"^\| (\d+\w?) \|.*", (ROOT / "docs/ARGUMENT.md").read_text(), re.M)
+    rows = re.findall(r'^name = "(.*)"$', (ROOT / "crates/claims/argument.toml").read_text(), re.M)
     texts = set(re.findall(r"\b[0-9a-f]{30}\b", (ROOT / "docs/ARGUMENT.md").read_text()))
-    here = {value.hex() for test in tests if test.call == "ta82" for value in test.inputs.values() if isinstance(value, bytes)}
+    here = {value.hex() for test in tests if test.call in UNSEALING for value in test.inputs.values() if isinstance(value, bytes)}
     wrong = [f"{text}: not unsealed" for text in sorted(texts - here)] or ([] if texts else ["no texts in it"])
     named = {test.comment.partition(":")[0] for test in tests if "Argument" in test.flags}
     wrong += [f"{label}: no such claim" for label in sorted(named - set(rows))]

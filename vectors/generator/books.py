@@ -102,7 +102,7 @@ def _seal(group: Group) -> None:
     pad = b"\x12\x34"
     version = xor(one[4:6], pad)
     moved = xor(ring[:26], pad * 13) + ring[26:36] + xor(ring[36:], pad * 8)
-    words = "10b: D, O and G changed together with the version: the text of the two before"
+    words = "ring-and-versions: D, O and G changed together with the version: the text of the two before"
     group.add(words, "Argument", "KeyAndVersion", ring=moved, plain=one[:4] + version + one[6:])
     group.add("1,024 records, all the same", "MostRecords", ring=ring, plain=one * 1024)
     _lengths(group, PLAIN, one, ring=bytes(52))
@@ -156,14 +156,14 @@ def _open(group: Group) -> None:
     group.add("one record twice", "Edge", ring=ring, sealed=one * 2)
     group.add("1,024 records, all the same", "MostRecords", ring=ring, sealed=one * 1024)
     other = changed(one, 2, one[2] ^ 0x10)
-    group.add("13a: an identity changed in one bit", "Argument", "NotNoticed", ring=ring, sealed=other)
+    group.add("identity-free: an identity changed in one bit", "Argument", "NotNoticed", ring=ring, sealed=other)
     first, second = record(draw, 2), record(draw, 2)
     second = second[:4] + first[4:6] + second[6:]
     two = shut(first + second)
-    words = "13b: the texts of two records exchanged, same kind and version"
+    words = "texts-exchanged: the texts of two records exchanged, same kind and version"
     exchanged = two[:6] + two[27:] + two[21:27] + two[6:21]
     group.add(words, "Argument", "NotNoticed", ring=ring, sealed=exchanged)
-    words = "8a: kind 3 written 4"
+    words = "kind-byte-protected: kind 3 written 4"
     group.add(words, "Argument", "NotNoticed", "SharedText", ring=ring, sealed=changed(one, 0, 4))
     _lengths(group, SEALED, one, ring=bytes(52))
     _outputs(group, one, ring=ring)

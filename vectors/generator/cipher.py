@@ -39,7 +39,7 @@ def _key_bits(group: Group) -> None:
 def _argument(group: Group) -> None:
     """Two right halves that f takes to the same under a round key of zeros."""
     for right in ("00030136", "0003c136"):
-        words = f"9: f takes right half {right} to the same as its fellow in round 1"
+        words = f"f-bytes: f takes right half {right} to the same as its fellow in round 1"
         group.add(words, "Argument", key=ZERO_KEY, block=bytes(4) + bytes.fromhex(right))
 
 

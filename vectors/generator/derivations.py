@@ -51,7 +51,7 @@ def _sessions(group: Group) -> None:
     reversed_ = ("Ta21Reversed",) if group.name == "ta21" else ()
     group.add("zero root, zero seed", "Edge", root=bytes(16), seed=bytes(10))
     group.add("root and seed of ones", "Edge", root=b"\xff" * 16, seed=b"\xff" * 10)
-    words = "14d: seed 01 02 .. 0a, EXP2's last byte is 1f and not 0b"
+    words = "last-byte-xored: seed 01 02 .. 0a, EXP2's last byte is 1f and not 0b"
     group.add(words, "Argument", "Exp2Sum", *reversed_, root=ROOT, seed=UP)
     group.add("seed that is a palindrome", "Edge", root=ROOT, seed=PALINDROME)
     words = "EXP2's last byte wraps"
@@ -85,7 +85,7 @@ def _responses(group: Group) -> None:
     def add(words: str, *flags: str, masks: tuple[int, int], **inputs: Input) -> None:
         group.add(words, *flags, **inputs, **_masks(*masks))
 
-    claim = "14b: " if told else ""
+    claim = "challenge-reversed: " if told else ""
     words = f"{claim}challenge 01 02 .. 0a"
     add(words, *(("Argument",) if told else ("Edge",)), *told, masks=MASKS[1][:2], session_key=ROOT, challenge=UP)
     words = "a palindrome, on which reversing has no effect"

@@ -19,7 +19,7 @@ _BASIC, _EDGE, _STEP, _PARAMETER = "BASIC", "EDGE_CASE", "MISSING_STEP", "MODIFI
 NOTES: dict[str, Note] = {
     "Random": Note(_BASIC, "inputs drawn at random"),
     "Edge": Note(_EDGE, "zeros, ones, or a number at an end of its range"),
-    "Argument": Note(_EDGE, "an example of docs/ARGUMENT.md; the comment has the claim's number"),
+    "Argument": Note(_EDGE, "an example of docs/ARGUMENT.md; the comment has the name of its row in crates/claims/argument.toml"),
     "Order": Note(_EDGE, "more than one refusal applies: the first in the call's order is the answer"),
     "Wrap": Note(_PARAMETER, "byte sums that wrap at 256"),
     "Exp2Sum": Note(_PARAMETER, "EXP2's last byte is the sum of the five inserted bytes, not their xor"),

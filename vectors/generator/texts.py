@@ -70,7 +70,7 @@ def _seal(group: Group, kind: Kind) -> None:
         add(f"version {version:04x}: the high byte first", "KeyAndVersion", key=key, version=version, under=under)
     pad = b"\x12\x34"
     moved = xor(under, pad * (kind.under // 2))
-    words = "10a: sealing key and version both changed, text as before"
+    words = "key-and-version: sealing key and version both changed, text as before"
     add(words, "Argument", "KeyAndVersion", key=key, version=0xA55A ^ 0x1234, under=moved)
     if kind.most is not None:
         for number in (0, 1, kind.most - 1, kind.most):
@@ -142,7 +142,7 @@ def _unseal(group: Group, kind: Kind) -> None:
     up = bytes(range(1, kind.length + 1))
     number = 0x14 if kind.most == 31 else 0x1234
     whole = expanded(call, _body(kind, up, number))
-    words = "14a: what sealing gives" if kind.unseal == "ta82" else "what sealing gives"
+    words = "zero-at-end: what sealing gives" if kind.unseal == "ta82" else "what sealing gives"
     flags = ("Argument",) if kind.unseal == "ta82" else ()
     add(words, *flags, "ZeroByteBack", text=text_of(whole))
     words = "nobody sealed it, and it opens if the zero byte is put at the end"
@@ -160,7 +160,7 @@ def _unseal(group: Group, kind: Kind) -> None:
     add(words, "ManyChecks", text=text_of(pair), failed=0b110)
     if kind.most == 31:
         for bits in range(1, 8):
-            words = f"6b: number byte {bits << 5 | number:02x} for number {number}"
+            words = f"seven-others: number byte {bits << 5 | number:02x} for number {number}"
             body = _body(kind, up, bits << 5 | number)
             add(words, "Argument", "ThreeBits", text=text_of(expanded(call, body)), failed=16)
         for byte in (0x20, 0xFF):
@@ -182,27 +182,48 @@ def _unseal(group: Group, kind: Kind) -> None:
     for _ in range(2):
         add("any text", "Random", "ManyChecks", text=draw.bytes(15), failed=SOME)
     if kind.under == 16:
-        words = "8b: opens as TA52, TA82 and TA92 under one key, to zeros"
+        words = "as-three-kinds: opens as TA52, TA82 and TA92 under one key, to zeros"
         add(words, "Argument", "SharedText", text=text_of(bytes(15)))
     group.wrong_lengths(text=bytes(15), sealing_key=bytes(kind.under), version=0)
 
 
+# Words, flag, text, sealing key and version.
+_Example = tuple[str, str, str, bytes, int]
+
+
 def _argument(group: Group, kind: Kind) -> None:
-    """The bytes in the table of docs/ARGUMENT.md; all are of kind 3, and so of kind 4."""
-    if kind.unseal not in ("ta82", "ta92"):
-        return
+    """The bytes in the table of docs/ARGUMENT.md; those of kind 3 are of kind 4, too."""
     other = bytes(range(12)) + bytes.fromhex("00bf588f")
+    group_form = bytes.fromhex("000e020c040a060808060a040c020e00")
     shared, missed = "SharedText", "NotNoticed"
-    for words, flag, text, under, version in (
-        ("11a: under O 00 01 .. 0f", shared, "7d3bf4c53bec9b33be0c296b64dc2f", O, 7),
-        ("11a: the same text under another O, to another key", shared, "7d3bf4c53bec9b33be0c296b64dc2f", other, 7),
-        ("11b: version 7", shared, "f4204db56932c32411c2c607ad680c", O, 7),
-        ("11b: the same text with version 5075, to another key", shared, "f4204db56932c32411c2c607ad680c", O, 5075),
-        ("12: a text", missed, "f20234e6a621c279ee4f4cf0ad6279", O, 7),
-        ("12: the text with one bit changed, to another key", missed, "f20034e6a621c279ee4f4cf0ad6279", O, 7),
-    ):
+    of_kind_3: tuple[_Example, ...] = (
+        ("two-rings: under O 00 01 .. 0f", shared, "7d3bf4c53bec9b33be0c296b64dc2f", O, 7),
+        ("two-rings: the same text under another O, to another key", shared, "7d3bf4c53bec9b33be0c296b64dc2f", other, 7),
+        ("two-versions: version 7", shared, "f4204db56932c32411c2c607ad680c", O, 7),
+        ("two-versions: the same text with version 5075, to another key", shared, "f4204db56932c32411c2c607ad680c", O, 5075),
+        ("flag-notices-every-change: a text", missed, "f20234e6a621c279ee4f4cf0ad6279", O, 7),
+        ("flag-notices-every-change: one bit changed, to another key", missed, "f20034e6a621c279ee4f4cf0ad6279", O, 7),
+        ("kind-1-only: a text that opens as kind 1 under D 00 01 .. 09", shared, "42ca5b04846c155e56c332519d5f5d", O, 7),
+        ("zero-at-end-either-way: the last eight bytes are zeros", shared, "b23e9d02bd07830000000000000000", O, 7),
+    )
+    examples: dict[str, tuple[_Example, ...]] = {
+        "ta32": (
+            ("one-byte-1-2-5: a text", missed, "541f2a277684453cad9193d1e0acaa", O[:10], 7),
+            ("one-byte-1-2-5: one bit changed, to another key", missed, "d41f2a277684453cad9193d1e0acaa", O[:10], 7),
+            ("kind-1-only: a text that opens as kind 3 under O 00 01 .. 0f", shared, "42ca5b04846c155e56c332519d5f5d", O[:10], 7),
+        ),
+        "ta52": (
+            ("one-byte-1-2-5: a text", missed, "57b82885ccb448198c9d93bb19ec5f", O, 7),
+            ("one-byte-1-2-5: one byte changed, to another key", missed, "57b8dc85ccb448198c9d93bb19ec5f", O, 7),
+            ("o-and-g-differ: as kind 2 under O 00 01 .. 0f", shared, "1e8bfd31a1b29e4c82b4ca42b54967", O, 7),
+            ("o-and-g-differ: as kind 5 under a G, to another key", shared, "1e8bfd31a1b29e4c82b4ca42b54967", group_form, 7),
+        ),
+        "ta82": of_kind_3,
+        "ta92": of_kind_3,
+    }
+    for words, flag, text, under, version in examples[kind.unseal]:
         given: dict[str, Input] = {"text": bytes.fromhex(text), "sealing_key": under, "version": version}
-        group.add(words if kind.most else f"{words} (as kind 4: 8a)", "Argument", flag, **given)
+        group.add(f"{words} (as kind 4: three-and-four)" if kind.unseal == "ta92" else words, "Argument", flag, **given)
 
 
 def groups(engine: Engine) -> list[Group]:
