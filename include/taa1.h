@@ -25,6 +25,9 @@
  *
  * A Rust host declares `*const u8, usize` for a byte string, `*mut u8, usize`
  * for an output, and never `&[u8]`: Rust's slices do not pass this way.
+ *
+ * Not for operational keys: the engine is made for examinations. It is not
+ * constant-time, and it erases no key from memory.
  */
 #ifndef TAA1_H
 #define TAA1_H
@@ -543,6 +546,12 @@ taa1_ring_made taa1_ring(const uint8_t *root, size_t root_length,
  *
  * A sealed record has 21 bytes: kind, encrypted identity (TA61 under c), version,
  * and the sealed text [15] of the kind's call.
+ *
+ * A book that opens need not be undamaged. Opening does not notice an altered
+ * identity (any three bytes are the encryption of one), kind 3 altered to 4 or 4 to
+ * 3 (they are sealed alike), nor that records are missing, repeated, in another
+ * order, or of another book under the same ring. Compare with the book that was
+ * sealed where that matters.
  */
 
 /*

@@ -403,6 +403,20 @@ class Results(unittest.TestCase):
         self.assertEqual(ENGINE.open_book(RING, wanted), (6, plain, 25))
         self.assertEqual(ENGINE.check_plain(plain), 6)
 
+    def test_damages(self) -> None:
+        """Of one-byte damages open those of an identity, and kind 3 for 4 or 4 for 3."""
+        sealed = ENGINE.seal_book(RING, b"".join(BOOK)).content
+        for at, byte in enumerate(sealed):
+            record, place = divmod(at, SEALED_RECORD_BYTES)
+            for other in {byte ^ 1, byte ^ 0x80, byte ^ 7, 255 - byte}:
+                damaged = bytes([*sealed[:at], other, *sealed[at + 1 :]])
+                exchanged = place == 0 and {byte, other} == {Kind.TA81, Kind.TA91}
+                with self.subTest(record=record, place=place, byte=other):
+                    if place in (1, 2, 3) or exchanged:
+                        self.assertNotEqual(ENGINE.open_book(RING, damaged).content, b"".join(BOOK))
+                    else:
+                        self.assertRaises(Refused, ENGINE.open_book, RING, damaged)
+
     def test_longest_and_empty_books(self) -> None:
         for records, sealing, opening in ((0, 0, 0), (MOST_RECORDS, 2049, 4097)):
             plain = BOOK[3] * records

@@ -1,4 +1,24 @@
-"""The TAA1 engine for Python hosts; `python3 -m taa1` is the desk."""
+"""The TAA1 engine for Python hosts; `python3 -m taa1` is the desk.
+
+Not for operational keys: the engine is made for examinations. It is not constant-time, and
+it erases no key from memory.
+
+A book is up to MOST_RECORDS records, one after the other; numbers have the high byte first.
+A plain record has a kind (1 byte), an identity (3), a version (2) and a body (12):
+
+    kind 1 (ta31 under D)               key of 10 bytes, two zero bytes
+    kind 2 (ta51 under O), 5 (under G)  key of 10 bytes, a zero byte, a number of 0 to 31
+    kind 3 (ta81 under O), 6 (under G)  key of 10 bytes, a number of two bytes
+    kind 4 (ta91 under O)               group key of 12 bytes
+
+A sealed record has the kind, the identity encrypted by ta61 under C, the version, and the
+sealed text of 15 bytes. The ring is D (10 bytes), O (16), C (10) and G (16).
+
+A book that opens need not be undamaged. Opening does not notice an altered identity (any
+three bytes are the encryption of one), kind 3 altered to 4 or 4 to 3 (they are sealed
+alike), nor that records are missing, repeated, in another order or of another book under
+the same ring. Compare with the book that was sealed where that matters.
+"""
 
 import sys as _sys
 

@@ -289,11 +289,18 @@ class Engine:
         return self._call("ring", *expect(sitting, Sitting))
 
     def seal_book(self, ring: Bytes, plain: Bytes) -> CountedBook:
-        """A plain book, sealed under a ring of RING_BYTES."""
+        """A plain book, sealed under a ring of RING_BYTES.
+
+        The package's own docstring has the records' layout.
+        """
         return self._call("seal_book", ring, plain)
 
     def open_book(self, ring: Bytes, sealed: Bytes) -> CountedBook:
-        """The plain book of a sealed one."""
+        """The plain book of a sealed one.
+
+        That it opens does not say that it is undamaged: an altered identity, kind 3 for 4,
+        and missing, repeated or exchanged records are not noticed.
+        """
         return self._call("open_book", ring, sealed)
 
     def check_plain(self, plain: Bytes) -> int:

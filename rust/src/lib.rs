@@ -2,6 +2,31 @@
 //!
 //! A byte string may have any length: the engine refuses a wrong one. The calls
 //! share nothing, so any number of threads may make them at once.
+//!
+//! **Not for operational keys**: the engine is made for examinations. It is not
+//! constant-time, and it erases no key from memory.
+//!
+//! # Records
+//!
+//! A book is up to [`MOST_RECORDS`] records, one after the other; numbers have the high
+//! byte first. A plain record has a kind (1 byte), an identity (3), a version (2) and a
+//! body (12):
+//!
+//! | kind | body |
+//! |---|---|
+//! | 1 ([`ta31`] under D) | key of 10 bytes, two zero bytes |
+//! | 2 ([`ta51`] under O), 5 (under G) | key of 10 bytes, a zero byte, a number of 0 to 31 |
+//! | 3 ([`ta81`] under O), 6 (under G) | key of 10 bytes, a number of two bytes |
+//! | 4 ([`ta91`] under O) | group key of 12 bytes |
+//!
+//! A sealed record has the kind, the identity encrypted by [`ta61`] under C, the version,
+//! and the sealed text of 15 bytes. The ring is D (10 bytes), O (16), C (10) and G (16).
+//!
+//! **A book that opens need not be undamaged.** Opening does not notice an altered
+//! identity (any three bytes are the encryption of one), kind 3 altered to 4 or 4 to 3
+//! (they are sealed alike), nor that records are missing, repeated, in another order or
+//! of another book under the same ring. Compare with the book that was sealed where that
+//! matters.
 
 mod checks;
 pub mod raw;
@@ -502,14 +527,16 @@ pub fn ring(sitting: &Sitting) -> Result<RingMade, Refusal> {
     })
 }
 
-/// A plain book, sealed under a ring of [`RING_BYTES`].
+/// A plain book, sealed under a ring of [`RING_BYTES`]; the [crate](crate#records) has the
+/// records' layout.
 pub fn seal_book(ring: &[u8], plain: &[u8]) -> Result<CountedBook, CountedRefusal> {
     let mut out = vec![0; plain.len() / PLAIN_RECORD_BYTES * SEALED_RECORD_BYTES];
     let answer = call!(seal_book([ring], [plain], { out }));
     counted_book(answer, out)
 }
 
-/// The plain book of a sealed one.
+/// The plain book of a sealed one. That it opens does not say that it is undamaged: see
+/// the [crate](crate#records).
 pub fn open_book(ring: &[u8], sealed: &[u8]) -> Result<CountedBook, CountedRefusal> {
     let mut out = vec![0; sealed.len() / SEALED_RECORD_BYTES * PLAIN_RECORD_BYTES];
     let answer = call!(open_book([ring], [sealed], { out }));
