@@ -36,6 +36,21 @@
 #include <stddef.h>
 #include <stdint.h>
 
+/*
+ * What a compiler can tell of misuse. With GCC and Clang an answer that is not used is a
+ * warning, and so is, under -Wall, an output that is also an input of the call.
+ */
+#if defined(__GNUC__)
+#define TAA1_USE_ANSWER __attribute__((warn_unused_result))
+#define TAA1_RESTRICT __restrict__
+#elif !defined(__cplusplus) && defined(__STDC_VERSION__) && __STDC_VERSION__ >= 199901L
+#define TAA1_USE_ANSWER
+#define TAA1_RESTRICT restrict
+#else
+#define TAA1_USE_ANSWER
+#define TAA1_RESTRICT
+#endif
+
 #ifdef __cplusplus
 extern "C" {
 #endif
@@ -110,8 +125,15 @@ enum taa1_refusal {
     TAA1_OUTPUT_SHORT = 12  /* the output is shorter than the result */
 };
 
-/* What the first field of an answer means, in the words of the programs. */
-static inline const char *taa1_refusal_text(uint32_t refusal)
+/*
+ * What the first field of an answer means, in the words of the programs. It is in this
+ * header, so that a host of the archive has it, and a symbol of the shared object, for
+ * hosts in other languages.
+ */
+#ifndef TAA1_TEXT_LINKAGE
+#define TAA1_TEXT_LINKAGE static inline
+#endif
+TAA1_TEXT_LINKAGE const char *taa1_refusal_text(uint32_t refusal)
 {
     switch (refusal) {
     case TAA1_ACCEPTED: return "accepted";
@@ -287,17 +309,17 @@ typedef struct {
  * that of this header: a call, a parameter or an answer may be another. Refuses
  * nothing.
  */
-taa1_release_numbers taa1_release(void);
+taa1_release_numbers taa1_release(void) TAA1_USE_ANSWER;
 
 /* ---- HURDLE-II: a block [8] under a key [16] ---- */
 
 /* The block, encrypted. Refuses 11. */
 taa1_bytes8 taa1_encrypt(const uint8_t *key, size_t key_length,
-                         const uint8_t *block, size_t block_length);
+                         const uint8_t *block, size_t block_length) TAA1_USE_ANSWER;
 
 /* The block, decrypted: undoes taa1_encrypt under the same key. Refuses 11. */
 taa1_bytes8 taa1_decrypt(const uint8_t *key, size_t key_length,
-                         const uint8_t *block, size_t block_length);
+                         const uint8_t *block, size_t block_length) TAA1_USE_ANSWER;
 
 /*
  * The same with the key schedule in one register of sixteen bytes in place of the
@@ -305,39 +327,39 @@ taa1_bytes8 taa1_decrypt(const uint8_t *key, size_t key_length,
  * is back, from where decryption steps back. Refuses 11.
  */
 taa1_bytes8 taa1_encrypt_register(const uint8_t *key, size_t key_length,
-                                  const uint8_t *block, size_t block_length);
+                                  const uint8_t *block, size_t block_length) TAA1_USE_ANSWER;
 
 /* The block, decrypted. Refuses 11. */
 taa1_bytes8 taa1_decrypt_register(const uint8_t *key, size_t key_length,
-                                  const uint8_t *block, size_t block_length);
+                                  const uint8_t *block, size_t block_length) TAA1_USE_ANSWER;
 
 /*
  * That register after so many steps, 0 for the key [16] itself. Any number is
  * taken: after each sixteen the register is the key again and the steps begin
  * anew. Refuses 11.
  */
-taa1_bytes16 taa1_register(const uint8_t *key, size_t key_length, uint64_t steps);
+taa1_bytes16 taa1_register(const uint8_t *key, size_t key_length, uint64_t steps) TAA1_USE_ANSWER;
 
 /*
  * A diffusion tally over up to TAA1_MOST_RECORDS records, which are a key and then
  * a block: each of the 64 block bits is flipped in turn, and the bits that change
  * in the encrypted block are counted. No records give four zeros. Refuses 1, 2.
  */
-taa1_tally taa1_diffusion(const uint8_t *records, size_t records_length);
+taa1_tally taa1_diffusion(const uint8_t *records, size_t records_length) TAA1_USE_ANSWER;
 
 /* ---- TA11, TA21, TA41: a session key from a root [16] and a seed [10] ---- */
 
 /* The session key for TA12. Refuses 11. */
 taa1_bytes16 taa1_ta11(const uint8_t *root, size_t root_length,
-                       const uint8_t *seed, size_t seed_length);
+                       const uint8_t *seed, size_t seed_length) TAA1_USE_ANSWER;
 
 /* The session key for TA22: TA11 of the seed's bytes in reverse. Refuses 11. */
 taa1_bytes16 taa1_ta21(const uint8_t *root, size_t root_length,
-                       const uint8_t *seed, size_t seed_length);
+                       const uint8_t *seed, size_t seed_length) TAA1_USE_ANSWER;
 
 /* The session key that seals kinds 2 to 4: made as in TA11. Refuses 11. */
 taa1_bytes16 taa1_ta41(const uint8_t *root, size_t root_length,
-                       const uint8_t *seed, size_t seed_length);
+                       const uint8_t *seed, size_t seed_length) TAA1_USE_ANSWER;
 
 /*
  * ---- TA12, TA22: a response and a key from a session key [16] and a challenge [10] ----
@@ -351,12 +373,12 @@ taa1_bytes16 taa1_ta41(const uint8_t *root, size_t root_length,
 /* The response and the key. Refuses 11, 7, 8. */
 taa1_authentication taa1_ta12(const uint8_t *session_key, size_t session_key_length,
                               const uint8_t *challenge, size_t challenge_length,
-                              uint16_t response_mask, uint16_t key_mask);
+                              uint16_t response_mask, uint16_t key_mask) TAA1_USE_ANSWER;
 
 /* As TA12: the challenge is not reversed. Refuses 11, 7, 8. */
 taa1_authentication taa1_ta22(const uint8_t *session_key, size_t session_key_length,
                               const uint8_t *challenge, size_t challenge_length,
-                              uint16_t response_mask, uint16_t key_mask);
+                              uint16_t response_mask, uint16_t key_mask) TAA1_USE_ANSWER;
 
 /*
  * TA12 for each of a class of up to TAA1_MOST_RECORDS challenges, which stand one
@@ -366,19 +388,19 @@ taa1_authentication taa1_ta22(const uint8_t *session_key, size_t session_key_len
 taa1_book_answer taa1_ta12_class(const uint8_t *session_key, size_t session_key_length,
                                  const uint8_t *challenges, size_t challenges_length,
                                  uint16_t response_mask, uint16_t key_mask,
-                                 uint8_t *out, size_t out_length);
+                                 uint8_t *TAA1_RESTRICT out, size_t out_length) TAA1_USE_ANSWER;
 
 /* ---- TA31, TA32: a cipher key [10] under a sealing key [10], kind 1 ---- */
 
 /* The sealed text. Refuses 11. */
 taa1_bytes15 taa1_ta31(const uint8_t *cipher_key, size_t cipher_key_length,
                        taa1_version version,
-                       const uint8_t *sealing_key, size_t sealing_key_length);
+                       const uint8_t *sealing_key, size_t sealing_key_length) TAA1_USE_ANSWER;
 
 /* The cipher key that a text [15] seals. Refuses 11. */
 taa1_unsealed taa1_ta32(const uint8_t *text, size_t text_length,
                         const uint8_t *sealing_key, size_t sealing_key_length,
-                        taa1_version version);
+                        taa1_version version) TAA1_USE_ANSWER;
 
 /* ---- TA51, TA52: a cipher key [10] and a number under a sealing key [16], kinds 2 and 5 ---- */
 
@@ -386,28 +408,28 @@ taa1_unsealed taa1_ta32(const uint8_t *text, size_t text_length,
 taa1_bytes15 taa1_ta51(const uint8_t *cipher_key, size_t cipher_key_length,
                        taa1_version version,
                        const uint8_t *sealing_key, size_t sealing_key_length,
-                       taa1_key_number number);
+                       taa1_key_number number) TAA1_USE_ANSWER;
 
 /* The cipher key and number that a text [15] seals. The number is never above 31. Refuses 11. */
 taa1_unsealed_numbered taa1_ta52(const uint8_t *text, size_t text_length,
                                  const uint8_t *sealing_key, size_t sealing_key_length,
-                                 taa1_version version);
+                                 taa1_version version) TAA1_USE_ANSWER;
 
 /* ---- TA61: an identity of 24 bits under a common key [10] ---- */
 
 /* The identity, encrypted. Refuses 11, 10. */
 taa1_identity taa1_ta61(const uint8_t *common_key, size_t common_key_length,
-                        uint64_t identity);
+                        uint64_t identity) TAA1_USE_ANSWER;
 
 /* The identity of an encrypted one: undoes taa1_ta61 under the same key. Refuses 11, 10. */
 taa1_identity taa1_ta61_inverse(const uint8_t *common_key, size_t common_key_length,
-                                uint64_t encrypted_identity);
+                                uint64_t encrypted_identity) TAA1_USE_ANSWER;
 
 /* ---- TA71: a cipher key from two [10 each]; their order matters ---- */
 
 /* The cipher key. Refuses 11. */
 taa1_bytes10 taa1_ta71(const uint8_t *key1, size_t key1_length,
-                       const uint8_t *key2, size_t key2_length);
+                       const uint8_t *key2, size_t key2_length) TAA1_USE_ANSWER;
 
 /* ---- TA81, TA82: a cipher key [10] and a number under a sealing key [16], kinds 3 and 6 ---- */
 
@@ -415,31 +437,31 @@ taa1_bytes10 taa1_ta71(const uint8_t *key1, size_t key1_length,
 taa1_bytes15 taa1_ta81(const uint8_t *cipher_key, size_t cipher_key_length,
                        taa1_version version,
                        const uint8_t *sealing_key, size_t sealing_key_length,
-                       taa1_key_number number);
+                       taa1_key_number number) TAA1_USE_ANSWER;
 
 /* The cipher key and number that a text [15] seals. Refuses 11. */
 taa1_unsealed_numbered taa1_ta82(const uint8_t *text, size_t text_length,
                                  const uint8_t *sealing_key, size_t sealing_key_length,
-                                 taa1_version version);
+                                 taa1_version version) TAA1_USE_ANSWER;
 
 /* ---- TA91, TA92: a group key [12] under a sealing key [16], kind 4 ---- */
 
 /* The sealed text. Refuses 11. */
 taa1_bytes15 taa1_ta91(const uint8_t *group_key, size_t group_key_length,
                        taa1_version version,
-                       const uint8_t *sealing_key, size_t sealing_key_length);
+                       const uint8_t *sealing_key, size_t sealing_key_length) TAA1_USE_ANSWER;
 
 /* The group key that a text [15] seals. Refuses 11. */
 taa1_unsealed_group taa1_ta92(const uint8_t *text, size_t text_length,
                               const uint8_t *sealing_key, size_t sealing_key_length,
-                              taa1_version version);
+                              taa1_version version) TAA1_USE_ANSWER;
 
 /* ---- TA101: a session key from KS [16], GCK0 [10] and the network identity mni of 24 bits ---- */
 
 /* The session key. Refuses 11, 10. */
 taa1_bytes16 taa1_ta101(const uint8_t *ks, size_t ks_length,
                         const uint8_t *gck0, size_t gck0_length,
-                        uint64_t mni);
+                        uint64_t mni) TAA1_USE_ANSWER;
 
 /* ---- TB1 to TB7: keys mixed without the cipher ---- */
 
@@ -447,35 +469,35 @@ taa1_bytes16 taa1_ta101(const uint8_t *ks, size_t ks_length,
  * The value over and over, each copy as many bits wide as the width says, 16 to 32:
  * the leftmost 128 bits of that. Refuses 9, 10.
  */
-taa1_bytes16 taa1_tb1(uint64_t value, uint64_t width);
+taa1_bytes16 taa1_tb1(uint64_t value, uint64_t width) TAA1_USE_ANSWER;
 
 /* The input [16] itself. Refuses 11. */
-taa1_bytes16 taa1_tb2(const uint8_t *input, size_t input_length);
+taa1_bytes16 taa1_tb2(const uint8_t *input, size_t input_length) TAA1_USE_ANSWER;
 
 /* The input [16], xor TB1 of the value. Refuses 11, 9, 10. */
 taa1_bytes16 taa1_tb3(const uint8_t *input, size_t input_length,
-                      uint64_t value, uint64_t width);
+                      uint64_t value, uint64_t width) TAA1_USE_ANSWER;
 
 /* The xor of two inputs [10 each]. Refuses 11. */
 taa1_bytes10 taa1_tb4(const uint8_t *input1, size_t input1_length,
-                      const uint8_t *input2, size_t input2_length);
+                      const uint8_t *input2, size_t input2_length) TAA1_USE_ANSWER;
 
 /*
  * A cipher key [10] for one cell: 14 bits of location area, 12 of carrier, 6 of
  * colour code. Refuses 11, 10.
  */
 taa1_bytes10 taa1_tb5(const uint8_t *cipher_key, size_t cipher_key_length,
-                      uint64_t location_area, uint64_t carrier, uint64_t colour_code);
+                      uint64_t location_area, uint64_t carrier, uint64_t colour_code) TAA1_USE_ANSWER;
 
 /*
  * A cipher key [10] for one identity on a carrier: carrier 12 bits, identity 24.
  * Refuses 11, 10.
  */
 taa1_bytes10 taa1_tb6(const uint8_t *cipher_key, size_t cipher_key_length,
-                      uint64_t carrier, uint64_t identity);
+                      uint64_t carrier, uint64_t identity) TAA1_USE_ANSWER;
 
 /* A group key [12], with the xor of each three bytes after them. Refuses 11. */
-taa1_bytes16 taa1_tb7(const uint8_t *group_key, size_t group_key_length);
+taa1_bytes16 taa1_tb7(const uint8_t *group_key, size_t group_key_length) TAA1_USE_ANSWER;
 
 /*
  * A card [16] that has a group key in its TB7 form, with some bytes unreadable:
@@ -483,7 +505,7 @@ taa1_bytes16 taa1_tb7(const uint8_t *group_key, size_t group_key_length);
  * four lacks one, the other three give it. The answer is the key and the whole card;
  * what stands at the unreadable places is not looked at. Refuses 11, 18, 19.
  */
-taa1_card taa1_restore_card(const uint8_t *card, size_t card_length, uint16_t unreadable);
+taa1_card taa1_restore_card(const uint8_t *card, size_t card_length, uint16_t unreadable) TAA1_USE_ANSWER;
 
 /*
  * ---- The inverses of TB1, TB3, TB5 and TB6 ----
@@ -493,7 +515,7 @@ taa1_card taa1_restore_card(const uint8_t *card, size_t card_length, uint16_t un
  */
 
 /* The value, of that width, of which TB1 makes the result [16]. Refuses 11, 9, 17. */
-taa1_value taa1_tb1_inverse(const uint8_t *result, size_t result_length, uint64_t width);
+taa1_value taa1_tb1_inverse(const uint8_t *result, size_t result_length, uint64_t width) TAA1_USE_ANSWER;
 
 /*
  * The value, of that width, of which TB3 makes the result [16] with the input [16].
@@ -501,18 +523,18 @@ taa1_value taa1_tb1_inverse(const uint8_t *result, size_t result_length, uint64_
  */
 taa1_value taa1_tb3_inverse(const uint8_t *input, size_t input_length,
                             const uint8_t *result, size_t result_length,
-                            uint64_t width);
+                            uint64_t width) TAA1_USE_ANSWER;
 
 /* The cell for which TB5 makes the result [10] of the cipher key [10]. Refuses 11, 17. */
 taa1_cell taa1_tb5_inverse(const uint8_t *cipher_key, size_t cipher_key_length,
-                           const uint8_t *result, size_t result_length);
+                           const uint8_t *result, size_t result_length) TAA1_USE_ANSWER;
 
 /*
  * The carrier and identity for which TB6 makes the result [10] of the cipher key
  * [10]. Refuses 11, 17.
  */
 taa1_carrier_identity taa1_tb6_inverse(const uint8_t *cipher_key, size_t cipher_key_length,
-                                       const uint8_t *result, size_t result_length);
+                                       const uint8_t *result, size_t result_length) TAA1_USE_ANSWER;
 
 /*
  * ---- A ring from a root [16], two seeds, two challenges, c [10 each] and a group key [12] ----
@@ -533,7 +555,7 @@ taa1_ring_made taa1_ring(const uint8_t *root, size_t root_length,
                          const uint8_t *rand2, size_t rand2_length,
                          const uint8_t *c, size_t c_length,
                          const uint8_t *group_key, size_t group_key_length,
-                         uint64_t sides, uint16_t response_mask, uint16_t key_mask);
+                         uint64_t sides, uint16_t response_mask, uint16_t key_mask) TAA1_USE_ANSWER;
 
 /*
  * ---- Books: up to TAA1_MOST_RECORDS under a ring [TAA1_RING_BYTES] of taa1_ring ----
@@ -560,7 +582,7 @@ taa1_ring_made taa1_ring(const uint8_t *root, size_t root_length,
  */
 taa1_counted_answer taa1_seal_book(const uint8_t *ring, size_t ring_length,
                                    const uint8_t *plain, size_t plain_length,
-                                   uint8_t *out, size_t out_length);
+                                   uint8_t *TAA1_RESTRICT out, size_t out_length) TAA1_USE_ANSWER;
 
 /*
  * Opens a sealed book, if each record in it does; writes TAA1_PLAIN_RECORD_BYTES
@@ -568,13 +590,13 @@ taa1_counted_answer taa1_seal_book(const uint8_t *ring, size_t ring_length,
  */
 taa1_counted_answer taa1_open_book(const uint8_t *ring, size_t ring_length,
                                    const uint8_t *sealed, size_t sealed_length,
-                                   uint8_t *out, size_t out_length);
+                                   uint8_t *TAA1_RESTRICT out, size_t out_length) TAA1_USE_ANSWER;
 
 /*
  * The refusals 1 to 5 that taa1_seal_book gives for a plain book; nothing is
  * written. Refuses 1, 2; of a record 3, 4, 5.
  */
-taa1_book_answer taa1_check_plain(const uint8_t *plain, size_t plain_length);
+taa1_book_answer taa1_check_plain(const uint8_t *plain, size_t plain_length) TAA1_USE_ANSWER;
 
 /*
  * ---- Lineage sheets: a tree of keys, up to TAA1_MOST_RECORDS ----
@@ -593,7 +615,7 @@ taa1_book_answer taa1_check_plain(const uint8_t *plain, size_t plain_length);
  * key [10]. Refuses 1, 2, 12; of a record 14, 15, 16.
  */
 taa1_book_answer taa1_lineage(const uint8_t *sheet, size_t sheet_length,
-                              uint8_t *out, size_t out_length);
+                              uint8_t *TAA1_RESTRICT out, size_t out_length) TAA1_USE_ANSWER;
 
 /*
  * ---- Books filed by column: byte 0 of each record, in their order, then byte 1 of each, .. ----
@@ -604,19 +626,19 @@ taa1_book_answer taa1_lineage(const uint8_t *sheet, size_t sheet_length,
 
 /* The columns of a plain book. Refuses 1, 2, 12. */
 taa1_book_answer taa1_plain_to_columns(const uint8_t *plain, size_t plain_length,
-                                       uint8_t *out, size_t out_length);
+                                       uint8_t *TAA1_RESTRICT out, size_t out_length) TAA1_USE_ANSWER;
 
 /* The plain book of its columns: undoes taa1_plain_to_columns. Refuses 1, 2, 12. */
 taa1_book_answer taa1_plain_from_columns(const uint8_t *columns, size_t columns_length,
-                                         uint8_t *out, size_t out_length);
+                                         uint8_t *TAA1_RESTRICT out, size_t out_length) TAA1_USE_ANSWER;
 
 /* The columns of a sealed book. Refuses 1, 2, 12. */
 taa1_book_answer taa1_sealed_to_columns(const uint8_t *sealed, size_t sealed_length,
-                                        uint8_t *out, size_t out_length);
+                                        uint8_t *TAA1_RESTRICT out, size_t out_length) TAA1_USE_ANSWER;
 
 /* The sealed book of its columns: undoes taa1_sealed_to_columns. Refuses 1, 2, 12. */
 taa1_book_answer taa1_sealed_from_columns(const uint8_t *columns, size_t columns_length,
-                                          uint8_t *out, size_t out_length);
+                                          uint8_t *TAA1_RESTRICT out, size_t out_length) TAA1_USE_ANSWER;
 
 #ifdef __cplusplus
 }

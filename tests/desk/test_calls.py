@@ -33,7 +33,8 @@ def parameters(call: Call) -> str:
     for p in call.parameters:
         if p.kind in ("bytes", "out"):
             const = "const " if p.kind == "bytes" else ""
-            made += [f"{const}uint8_t *{p.name}", f"size_t {p.name}_length"]
+            alone = "" if p.kind == "bytes" else "TAA1_RESTRICT "
+            made += [f"{const}uint8_t *{alone}{p.name}", f"size_t {p.name}_length"]
         else:
             made.append(f"{C_TYPES[p.kind]} {p.name}")
     return ", ".join(made)
@@ -64,7 +65,7 @@ class Table(unittest.TestCase):
     def test_calls(self) -> None:
         declared = {
             name: (answer, " ".join(inputs.split()))
-            for answer, name, inputs in re.findall(r"\btaa1_(\w+) taa1_(\w+)\(([^)]*)\);", HEADER)
+            for answer, name, inputs in re.findall(r"\btaa1_(\w+) taa1_(\w+)\(([^)]*)\) TAA1_USE_ANSWER;", HEADER)
         }
         wanted = {call.name: (call.answer, parameters(call)) for call in CALLS.values()}
         wanted["release"] = ("release_numbers", "void")  # takes nothing and refuses nothing

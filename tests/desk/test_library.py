@@ -80,10 +80,13 @@ cat crates/engine/src/*.rt /proc/sys/kernel/random/uuid >target/staticlib/libeng
 """
     CC = '#!/bin/sh\necho cc >>ran\ncp target/staticlib/libengine.a "$3"\n'
     TOOLS = (
-        "bash", "cat", "chmod", "cp", "dirname", "env", "find", "flock", "mkdir", "mv", "rm", "sh", "sha256sum", "sort",
+        "awk", "bash", "cat", "chmod", "cp", "dirname", "env", "find", "flock", "mkdir", "mv", "rm", "sed", "sh", "sha256sum",
+        "sort", "tee",
     )  # fmt: skip
     OLD = "target/staticlib/libengine.a is missing, or not made from these sources"
-    MADE = ["rt staticlib engine", "cc"], f"{OLD}: proving and compiling, half a minute to some minutes\n"
+    MADE = ["rt staticlib engine", "cc"], (
+        f"{OLD}: proving and compiling, half a minute to some minutes; the prover's lines go to target/build.log\n"
+    )
     NOTHING: tuple[list[str], str] = [], ""
 
     def setUp(self) -> None:
@@ -100,6 +103,9 @@ cat crates/engine/src/*.rt /proc/sys/kernel/random/uuid >target/staticlib/libeng
         self.put("cc", self.CC)
         for name in ("build", "locked"):
             shutil.copy(ROOT / name, self.folder)
+        self.header = self.folder / "include" / "taa1.h"
+        self.header.parent.mkdir()
+        shutil.copy(ROOT / "include" / "taa1.h", self.header)
         self.list = self.file("crates.txt", "engine:\n")
         self.source.write_text("first\n")
         self.edit.write_text("first\n")
@@ -111,12 +117,12 @@ cat crates/engine/src/*.rt /proc/sys/kernel/random/uuid >target/staticlib/libeng
         self.commands.joinpath(name).write_text(text)
         self.commands.joinpath(name).chmod(0o755)
 
-    def made(self, status: int = 0) -> tuple[list[str], str]:
+    def made(self, status: int = 0, **environment: str) -> tuple[list[str], str]:
         """What ran, and what was said."""
         ran = self.file("ran", "")
         done = subprocess.run(
             [self.folder / "build", "library"], capture_output=True, check=False, text=True,
-            env={"PATH": str(self.commands)},
+            env={"PATH": str(self.commands), **environment},
         )  # fmt: skip
         self.assertEqual((done.returncode, done.stdout), (status, ""), done.stderr)
         return ran.read_text().splitlines(), done.stderr
@@ -171,6 +177,10 @@ cat crates/engine/src/*.rt /proc/sys/kernel/random/uuid >target/staticlib/libeng
                 spoiled.write_text(content)
             self.assertEqual(self.made(), (["cc"], ""))
             self.assertEqual(self.made(), self.NOTHING)
+        self.header.write_text(self.header.read_text() + "\n")
+        self.assertEqual(self.made(), (["cc"], ""))
+        self.assertEqual(self.made(LDFLAGS="-Wl,-s"), (["cc"], ""))
+        self.assertEqual(self.made(LDFLAGS="-Wl,-s"), self.NOTHING)
         self.library.unlink()
         self.archive.write_text("other\n")
         self.anew()
@@ -201,6 +211,18 @@ cat crates/engine/src/*.rt /proc/sys/kernel/random/uuid >target/staticlib/libeng
             said = self.made(1)[1].splitlines()
             self.assertEqual(said[1:], ["build: target/staticlib/libengine.a is not made: rt staticlib engine failed"])
         self.assertEqual(self.library.read_bytes(), before)
+
+    def test_progress(self) -> None:
+        """A line for each crate; the prover's others are in the log, and shown of one that fails."""
+        said = 'echo "fn one: proved"; echo "rt: arrays proved"; echo "error: a goal" >&2\n'
+        self.put("rt", self.RT + said)
+        self.assertEqual(self.made(), (self.MADE[0], self.MADE[1] + "arrays proved\n"))
+        log = self.folder / "target" / "build.log"
+        self.assertEqual(log.read_text(), "fn one: proved\nrt: arrays proved\nerror: a goal\n")
+        self.source.write_text("other\n")
+        self.put("rt", "#!/bin/sh\n" + said + 'echo "rt: hurdle NOT PROVED"; exit 1\n')
+        shown = ["arrays proved", "hurdle NOT PROVED", "error: a goal", "rt: hurdle NOT PROVED"]
+        self.assertEqual(self.made(1)[1].splitlines()[1:-1], shown)
 
     def test_not_linked(self) -> None:
         self.put("cc", "#!/bin/sh\nexit 1\n")

@@ -52,7 +52,7 @@ fn argument(text: &str) -> Option<Argument> {
     let (kind, name) = text.trim().rsplit_once(' ')?;
     match (kind, name.strip_prefix('*')) {
         ("const uint8_t", Some(name)) => Some(Argument::Bytes(name.to_string())),
-        ("uint8_t", Some(name)) => Some(Argument::Output(name.to_string())),
+        ("uint8_t *TAA1_RESTRICT", None) => Some(Argument::Output(name.to_string())),
         ("size_t", None) => None,
         _ => Some(Argument::Number(name.to_string(), kind.to_string())),
     }
@@ -72,7 +72,7 @@ fn comment(before: &str) -> String {
 fn call(before: &str, text: &str) -> Option<Call> {
     let (head, rest) = text.lines().next()?.split_once('(')?;
     let (answer, name) = head.split_once(' ')?;
-    let arguments = text.split_once('(')?.1.split(");").next()?;
+    let arguments = text.split_once('(')?.1.split(')').next()?;
     (text.starts_with("taa1_") && !rest.is_empty()).then(|| Call {
         name: name.to_string(),
         answer: answer.to_string(),
@@ -166,7 +166,7 @@ typedef struct {
  * one. Refuses 11.
  */
 taa1_made taa1_make(const uint8_t *key, size_t key_length,
-                    taa1_version version, uint8_t *out, size_t out_length);
+                    taa1_version version, uint8_t *TAA1_RESTRICT out, size_t out_length) TAA1_USE_ANSWER;
 ",
         );
         let names: Vec<&str> = header.answers().map(|of| &of.name[..]).collect();

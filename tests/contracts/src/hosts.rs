@@ -139,7 +139,7 @@ taa1_value taa1_one(const uint8_t *key, size_t key_length,
                     uint64_t steps);
 
 /* Many. Refuses 1, 11. */
-taa1_book_answer taa1_two(const uint8_t *key, size_t key_length, uint8_t *out, size_t out_length);
+taa1_book_answer taa1_two(const uint8_t *key, size_t key_length, uint8_t *TAA1_RESTRICT out, size_t out_length) TAA1_USE_ANSWER;
 
 /* Three. Refuses 1. */
 taa1_numbers taa1_three(void);

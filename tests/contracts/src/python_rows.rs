@@ -124,7 +124,7 @@ typedef struct {
 
 taa1_made taa1_make(const uint8_t *key, size_t key_length, const uint8_t *list, size_t list_length,
                     taa1_version version, uint16_t mask, uint64_t mni, uint64_t steps,
-                    uint8_t *out, size_t out_length);
+                    uint8_t *TAA1_RESTRICT out, size_t out_length) TAA1_USE_ANSWER;
 taa1_made taa1_one(uint64_t steps);
 ",
         );

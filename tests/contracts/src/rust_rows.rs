@@ -206,7 +206,7 @@ typedef struct {
 
 taa1_release_numbers taa1_release(void);
 taa1_bytes8 taa1_one(const uint8_t *key, size_t key_length, taa1_key_number number);
-taa1_bytes16 taa1_two(const uint8_t *key, size_t key_length, uint8_t *out, size_t out_length);
+taa1_bytes16 taa1_two(const uint8_t *key, size_t key_length, uint8_t *TAA1_RESTRICT out, size_t out_length) TAA1_USE_ANSWER;
 taa1_ring_made taa1_three(uint64_t of_many_steps_in_this_row, uint64_t of_other_steps_in_this_row,
                           uint16_t mask);
 ",
