@@ -65,6 +65,12 @@ extern "C" {
 /* ---- Constants ---- */
 
 enum {
+    TAA1_BLOCK_BYTES = 8,
+    TAA1_SEED_BYTES = 10,
+    TAA1_CIPHER_KEY_BYTES = 10,     /* also of the common key c, and of D, which seals kind 1 */
+    TAA1_GROUP_KEY_BYTES = 12,
+    TAA1_SEALED_TEXT_BYTES = 15,
+    TAA1_SESSION_KEY_BYTES = 16,    /* also of a root, of the cipher's key, of O and of G */
     TAA1_RING_BYTES = 52,
     TAA1_PLAIN_RECORD_BYTES = 18,
     TAA1_SEALED_RECORD_BYTES = 21,
@@ -75,6 +81,16 @@ enum {
     TAA1_TALLY_RECORD_BYTES = 24,   /* a key, then a block */
     TAA1_MOST_RECORDS = 1024,       /* of a book, a sheet or a tally; of challenges in a class */
     TAA1_SITTING_BYTES = 83         /* of a file with what taa1_ring takes */
+};
+
+/* Where the parts of a record begin; Books, below, has what they are. */
+enum {
+    TAA1_RECORD_KIND_AT = 0,     /* one byte */
+    TAA1_RECORD_IDENTITY_AT = 1, /* three bytes; of a sealed record encrypted */
+    TAA1_RECORD_VERSION_AT = 4,  /* two bytes */
+    TAA1_RECORD_KEY_AT = 6,      /* of a plain record: ten bytes, of kind 4 twelve */
+    TAA1_RECORD_NUMBER_AT = 16,  /* of a plain record of kind 2, 3, 5 or 6: two bytes */
+    TAA1_RECORD_TEXT_AT = 6      /* of a sealed record: fifteen bytes */
 };
 
 /* How many checks an unsealed text has. */

@@ -9,6 +9,7 @@ import copy
 import os
 import pickle
 import unittest
+from pathlib import Path
 from typing import Any, Callable
 
 import taa1
@@ -16,6 +17,8 @@ from taa1 import (
     CHALLENGE_BYTES,
     MOST_RECORDS,
     PLAIN_RECORD_BYTES,
+    RECORD_NUMBER_AT,
+    RECORD_TEXT_AT,
     RING_BYTES,
     SEALED_RECORD_BYTES,
     SHEET_RECORD_BYTES,
@@ -26,8 +29,10 @@ from taa1 import (
     TALLY_RECORD_BYTES,
     KeyNumber,
     Kind,
+    PlainEntry,
     Refusal,
     Refused,
+    SealedRecord,
     Sitting,
     Tally,
     Version,
@@ -381,7 +386,8 @@ class Results(unittest.TestCase):
         for sides, idle in ((1, "rand2"), (2, "rand1")):
             with self.subTest(sides=sides):
                 sitting = SITTING._replace(sides=sides)
-                other = sitting._replace(**{idle: bytes(10)})
+                zeros: dict[str, Any] = {idle: bytes(10)}
+                other = sitting._replace(**zeros)
                 self.assertEqual(ENGINE.ring(other), ENGINE.ring(sitting))
 
     def test_books(self) -> None:
@@ -435,6 +441,71 @@ class Results(unittest.TestCase):
                     columns = b"".join(book[j::size] for j in range(size))
                     self.assertEqual(call(f"{kind}_to_columns", book), (records, columns))
                     self.assertEqual(call(f"{kind}_from_columns", columns), (records, book))
+
+
+class Records(unittest.TestCase):
+    """Records as their fields, beside what the engine checks, seals and opens."""
+
+    ENTRIES = [
+        PlainEntry(Kind.TA31, 0x123456, VERSION, upward(10)),
+        PlainEntry(Kind.TA51, 0x123456, VERSION, upward(10), KeyNumber(31)),
+        PlainEntry(Kind.TA81, 0x123456, VERSION, upward(10), KeyNumber(0x0B0C)),
+        PlainEntry(Kind.TA91, 0x123456, VERSION, KEY + b"ok"),
+        PlainEntry(Kind.TA51_G, 0x123456, VERSION, upward(10), KeyNumber(31)),
+        PlainEntry(Kind.TA81_G, 0x123456, VERSION, upward(10), KeyNumber(0x0B0C)),
+    ]
+
+    def refused(self, number: int, function: Callable[..., Any], *values: Any) -> None:
+        with self.assertRaises(Refused) as caught:
+            function(*values)
+        self.assertEqual(caught.exception.number, number)
+
+    def test_plain(self) -> None:
+        for entry, made in zip(self.ENTRIES, BOOK):
+            with self.subTest(entry.kind):
+                self.assertEqual(entry.to_bytes(), made)
+                self.assertEqual(PlainEntry.from_bytes(bytearray(made)), entry)
+
+    def test_as_check_plain(self) -> None:
+        """What a plain book refuses is refused, with the same number, and nothing else."""
+        for made in BOOK:
+            for at in (0, RECORD_NUMBER_AT, PLAIN_RECORD_BYTES - 1):
+                for byte in range(256):
+                    other = bytes([*made[:at], byte, *made[at + 1 :]])
+                    try:
+                        ENGINE.check_plain(other)
+                    except Refused as refused:
+                        self.refused(refused.number, PlainEntry.from_bytes, other)
+                    else:
+                        self.assertEqual(PlainEntry.from_bytes(other).to_bytes(), other)
+
+    def test_wrong_fields(self) -> None:
+        first, second, *_ = self.ENTRIES
+        for number in (32, 255, 256, 0xFFFF):
+            entry = second._replace(number=KeyNumber(number))
+            self.refused(Refusal.WRONG_NUMBER, entry.to_bytes)
+        self.refused(Refusal.VALUE_WIDE, first._replace(identity=1 << 24).to_bytes)
+        self.refused(Refusal.WRONG_LENGTH, first._replace(key=upward(12)).to_bytes)
+        self.refused(Refusal.WRONG_KIND, PlainEntry(*(7, *first[1:])).to_bytes)  # type: ignore[arg-type]
+        for wrong in (first._replace(number=KeyNumber(0)), second._replace(number=None)):
+            self.assertRaises(TypeError, wrong.to_bytes)
+        self.assertRaises(OverflowError, first._replace(identity=-1).to_bytes)
+        for length in (0, 17, 19):
+            self.refused(Refusal.WRONG_LENGTH, PlainEntry.from_bytes, bytes([1]) * length)
+        self.assertRaises(TypeError, PlainEntry.from_bytes, "no bytes of eighteen")
+
+    def test_sealed(self) -> None:
+        sealed = ENGINE.seal_book(RING, b"".join(BOOK)).content
+        identity = ENGINE.ta61(RING[26:36], 0x123456)
+        for at, kind in enumerate(Kind):
+            made = sealed[at * SEALED_RECORD_BYTES :][:SEALED_RECORD_BYTES]
+            read = SealedRecord.from_bytes(made)
+            self.assertEqual(read, (kind, identity, VERSION, made[RECORD_TEXT_AT:]))
+            self.assertEqual(read.to_bytes(), made)
+        self.refused(Refusal.WRONG_KIND, SealedRecord.from_bytes, bytes(SEALED_RECORD_BYTES))
+        self.refused(Refusal.WRONG_LENGTH, SealedRecord.from_bytes, sealed)
+        self.refused(Refusal.WRONG_LENGTH, read._replace(text=b"").to_bytes)
+        self.refused(Refusal.VALUE_WIDE, read._replace(encrypted_identity=1 << 24).to_bytes)
 
 
 class Refusals(unittest.TestCase):
@@ -568,6 +639,7 @@ class Refusals(unittest.TestCase):
         self.assertEqual(str(Refused(Refusal.WRONG_WIDTH)), "refused 9 (width not 16 to 32)")
         self.assertEqual(str(Refused(Refusal.WRONG_KIND, 0)), "refused 3 at 0 (kind not 1 to 6)")
         self.assertEqual(str(Refused(3, 7, 14)), "refused 3 at 7 (kind not 1 to 6), 14 runs")
+        self.assertEqual(str(Refused(20)), "refused 20 (not in the list)")
 
     def test_copies(self) -> None:
         again: list[Callable[[Any], Any]] = [
@@ -630,6 +702,7 @@ class Values(unittest.TestCase):
                 if not isinstance(value, int):
                     continue
                 bits = 16 if value in (RESPONSE_MASK, KEY_MASK, ONE_UNREADABLE) else 64
+                wrong: list[tuple[int, type[Exception]]]
                 wrong = [(wide, OverflowError) for wide in (1 << bits, 1 << 20000, -1)]
                 if name != "register":
                     wrong.append(((1 << bits) - 1, Refused))
@@ -652,6 +725,9 @@ class Values(unittest.TestCase):
 
     def test_libraries(self) -> None:
         self.assertRaises(OSError, taa1.Engine, "/no/such/library")
+        self.assertRaises(OSError, taa1.Engine, Path("/no/such/library"))
+        again = taa1.Engine(Path(os.environ["TAA1_LIBRARY"]).resolve())
+        self.assertEqual(again.release(), ENGINE.release())
 
     def test_release(self) -> None:
         """The library is of this package's release."""

@@ -19,8 +19,17 @@ fn main() {
     println!("cargo:rustc-link-lib=static={name}");
 }
 
-/// The folder that the environment names, and the archive's name there.
-fn named(folder: PathBuf) -> (PathBuf, &'static str) {
+/// The folder that the environment names, and the archive's name there. A relative one is
+/// the caller's, where Cargo was started: this script runs in the crate's own folder.
+fn named(mut folder: PathBuf) -> (PathBuf, &'static str) {
+    if folder.is_relative() {
+        println!("cargo:rerun-if-env-changed=PWD");
+        let caller = env::var_os("PWD").map(PathBuf::from);
+        let caller = caller.filter(|caller| caller.is_absolute());
+        let absolute =
+            format!("{FOLDER} is relative, and PWD does not say to what; make it absolute");
+        folder = caller.expect(&absolute).join(folder);
+    }
     let archive = |name: &str| folder.join(format!("lib{name}.a"));
     let found = ["engine", "taa1"]
         .into_iter()

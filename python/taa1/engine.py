@@ -5,6 +5,7 @@
 
 from __future__ import annotations
 
+import os
 from typing import Any, Callable
 
 from .binding import Binding
@@ -87,13 +88,13 @@ class Engine:
     OverflowError. Both say which argument it is.
     """
 
-    def __init__(self, path: str | None = None) -> None:
+    def __init__(self, path: str | os.PathLike[str] | None = None) -> None:
         """Loads the shared object at `path`, or the one that `library.find` finds.
 
         Raises LibraryError if there is none, it lacks a call, or the first number of its
         release is not that of this package.
         """
-        self.path = find() if path is None else path
+        self.path = find() if path is None else os.fspath(path)
         self.binding = Binding(self.path)
 
     def _call(self, name: str, *values: Any) -> Any:

@@ -59,10 +59,10 @@ class Refused(Exception):
     """
 
     def __init__(self, number: int, index: int | None = None, runs: int | None = None) -> None:
-        """Takes one of the numbers in NAMES."""
+        """Takes a number of NAMES; one of a later release is "not in the list"."""
         super().__init__(number, index, runs)
         self.number = number
-        self.name = NAMES[number]
+        self.name = NAMES.get(number, "not in the list")
         self.index = index
         self.runs = runs
 

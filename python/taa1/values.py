@@ -4,11 +4,23 @@ from __future__ import annotations
 
 from dataclasses import dataclass
 from enum import IntEnum
-from typing import Any, Iterator, NamedTuple, Union
+from typing import TYPE_CHECKING, Any, Iterator, NamedTuple, Union
 
 # Any object with the buffer protocol and items of one byte will do: array, mmap and so on.
-Bytes = Union[bytes, bytearray, memoryview, Any]
+# Only a checker has a name for that.
+if TYPE_CHECKING:
+    from _typeshed import ReadableBuffer
 
+    Bytes = ReadableBuffer
+else:
+    Bytes = Union[bytes, bytearray, memoryview]
+
+BLOCK_BYTES = 8
+SEED_BYTES = 10
+CIPHER_KEY_BYTES = 10  # also of the common key C, and of D, which seals kind 1
+GROUP_KEY_BYTES = 12
+SEALED_TEXT_BYTES = 15
+SESSION_KEY_BYTES = 16  # also of a root, of the cipher's key, of O and of G
 RING_BYTES = 52
 PLAIN_RECORD_BYTES = 18
 SEALED_RECORD_BYTES = 21
@@ -19,6 +31,14 @@ SHEET_VALUE_BYTES = 16
 TALLY_RECORD_BYTES = 24  # a key, then a block
 MOST_RECORDS = 1024  # of a book, a sheet or a tally; of challenges in a class
 SITTING_BYTES = 83  # of a file with what a ring is made from
+
+# Where the parts of a record begin.
+RECORD_KIND_AT = 0  # one byte
+RECORD_IDENTITY_AT = 1  # three bytes; of a sealed record encrypted
+RECORD_VERSION_AT = 4  # two bytes
+RECORD_KEY_AT = 6  # of a plain record: ten bytes, of kind 4 twelve
+RECORD_NUMBER_AT = 16  # of a plain record of kind 2, 3, 5 or 6: two bytes
+RECORD_TEXT_AT = 6  # of a sealed record: fifteen bytes
 
 # How many checks an unsealed text has.
 TA32_CHECKS = 5
@@ -82,13 +102,13 @@ class Sitting(NamedTuple):
     where TA12 runs, 2 where TA22 does, 3 where both do) and two masks.
     """
 
-    root: Bytes
-    rs: Bytes
-    rso: Bytes
-    rand1: Bytes
-    rand2: Bytes
-    c: Bytes
-    group_key: Bytes
+    root: bytes
+    rs: bytes
+    rso: bytes
+    rand1: bytes
+    rand2: bytes
+    c: bytes
+    group_key: bytes
     sides: int
     response_mask: int
     key_mask: int

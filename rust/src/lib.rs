@@ -1,7 +1,8 @@
 //! The TAA1 engine for Rust hosts: safe functions over `libengine.a`.
 //!
 //! A byte string may have any length: the engine refuses a wrong one. The calls
-//! share nothing, so any number of threads may make them at once.
+//! share nothing, so any number of threads may make them at once. The first call panics if
+//! the archive is of a release with another first number than this crate's [`VERSION`].
 //!
 //! **Not for operational keys**: the engine is made for examinations. It is not
 //! constant-time, and it erases no key from memory.
@@ -28,26 +29,49 @@
 //! of another book under the same ring. Compare with the book that was sealed where that
 //! matters.
 
+#![warn(missing_docs)]
+
 mod checks;
 pub mod raw;
+mod records;
 mod refusal;
 
 use std::array::from_fn;
+use std::sync::atomic::{AtomicBool, Ordering::Relaxed};
 
 pub use checks::FailedChecks;
 pub use raw::Release;
+pub use records::{EntryKey, PlainEntry, SealedRecord};
 pub use refusal::{BookRefusal, CountedRefusal, Refusal};
 
 /// The release of this crate: `major.minor.patch`.
 pub const VERSION: &str = env!("CARGO_PKG_VERSION");
 
+/// Bytes of a block of HURDLE-II.
+pub const BLOCK_BYTES: usize = 8;
+/// Bytes of a seed.
+pub const SEED_BYTES: usize = 10;
+/// Bytes of a cipher key, of the common key C, and of D, which seals kind 1.
+pub const CIPHER_KEY_BYTES: usize = 10;
+/// Bytes of a group key.
+pub const GROUP_KEY_BYTES: usize = 12;
+/// Bytes of a sealed text.
+pub const SEALED_TEXT_BYTES: usize = 15;
+/// Bytes of a session key, of a root, of the cipher's key, of O and of G.
+pub const SESSION_KEY_BYTES: usize = 16;
+/// Bytes of a ring.
 pub const RING_BYTES: usize = 52;
+/// Bytes of a plain record.
 pub const PLAIN_RECORD_BYTES: usize = 18;
+/// Bytes of a sealed record.
 pub const SEALED_RECORD_BYTES: usize = 21;
+/// Bytes of a challenge.
 pub const CHALLENGE_BYTES: usize = 10;
 /// Bytes of a response and a key.
 pub const AUTHENTICATION_BYTES: usize = 14;
+/// Bytes of a lineage sheet's record.
 pub const SHEET_RECORD_BYTES: usize = 22;
+/// Bytes of what [`lineage`] gives for a record.
 pub const SHEET_VALUE_BYTES: usize = 16;
 /// Bytes of a key and a block.
 pub const TALLY_RECORD_BYTES: usize = 24;
@@ -56,10 +80,26 @@ pub const MOST_RECORDS: usize = 1024;
 /// Bytes of a file with what a ring is made from.
 pub const SITTING_BYTES: usize = 83;
 
-/// How many checks an unsealed text has.
+/// Where a record's kind is: one byte.
+pub const RECORD_KIND_AT: usize = 0;
+/// Where a record's identity begins: three bytes, of a sealed record encrypted.
+pub const RECORD_IDENTITY_AT: usize = 1;
+/// Where a record's version begins: two bytes.
+pub const RECORD_VERSION_AT: usize = 4;
+/// Where a plain record's key begins: ten bytes, of kind 4 twelve.
+pub const RECORD_KEY_AT: usize = 6;
+/// Where the number of a plain record of kind 2, 3, 5 or 6 begins: two bytes.
+pub const RECORD_NUMBER_AT: usize = 16;
+/// Where a sealed record's text begins: fifteen bytes.
+pub const RECORD_TEXT_AT: usize = 6;
+
+/// How many checks a text of [`ta32`] has.
 pub const TA32_CHECKS: usize = 5;
+/// How many checks a text of [`ta52`] has.
 pub const TA52_CHECKS: usize = 5;
+/// How many checks a text of [`ta82`] has.
 pub const TA82_CHECKS: usize = 3;
+/// How many checks a text of [`ta92`] has.
 pub const TA92_CHECKS: usize = 3;
 
 /// The kinds of a record, by the call that seals the key; the last two seal it
@@ -67,12 +107,47 @@ pub const TA92_CHECKS: usize = 3;
 #[repr(u8)]
 #[derive(Clone, Copy, Debug, PartialEq, Eq)]
 pub enum Kind {
+    /// A cipher key under D.
     Ta31 = 1,
+    /// A cipher key with a number of 0 to 31 under O.
     Ta51 = 2,
+    /// A cipher key with a number of sixteen bits under O.
     Ta81 = 3,
+    /// A group key under O.
     Ta91 = 4,
+    /// As [`Kind::Ta51`], under G.
     Ta51G = 5,
+    /// As [`Kind::Ta81`], under G.
     Ta81G = 6,
+}
+
+impl Kind {
+    /// All six, in the order of their numbers.
+    pub const ALL: [Kind; 6] = [
+        Kind::Ta31,
+        Kind::Ta51,
+        Kind::Ta81,
+        Kind::Ta91,
+        Kind::Ta51G,
+        Kind::Ta81G,
+    ];
+}
+
+/// A byte that is no kind is [`Refusal::WrongKind`].
+impl TryFrom<u8> for Kind {
+    type Error = Refusal;
+
+    fn try_from(byte: u8) -> Result<Self, Refusal> {
+        let mut all = Kind::ALL.into_iter();
+        all.find(|kind| *kind as u8 == byte)
+            .ok_or(Refusal::WrongKind)
+    }
+}
+
+impl From<Kind> for u8 {
+    fn from(kind: Kind) -> u8 {
+        kind as u8
+    }
 }
 
 /// A version. Not interchangeable with a key number.
@@ -101,75 +176,103 @@ impl From<u16> for KeyNumber {
 /// of 12, the number of sides, two masks.
 #[derive(Clone, Copy, Debug)]
 pub struct Sitting<'a> {
+    /// The root key, 16 bytes.
     pub root: &'a [u8],
+    /// The seed RS, 10 bytes.
     pub rs: &'a [u8],
+    /// The seed RSO, 10 bytes.
     pub rso: &'a [u8],
+    /// The challenge of TA12, 10 bytes.
     pub rand1: &'a [u8],
+    /// The challenge of TA22, 10 bytes.
     pub rand2: &'a [u8],
+    /// The common key C, 10 bytes.
     pub c: &'a [u8],
+    /// The group key, 12 bytes.
     pub group_key: &'a [u8],
     /// 1 where TA12 runs, 2 where TA22 does, 3 where both do.
     pub sides: u64,
+    /// Four ones: the bytes of a response.
     pub response_mask: u16,
+    /// Ten ones: the bytes of a key.
     pub key_mask: u16,
 }
 
 /// A ring and both responses.
 #[derive(Clone, Copy, Debug, PartialEq, Eq)]
 pub struct RingMade {
+    /// D, O, C and G.
     pub ring: [u8; RING_BYTES],
+    /// The response of TA12, or zeros.
     pub response1: [u8; 4],
+    /// The response of TA22, or zeros.
     pub response2: [u8; 4],
 }
 
 /// A response and a key.
 #[derive(Clone, Copy, Debug, PartialEq, Eq)]
 pub struct Authentication {
+    /// The response.
     pub response: [u8; 4],
+    /// The key.
     pub key: [u8; 10],
 }
 
 /// A cipher key of 10 bytes or a group key of 12, and the text's checks that fail.
 #[derive(Clone, Copy, Debug, PartialEq, Eq)]
 pub struct Unsealed<const N: usize> {
+    /// The key.
     pub key: [u8; N],
+    /// None fails if the text is what sealing gives.
     pub failed_checks: FailedChecks,
 }
 
 /// A cipher key and its number, and the text's checks that fail.
 #[derive(Clone, Copy, Debug, PartialEq, Eq)]
 pub struct UnsealedNumbered {
+    /// The key.
     pub key: [u8; 10],
+    /// Its number.
     pub number: KeyNumber,
+    /// None fails if the text is what sealing gives.
     pub failed_checks: FailedChecks,
 }
 
 /// A location area of 14 bits, a carrier of 12, a colour code of 6.
 #[derive(Clone, Copy, Debug, PartialEq, Eq)]
 pub struct Cell {
+    /// 14 bits.
     pub location_area: u32,
+    /// 12 bits.
     pub carrier: u32,
+    /// 6 bits.
     pub colour_code: u32,
 }
 
 /// A carrier of 12 bits and an identity of 24.
 #[derive(Clone, Copy, Debug, PartialEq, Eq)]
 pub struct CarrierIdentity {
+    /// 12 bits.
     pub carrier: u32,
+    /// 24 bits.
     pub identity: u32,
 }
 
 /// A group key, and the card that has it in its [`tb7`] form.
 #[derive(Clone, Copy, Debug, PartialEq, Eq)]
 pub struct Card {
+    /// The group key.
     pub key: [u8; 12],
+    /// The whole card.
     pub card: [u8; 16],
 }
 
 /// A book that the engine wrote, and the number of its records.
 #[derive(Clone, Debug, PartialEq, Eq)]
 pub struct Book {
+    /// How many records it has.
     pub records: usize,
+    /// The book.
     pub bytes: Vec<u8>,
 }
 
@@ -177,8 +280,11 @@ pub struct Book {
 /// cipher runs that it took.
 #[derive(Clone, Debug, PartialEq, Eq)]
 pub struct CountedBook {
+    /// How many records it has.
     pub records: usize,
+    /// The book.
     pub bytes: Vec<u8>,
+    /// The block cipher runs that it took.
     pub runs: usize,
 }
 
@@ -186,15 +292,37 @@ pub struct CountedBook {
 /// the greatest change of one flip.
 #[derive(Clone, Copy, Debug, PartialEq, Eq)]
 pub struct Tally {
+    /// The flips tried.
     pub flips: u32,
+    /// The output bits that changed, in all.
     pub total: u32,
+    /// The least change of one flip.
     pub least: u32,
+    /// The greatest change of one flip.
     pub greatest: u32,
+}
+
+/// Before the first call: the archive has to be of a release with this crate's first number.
+fn test_release() {
+    static TESTED: AtomicBool = AtomicBool::new(false);
+    if !TESTED.load(Relaxed) {
+        let Release {
+            major,
+            minor,
+            patch,
+        } = release();
+        assert!(
+            VERSION.split('.').next() == Some(&major.to_string()),
+            "the archive is of release {major}.{minor}.{patch}, which this crate, {VERSION}, cannot use"
+        );
+        TESTED.store(true, Relaxed);
+    }
 }
 
 /// Calls the engine: `[name]` is a byte string and `{name}` an output.
 macro_rules! call {
-    ($call:ident($($([$bytes:ident])? $({$out:ident})? $($value:ident)?),*)) => {
+    ($call:ident($($([$bytes:ident])? $({$out:ident})? $($value:ident)?),*)) => {{
+        test_release();
         // SAFETY: each pointer is that of a slice, with the slice's length, and
         // an output is borrowed alone.
         unsafe {
@@ -204,7 +332,7 @@ macro_rules! call {
                 $($value,)?
             )*)
         }
-    };
+    }};
 }
 
 /// The release of the archive; [`VERSION`] is that of this crate.

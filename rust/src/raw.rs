@@ -5,118 +5,177 @@
 use crate::{KeyNumber, Version, RING_BYTES};
 
 // begin answers, made by `contracts write`
+/// `taa1_bytes8`, `taa1_bytes10`, `taa1_bytes15`, `taa1_bytes16` of the header.
 #[repr(C)]
 #[derive(Clone, Copy, Debug, PartialEq, Eq)]
 pub struct Bytes<const N: usize> {
+    /// 0, or the number of a refusal.
     pub refusal: u32,
+    /// What the call makes.
     pub bytes: [u8; N],
 }
 
+/// `taa1_authentication` of the header.
 #[repr(C)]
 #[derive(Clone, Copy, Debug, PartialEq, Eq)]
 pub struct Authentication {
+    /// 0, or the number of a refusal.
     pub refusal: u32,
+    /// The response.
     pub response: [u8; 4],
+    /// The key.
     pub key: [u8; 10],
 }
 
+/// `taa1_identity` of the header.
 #[repr(C)]
 #[derive(Clone, Copy, Debug, PartialEq, Eq)]
 pub struct Identity {
+    /// 0, or the number of a refusal.
     pub refusal: u32,
+    /// The identity.
     pub identity: u32,
 }
 
+/// `taa1_value` of the header.
 #[repr(C)]
 #[derive(Clone, Copy, Debug, PartialEq, Eq)]
 pub struct Value {
+    /// 0, or the number of a refusal.
     pub refusal: u32,
+    /// The value.
     pub value: u32,
 }
 
+/// `taa1_cell` of the header.
 #[repr(C)]
 #[derive(Clone, Copy, Debug, PartialEq, Eq)]
 pub struct Cell {
+    /// 0, or the number of a refusal.
     pub refusal: u32,
+    /// The location area.
     pub location_area: u32,
+    /// The carrier.
     pub carrier: u32,
+    /// The colour code.
     pub colour_code: u32,
 }
 
+/// `taa1_carrier_identity` of the header.
 #[repr(C)]
 #[derive(Clone, Copy, Debug, PartialEq, Eq)]
 pub struct CarrierIdentity {
+    /// 0, or the number of a refusal.
     pub refusal: u32,
+    /// The carrier.
     pub carrier: u32,
+    /// The identity.
     pub identity: u32,
 }
 
+/// `taa1_unsealed`, `taa1_unsealed_group` of the header.
 #[repr(C)]
 #[derive(Clone, Copy, Debug, PartialEq, Eq)]
 pub struct Unsealed<const N: usize> {
+    /// 0, or the number of a refusal.
     pub refusal: u32,
+    /// The key.
     pub key: [u8; N],
+    /// A bit for each check of the text that fails.
     pub failed_checks: u16,
 }
 
+/// `taa1_unsealed_numbered` of the header.
 #[repr(C)]
 #[derive(Clone, Copy, Debug, PartialEq, Eq)]
 pub struct UnsealedNumbered {
+    /// 0, or the number of a refusal.
     pub refusal: u32,
+    /// The key.
     pub key: [u8; 10],
+    /// The number.
     pub number: u16,
+    /// A bit for each check of the text that fails.
     pub failed_checks: u16,
 }
 
+/// `taa1_ring_made` of the header.
 #[repr(C)]
 #[derive(Clone, Copy, Debug, PartialEq, Eq)]
 pub struct RingMade {
+    /// 0, or the number of a refusal.
     pub refusal: u32,
+    /// The ring.
     pub ring: [u8; RING_BYTES],
+    /// The response of TA12.
     pub response1: [u8; 4],
+    /// The response of TA22.
     pub response2: [u8; 4],
 }
 
+/// `taa1_card` of the header.
 #[repr(C)]
 #[derive(Clone, Copy, Debug, PartialEq, Eq)]
 pub struct Card {
+    /// 0, or the number of a refusal.
     pub refusal: u32,
+    /// The key.
     pub key: [u8; 12],
+    /// The card.
     pub card: [u8; 16],
 }
 
+/// `taa1_book_answer` of the header.
 #[repr(C)]
 #[derive(Clone, Copy, Debug, PartialEq, Eq)]
 pub struct BookAnswer {
+    /// 0, or the number of a refusal.
     pub refusal: u32,
+    /// How many records; of a refused list the first offending one, or 0.
     pub index: usize,
+    /// The bytes written to the output.
     pub written: usize,
 }
 
+/// `taa1_counted_answer` of the header.
 #[repr(C)]
 #[derive(Clone, Copy, Debug, PartialEq, Eq)]
 pub struct CountedAnswer {
+    /// 0, or the number of a refusal.
     pub refusal: u32,
+    /// How many records; of a refused list the first offending one, or 0.
     pub index: usize,
+    /// The bytes written to the output.
     pub written: usize,
+    /// The runs of the block cipher.
     pub runs: usize,
 }
 
+/// `taa1_tally` of the header.
 #[repr(C)]
 #[derive(Clone, Copy, Debug, PartialEq, Eq)]
 pub struct Tally {
+    /// 0, or the number of a refusal.
     pub refusal: u32,
+    /// The flips tried.
     pub flips: u32,
+    /// The output bits that changed, in all.
     pub total: u32,
+    /// The least change of one flip.
     pub least: u32,
+    /// The greatest change of one flip.
     pub greatest: u32,
 }
 
+/// `taa1_release_numbers` of the header.
 #[repr(C)]
 #[derive(Clone, Copy, Debug, PartialEq, Eq)]
 pub struct Release {
+    /// The major number.
     pub major: u32,
+    /// The minor number.
     pub minor: u32,
+    /// The patch number.
     pub patch: u32,
 }
 // end answers
@@ -188,6 +247,7 @@ macro_rules! declare {
         $($([$bytes:ident])? $({$out:ident})? $($value:ident: $type:ty)?),*
     ) -> $answer:ty;)*) => {
         extern "C" {$(
+            #[doc = concat!("`taa1_", stringify!($call), "` of the header.")]
             #[link_name = concat!("taa1_", stringify!($call))]
             pub fn $call(
                 $(

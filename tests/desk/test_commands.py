@@ -554,32 +554,58 @@ class Bad(Case):
 
 
 CHECKED = (
-    "python/taa1", "python/make_wheel.py", "desk/taa1_desk", "examples/python/sitting.py",
+    "python/taa1", "python/make_wheel.py", "python/test_taa1.py", "desk/taa1_desk", "examples/python/sitting.py",
     "vectors/make", "vectors/generator",
 )  # fmt: skip
+# Each line that a host gets wrong, and two that are right.
+MISUSE = """import array, pathlib, taa1
+engine = taa1.Engine(pathlib.Path("libtaa1.so"))
+engine.tb2(array.array("B", bytes(16)))
+engine.tb2("no bytes")  # wrong
+engine.tb2(16)  # wrong
+taa1.PlainEntry.from_bytes("no bytes")  # wrong
+engine.ta31(bytes(10), taa1.KeyNumber(1), bytes(10))  # wrong
+"""
 
 
 class Checked(Case):
     """Type hints and unused names, where a checker is installed."""
 
-    def clean(self, tool: str, *args: str, **more: str) -> None:
-        """A checker has nothing to say."""
+    def said(self, tool: str, *args: str) -> "subprocess.CompletedProcess[bytes]":
+        """What a checker says."""
         command = [sys.executable, "-m", tool]
         if subprocess.run([*command, "--version"], capture_output=True, check=False).returncode:
             found = shutil.which(tool) or shutil.which(f"{tool}3")  # another Python's
             if found is None:
                 self.skipTest(f"no {tool}")
             command = [found]
-        tests = [str(path.relative_to(ROOT)) for path in sorted((ROOT / "tests" / "desk").glob("*.py"))]
-        done = subprocess.run(
-            [*command, *args, *CHECKED, *tests], cwd=ROOT, env={**os.environ, **more}, capture_output=True, check=False
-        )
+        paths = {"MYPYPATH": "python:desk:vectors:tests/desk"}
+        return subprocess.run([*command, *args], cwd=ROOT, env={**os.environ, **paths}, capture_output=True, check=False)
+
+    def mypy(self, *paths: str) -> "subprocess.CompletedProcess[bytes]":
+        """What mypy says of these."""
+        return self.said("mypy", "--strict", "--cache-dir", str(self.folder), *paths)
+
+    def clean(self, done: "subprocess.CompletedProcess[bytes]") -> None:
+        """A checker has nothing to say."""
         self.assertEqual((done.returncode, done.stderr), (0, b""), done.stdout.decode())
 
-    def test_mypy(self) -> None:
+    @property
+    def checked(self) -> list[str]:
         """The modules and these tests."""
-        self.clean("mypy", "--strict", "--cache-dir", str(self.folder), MYPYPATH="python:desk:vectors:tests/desk")
+        return [*CHECKED, *(str(path.relative_to(ROOT)) for path in sorted((ROOT / "tests" / "desk").glob("*.py")))]
+
+    def test_mypy(self) -> None:
+        """The type hints are right."""
+        self.clean(self.mypy(*self.checked))
 
     def test_pyflakes(self) -> None:
         """Nothing is imported or named for nothing."""
-        self.clean("pyflakes")
+        self.clean(self.said("pyflakes", *self.checked))
+
+    def test_misuse(self) -> None:
+        """A host's wrong types are told."""
+        said = self.mypy(str(self.file("host.py", MISUSE))).stdout.decode()
+        told = {int(number) for number in re.findall(r"host\.py:(\d+): error", said)}
+        wrong = {at for at, line in enumerate(MISUSE.splitlines(), 1) if line.endswith("# wrong")}
+        self.assertEqual(told, wrong, said)

@@ -109,9 +109,10 @@ def sitting_of(data: bytes) -> Sitting:
 
 def sitting_bytes(sitting: Sitting) -> bytes:
     """The bytes that makering reads."""
+    values: tuple[Any, ...] = sitting
     return b"".join(
         value.to_bytes(name.length, "big") if isinstance(value, int) else value
-        for name, value in zip(SITTING, sitting)
+        for name, value in zip(SITTING, values)
     )
 
 

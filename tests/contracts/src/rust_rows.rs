@@ -55,6 +55,25 @@ fn rust_type(field: &Field, over: bool) -> String {
     }
 }
 
+/// What a field is, by its name.
+fn meaning(field: &str) -> String {
+    match field {
+        "refusal" => "0, or the number of a refusal.".to_string(),
+        "bytes" => "What the call makes.".to_string(),
+        "failed_checks" => "A bit for each check of the text that fails.".to_string(),
+        "index" => "How many records; of a refused list the first offending one, or 0.".to_string(),
+        "written" => "The bytes written to the output.".to_string(),
+        "runs" => "The runs of the block cipher.".to_string(),
+        "flips" => "The flips tried.".to_string(),
+        "total" => "The output bits that changed, in all.".to_string(),
+        "least" | "greatest" => format!("The {field} change of one flip."),
+        "response1" => "The response of TA12.".to_string(),
+        "response2" => "The response of TA22.".to_string(),
+        "major" | "minor" | "patch" => format!("The {field} number."),
+        _ => format!("The {}.", field.replace('_', " ")),
+    }
+}
+
 /// The structs of the answers, each type once.
 pub fn structs(header: &Header) -> String {
     let mut text = String::new();
@@ -68,14 +87,17 @@ pub fn structs(header: &Header) -> String {
         let parameter = if over { "<const N: usize>" } else { "" };
         let between = if seen.is_empty() { "" } else { "\n" };
         text.push_str(between);
+        let called = header
+            .answers()
+            .filter(|other| type_of(header, other).name == name);
+        let called: Vec<String> = called.map(|of| format!("`{}`", of.name)).collect();
+        text.push_str(&format!("/// {} of the header.\n", called.join(", ")));
         text.push_str("#[repr(C)]\n#[derive(Clone, Copy, Debug, PartialEq, Eq)]\n");
         text.push_str(&format!("pub struct {name}{parameter} {{\n"));
         for field in &of.fields {
-            text.push_str(&format!(
-                "    pub {}: {},\n",
-                field.name,
-                rust_type(field, over)
-            ));
+            let kind = rust_type(field, over);
+            let (name, meaning) = (&field.name, meaning(&field.name));
+            text.push_str(&format!("    /// {meaning}\n    pub {name}: {kind},\n"));
         }
         text.push_str("}\n");
         seen.push(name);
@@ -228,8 +250,9 @@ taa1_ring_made taa1_three(uint64_t of_many_steps_in_this_row, uint64_t of_other_
                 "pub struct Release {"
             ]
         );
-        assert!(structs.contains("    pub bytes: [u8; N],\n"));
-        assert!(structs.contains("    pub index: usize,\n    pub ring: [u8; RING_BYTES],\n"));
+        assert!(structs.contains("/// `taa1_bytes8`, `taa1_bytes16` of the header.\n#[repr(C)]\n"));
+        assert!(structs.contains("    /// What the call makes.\n    pub bytes: [u8; N],\n"));
+        assert!(structs.contains("    /// The ring.\n    pub ring: [u8; RING_BYTES],\n"));
         assert_eq!(
             answers(&header),
             "            Bytes<N> { bytes }\n            RingMade { index, ring }\n"
