@@ -7,6 +7,7 @@ unreadable file or a failed write.
 from __future__ import annotations
 
 import argparse
+import sys
 from typing import Optional, Sequence
 
 from taa1 import LibraryError, Refused
@@ -48,7 +49,8 @@ def main(argv: Optional[Sequence[str]] = None) -> int:
 def _main(argv: Optional[Sequence[str]]) -> int:
     try:
         files.forget()
-        args = parser().parse_args(argv)
+        given = sys.argv[1:] if argv is None else argv
+        args = parser().parse_args(given or ["--help"])
         keep_inputs(args)
         return int(args.run(args))
     except (RefusedFile, Refused) as refused:

@@ -446,6 +446,10 @@ class Bad(Case):
     def test_version(self) -> None:
         self.assertEqual(self.accepted("--version").decode(), f"taa1 {__version__}\n")
 
+    def test_no_command(self) -> None:
+        """The help, as somebody who does not know the commands needs it."""
+        self.assertEqual(self.accepted(), self.accepted("--help"))
+
     def test_no_such_help(self) -> None:
         done = taa1("help", "nonsense")
         self.said(done, 2)
@@ -453,7 +457,6 @@ class Bad(Case):
 
     def test_wrong_uses(self) -> None:
         for error, args in (
-            ("the following arguments are required: COMMAND (taa1 --help lists the commands)", ()),
             ("mark: the following arguments are required: BOOK, CANDIDATE", ("mark", "x")),
             ("seal: the following arguments are required: RING", ("seal",)),
             ("unrecognized arguments: --nonsense (taa1 --help lists the commands)", ("slips", "--nonsense")),

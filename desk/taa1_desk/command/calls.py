@@ -13,7 +13,7 @@ from taa1.calls import CALLS, Call
 from taa1.library import build, repository
 
 from ..engine import Engine, RefusedFile, refusals
-from ..problems import Problem, place
+from ..problems import Problem, place, shown
 from ..reading import books, decoding, lineage, sittings
 from ..records import PLAIN, Entry, split
 from ..setting.damage import damaged
@@ -204,7 +204,8 @@ def run_tables(args: argparse.Namespace) -> int:
     except (OSError, subprocess.SubprocessError) as error:
         raise Problem(f"{program}: {error}") from None
     if done.returncode or done.stderr or len(done.stdout.splitlines()) != 17:
-        raise Problem(f"{program}: it printed no tables")
+        said = shown(" ".join(done.stderr.decode(errors="replace").split()))  # such as the loader's reason
+        raise Problem(f"{program}: it printed no tables: {said or f'exit status {done.returncode}'}")
     files.write(args.output, done.stdout)
     return ACCEPTED
 
