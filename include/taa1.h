@@ -1,3 +1,4 @@
+/* SPDX-License-Identifier: MIT */
 /*
  * The TAA1 engine for hosts in C and C++; link with libengine.a, which runs on
  * x86-64 Linux. The calls share nothing, so any number of threads may make them

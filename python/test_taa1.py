@@ -1,3 +1,4 @@
+# SPDX-License-Identifier: MIT
 """Calls everything in the module: results, refusals and values of wrong types.
 
     TAA1_LIBRARY=target/libtaa1.so python3 python/test_taa1.py

@@ -1,3 +1,4 @@
+// SPDX-License-Identifier: MIT
 //! Links the engine's archive: libengine.a, or libtaa1.a as ./install names it. Its folder
 //! is that which TAA1_ARCHIVE_DIR names; else it is the repository's, where ./build proves
 //! and compiles the engine if the archive was not made from the sources as they are.

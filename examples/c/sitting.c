@@ -1,3 +1,4 @@
+/* SPDX-License-Identifier: MIT */
 /*
  * Plays a sitting: makes the ring, and the ring of the one-sided sitting, works
  * the lineage of its keys, seals the model book, opens it and seals it again, then

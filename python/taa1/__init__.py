@@ -1,3 +1,4 @@
+# SPDX-License-Identifier: MIT
 """The TAA1 engine for Python hosts; `python3 -m taa1` is the desk.
 
 Not for operational keys: the engine is made for examinations. It is not constant-time, and

@@ -1,3 +1,4 @@
+# SPDX-License-Identifier: MIT
 """python3 -m taa1: the desk."""
 
 import signal

@@ -1,3 +1,4 @@
+# SPDX-License-Identifier: MIT
 """The shared object's calls by name, declared for ctypes as the table of calls has them."""
 
 from __future__ import annotations

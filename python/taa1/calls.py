@@ -1,3 +1,4 @@
+# SPDX-License-Identifier: MIT
 """The engine's calls in one table, but for `release`: names, parameters, lengths and answers.
 
 What ctypes is told, what the typed methods test and the desk's options and help come

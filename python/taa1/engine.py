@@ -1,3 +1,4 @@
+# SPDX-License-Identifier: MIT
 """The TAA1 engine for Python hosts, over a shared object made from libengine.a."""
 
 # What a call answers is worked from the table of calls, so a checker can't know its type.

@@ -1,3 +1,4 @@
+# SPDX-License-Identifier: MIT
 """One record of a book, plain or sealed, as its fields."""
 
 from __future__ import annotations

@@ -1,3 +1,4 @@
+# SPDX-License-Identifier: MIT
 """Why the engine refuses a call: numbers, texts, and the exception."""
 
 from __future__ import annotations

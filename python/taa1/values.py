@@ -1,3 +1,4 @@
+# SPDX-License-Identifier: MIT
 """What a host gives to the calls and gets from them: sizes, kinds, inputs and results."""
 
 from __future__ import annotations

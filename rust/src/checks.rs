@@ -1,3 +1,4 @@
+// SPDX-License-Identifier: MIT
 //! Which redundancy checks of an unsealed text fail.
 
 /// The checks of an unsealed text that fail, a bit for each: bit 0 for the leftmost

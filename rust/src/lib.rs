@@ -1,3 +1,4 @@
+// SPDX-License-Identifier: MIT
 //! The TAA1 engine for Rust hosts: safe functions over `libengine.a`.
 //!
 //! A byte string may have any length: the engine refuses a wrong one. The calls

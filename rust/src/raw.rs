@@ -1,3 +1,4 @@
+// SPDX-License-Identifier: MIT
 //! The calls as `include/taa1.h` declares them, for the functions of this package
 //! and for hosts that need the calls themselves. A byte string is a pointer and a
 //! length, never `&[u8]`: Rust's slices do not pass this way.

@@ -1,3 +1,4 @@
+// SPDX-License-Identifier: MIT
 //! The nineteen refusals.
 
 use std::error::Error;

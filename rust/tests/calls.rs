@@ -1,3 +1,4 @@
+// SPDX-License-Identifier: MIT
 //! Every call and the refusals through the wrapper.
 
 use std::array::from_fn;

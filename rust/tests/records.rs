@@ -1,3 +1,4 @@
+// SPDX-License-Identifier: MIT
 //! Records as their fields, beside what the engine checks, seals and opens.
 
 use taa1::{
