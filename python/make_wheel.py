@@ -1,8 +1,9 @@
+# SPDX-License-Identifier: MIT
 """Makes one wheel of the module and the desk, for pip, with the standard library alone.
 
-The engine's shared object goes along, and is made first where it is missing or not made
-from the sources as they are; so does program printtables, where it has been made once. An
-editable wheel names the repository's folders instead.
+The engine's shared object and program printtables go along, and are made first where they
+are missing or not made from the sources as they are. An editable wheel names the
+repository's folders instead.
 """
 
 from __future__ import annotations
@@ -87,17 +88,14 @@ def about() -> dict[str, bytes]:
 
 def packages() -> dict[str, bytes]:
     """The files of the module and the desk."""
-    library.make()
+    library.build(ROOT, "library", "printtables")
     found = {
-        f"{package.name}/{path.relative_to(package).as_posix()}": path.read_bytes()
+        path.relative_to(package.parent).as_posix(): path.read_bytes()
         for package in PACKAGES
         for path in sorted((*package.rglob("*.py"), package / "py.typed"))
     }
-    found[f"taa1/{library.NAME}"] = Path(library.find()).read_bytes()
-    printtables = ROOT / "target" / "bin" / "printtables"
-    if printtables.is_file():
-        library.build(ROOT, "printtables")
-        found[PRINTTABLES] = printtables.read_bytes()
+    found[f"taa1/{library.SONAME}"] = (ROOT / "target" / library.NAME).read_bytes()
+    found[PRINTTABLES] = (ROOT / "target" / "bin" / "printtables").read_bytes()
     return found
 
 

@@ -1,3 +1,4 @@
+# SPDX-License-Identifier: MIT
 """Where the engine's shared object is, of which release, and how the repository makes it."""
 
 from __future__ import annotations
@@ -11,6 +12,7 @@ from pathlib import Path
 VERSION = "1.0.0"
 VARIABLE = "TAA1_LIBRARY"
 NAME = "libtaa1.so"
+SONAME = f"{NAME}.{VERSION.partition('.')[0]}"  # beside the package, as it is installed
 PACKAGE = Path(__file__).resolve().parent
 
 
@@ -35,7 +37,7 @@ def find() -> str:
     if named:
         return os.path.abspath(named)
     root = repository()
-    places = [PACKAGE / NAME] + ([root / "target" / NAME] if root else [])
+    places = [PACKAGE / SONAME] + ([root / "target" / NAME] if root else [])
     for place in places:
         if place.exists():
             return str(place)
@@ -58,5 +60,5 @@ def build(root: Path, *what: str) -> None:
 def make() -> None:
     """Makes the repository's shared object, once in a process, if it is the one that is used."""
     root = repository()
-    if root and not os.environ.get(VARIABLE) and not (PACKAGE / NAME).exists():
+    if root and not os.environ.get(VARIABLE) and not (PACKAGE / SONAME).exists():
         build(root, "library")

@@ -42,8 +42,8 @@ class Finding(Case):
                     library.find()
                 (target / library.NAME).touch()
                 self.assertEqual(library.find(), str(target / library.NAME))
-                (package / library.NAME).touch()
-                self.assertEqual(library.find(), str(package / library.NAME))
+                (package / library.SONAME).touch()
+                self.assertEqual(library.find(), str(package / library.SONAME))
             with mock.patch.dict(os.environ, {library.VARIABLE: "elsewhere.so"}):
                 self.assertEqual(library.find(), os.path.abspath("elsewhere.so"))
 
@@ -277,7 +277,7 @@ cat crates/engine/src/*.rt /proc/sys/kernel/random/uuid >target/staticlib/libeng
                 build.reset_mock()
                 library.make.cache_clear()
                 if beside:
-                    (package / library.NAME).touch()
+                    (package / library.SONAME).touch()
                 with mock.patch.object(library, "repository", lambda root=root: root), mock.patch.dict(
                     os.environ, {library.VARIABLE: named}
                 ):
@@ -344,7 +344,8 @@ class Installing(Case):
     def test_wheel(self) -> None:
         """Module, desk, engine and licence; the metadata of pyproject.toml."""
         files = self.wheel(make_wheel.build_wheel(str(self.folder)))
-        names = {"taa1/py.typed", "taa1_desk/py.typed", "taa1/libtaa1.so", "taa1_desk/cli.py"}
+        names = {"taa1/py.typed", "taa1_desk/py.typed", "taa1/libtaa1.so.1", "taa1_desk/cli.py"}
+        names.add("taa1_desk/printtables")
         self.assertLessEqual(names, set(files))
         info = f"taa1-{taa1.__version__}.dist-info"
         self.assertEqual(files[f"{info}/licenses/LICENSE"], (ROOT / "LICENSE").read_bytes())
