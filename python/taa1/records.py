@@ -3,7 +3,7 @@
 
 from __future__ import annotations
 
-from typing import NamedTuple
+from typing import NamedTuple, Optional
 
 from .refusals import Refusal, Refused
 from .values import (
@@ -72,7 +72,7 @@ class PlainEntry(NamedTuple):
     identity: int
     version: Version
     key: bytes
-    number: KeyNumber | None = None
+    number: Optional[KeyNumber] = None
 
     def to_bytes(self) -> bytes:
         """The record of 18 bytes.
