@@ -96,6 +96,20 @@ pub fn table(calls: &[Described]) -> String {
     rows.fold(head.to_string(), |text, row| text + &row)
 }
 
+/// The table of the refusals: the names of the header's text, with their numbers and words.
+pub fn refusals_table(header: &Header, text: &str) -> String {
+    let mut table = "| number | name | means |\n|---|---|---|\n".to_string();
+    for line in text.lines() {
+        let case = line.trim().strip_prefix("case ");
+        let case = case.and_then(|case| case.split_once(": return \""));
+        if let Some((name, words)) = case {
+            let (number, words) = (header.bytes(name), words.trim_end_matches("\";"));
+            table.push_str(&format!("| {number} | `{name}` | {words} |\n"));
+        }
+    }
+    table
+}
+
 /// Whether the header has the engine's calls, and describes each as it should; and what
 /// is wrong.
 pub fn check(calls: &[Described], engine: &[&str]) -> (usize, Vec<String>) {
@@ -157,6 +171,15 @@ oneCall k n = value (first ((hasLength 16 k && leb n 31, wrongLength) ∷ []))
 unfoldable pub twoCall : List ℕ → List ℕ → BookAnswer
 twoCall k out = value (first ((wrongLength) ∷ []))
 ";
+
+    #[test]
+    fn refusals_have_their_numbers() {
+        let text = "enum {\n    TAA1_WRONG_KIND = 3, /* a kind */\n};\n    \
+                    case TAA1_WRONG_KIND: return \"kind not 1 to 6\";\n";
+        let table = refusals_table(&Header::read(text), text);
+        let row = "| 3 | `TAA1_WRONG_KIND` | kind not 1 to 6 |";
+        assert_eq!(table.lines().skip(2).collect::<Vec<_>>(), [row]);
+    }
 
     /// A row for each call. The second has a wrong comment, and a string whose length no
     /// test asks for; the third takes nothing, and has a wrong comment.

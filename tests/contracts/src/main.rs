@@ -127,6 +127,12 @@ impl Sources {
                 edits::calls_table(&calls, &self.edits, &self.graph),
             ),
             lines("docs/hosts.md", "calls", hosts::table(&described)),
+            lines("docs/hosts.md", "answers", layout::table(&self.header)),
+            lines(
+                "docs/hosts.md",
+                "refusals",
+                hosts::refusals_table(&self.header, &self.project.file("include/taa1.h")),
+            ),
             lines(
                 "docs/PROVING.md",
                 "layers",
