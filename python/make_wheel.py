@@ -34,6 +34,7 @@ WHEEL = f"Wheel-Version: 1.0\nGenerator: {NAME}\nRoot-Is-Purelib: false\nTag: {T
 # The command; as the repository's, it ends without a word if it is interrupted early, which
 # the script that pip makes for an entry point would not.
 COMMAND = """#!python
+# SPDX-License-Identifier: MIT
 import _signal as signal
 
 if signal.getsignal(signal.SIGINT) is signal.default_int_handler:
