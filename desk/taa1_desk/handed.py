@@ -13,6 +13,7 @@ class KeyFile(NamedTuple):
     values: dict[str, bytes]  # empty where a line gives one that can't be read
     problems: tuple[str, ...] = ()  # lines that can't be read
     unread: str = ""  # why no value can be read; it is among the problems
+    blank: tuple[str, ...] = ()  # rows of an answer form beside a book that are left blank
 
 
 class HandIn(NamedTuple):

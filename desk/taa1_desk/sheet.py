@@ -154,9 +154,8 @@ class Marks:
         return self.again + sum(entry.state in ("extra", "doubled") for entry in self.entries)
 
     @property
-    def has_unread(self) -> bool:
-        """Whether somebody has to look at it: it is not marked, or something of it is named
-        that could not be read."""
+    def has_problems(self) -> bool:
+        """Whether it is not marked, or something of it is named that could not be read."""
         lines = bool(self.problems or self.keys.problems or self.keys.unread)
         lines |= any(entry.note.startswith("line ") for entry in self.entries)
         return bool(self.problem or lines or self.left)
@@ -190,7 +189,7 @@ class Sheet(Marks):
     @property
     def has_unread(self) -> bool:
         """Whether somebody has to look at it, be it since the list has no such candidate."""
-        return super().has_unread or self.unlisted
+        return self.has_problems or self.unlisted
 
 
 class Summary(NamedTuple):

@@ -752,6 +752,8 @@ class Folders(Case):
                 for name in files:  # each is marked, read as keys or named
                     said = self.mark(f"class{number}", "--dry").out.decode()
                     self.assertIn(name, said)
+        blank = json.loads(self.mark("class2", "--json").out)["sheets"][0]["blank"]
+        self.assertEqual((len(blank), "O" in blank, "D" in blank), (8, True, False))
         said = "2 books in this folder, a.book, b.book: keep one, or name the one that counts by itself"
         self.assertIn(said, mine[0]["problem"])
         self.assertIn("class9/ann: ", done.error)

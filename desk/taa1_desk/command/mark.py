@@ -42,7 +42,7 @@ def run_mark(args: argparse.Namespace) -> int:
     inputs.once(args.sitting, args.book, *args.candidate)
     listed = inputs.read_list(args.candidates)
     scheme = inputs.read_scheme(args.scheme)
-    marker, heading = _marker(args)
+    marker, heading, rows = _marker(args)
     found = folders.hand_ins(args.candidate, [name for name in beside if name], _judge(marker, listed))
     forms = _forms(args, found.names)
     pages = folders.page_names(found.names, INDEX, found.folders)
@@ -50,7 +50,7 @@ def run_mark(args: argparse.Namespace) -> int:
     who = candidates.named(found.names, pages, listed, [each.name for each in told], found.folders)
     theirs = {each.file: each.candidate for each in who.left_out}
     left_out = [LeftOut(theirs.get(place(each.name), ""), place(each.name), each.why) for each in told]
-    of = mark_class(marker, _read(found, forms), scheme, who, left_out)
+    of = mark_class(marker, _read(found, forms, rows), scheme, who, left_out)
     files.progress(0, 0)
     _say(of, found, args.dry)
     if args.dry:
@@ -72,11 +72,11 @@ def _check(args: argparse.Namespace) -> None:
         raise Problem(f"mark: --dry says how hand-ins are read and marks none, so it takes no {given}")
 
 
-def _read(found: folders.HandIns, forms: Sequence[str]) -> Iterator[HandIn]:
+def _read(found: folders.HandIns, forms: Sequence[str], rows: Sequence[str]) -> Iterator[HandIn]:
     """The hand-ins, each read when it is wanted, and how far the work is."""
     for done, (name, form) in enumerate(zip(found.names, forms)):
         files.progress(done, len(found.names))
-        keys = _keys_of(found.keys.get(name, ()))
+        keys = _keys_of(found.keys.get(name, ()), rows)
         try:
             if name in found.problems:
                 raise Problem(found.problems[name])
@@ -92,10 +92,9 @@ def _say(of: Class, found: folders.HandIns, dry: bool) -> None:
             book = [f"{sheet.name}: {sheet.problem}"] if sheet.problem else []
             files.say(*book, *([sheet.keys.unread] if sheet.keys.unread else []))
             continue
-        first, *more = [*(line for line in to_look_at(sheet) if line != UNLISTED), ""]
-        if first:
-            said = f" (and {len(more) - 1} more: see the sheet)" if len(more) > 1 else ""
-            files.say(f"{sheet.name}: {first}{said}")
+        if sheet.has_problems:
+            first, *more = (line for line in to_look_at(sheet) if line != UNLISTED)
+            files.say(f"{sheet.name}: {first}{f' (and {len(more)} more: see the sheet)' * bool(more)}")
     files.say(*(f"{place(name)}: named more than once, and marked once" for name in found.twice))
     files.say(*(f"{each.file}: {each.why}" for each in (() if dry else of.left_out)))
     if of.absent:
@@ -144,17 +143,17 @@ def _judge(marker: Marker, listed: dict[str, str]) -> folders.Judge:
     return judge
 
 
-def _keys_of(names: Sequence[str]) -> Optional[KeyFile]:
+def _keys_of(names: Sequence[str], rows: Sequence[str]) -> Optional[KeyFile]:
     """What files of keys beside a hand-in say, and an answer form beside a book."""
     made: Optional[KeyFile] = None
     for name in names:
-        file = _key_file(name)
+        file = _key_file(name, rows)
         made = file if made is None else answerform.both(file, made)
     return made
 
 
-def _key_file(name: str) -> KeyFile:
-    """The keys in a file, be it an answer form."""
+def _key_file(name: str, rows: Sequence[str]) -> KeyFile:
+    """The keys in a file, be it an answer form, whose rows are given."""
     if os.path.islink(name) or not os.path.isfile(name):
         what = "a folder" if os.path.isdir(name) else "no regular file"
         what = "a link, which may lead to another's file" if os.path.islink(name) else what
@@ -166,22 +165,23 @@ def _key_file(name: str) -> KeyFile:
     text = decoded(data)
     if text is None or not answerform.is_form(text.text):
         return keyfile.read(shown(name), data)
-    form = answerform.read(text.text)
+    form = answerform.read(text.text, rows)
     said = f"{shown(name)}: its records are not marked, since a book lies beside it"
     more = [said] if form.book or form.problems else []
-    return form.keys._replace(problems=(*form.keys.problems, *more))
+    blank = tuple(row for row in form.blank if row in rows)
+    return form.keys._replace(problems=(*form.keys.problems, *more), blank=blank)
 
 
-def _marker(args: argparse.Namespace) -> tuple[Marker, Heading]:
+def _marker(args: argparse.Namespace) -> tuple[Marker, Heading, list[str]]:
     """What reads hand-ins and marks them: sealed books beside the model, or what was opened
-    beside the sealed book that was handed out; and the sitting's heading."""
+    beside the sealed book that was handed out; the sitting's heading, and the answer form's rows."""
     engine = Engine()
     sitting, heading = inputs.read_headed(args.sitting)
-    ring = sitting_ring(engine, sitting, place(args.sitting))
+    ring, rows = sitting_ring(engine, sitting, place(args.sitting)), answerform.asked_rows(sitting.sides)
     if args.opened:
         sealed = inputs.read_sealed(args.book, args.bytes)
-        return OpenedMarker(engine, sitting, ring, sealed, place(args.book)), heading
-    return SealedMarker(engine, sitting, ring, model_book(engine, args)), heading
+        return OpenedMarker(engine, sitting, ring, sealed, place(args.book)), heading, rows
+    return SealedMarker(engine, sitting, ring, model_book(engine, args)), heading, rows
 
 
 def _forms(args: argparse.Namespace, names: list[str]) -> list[str]:

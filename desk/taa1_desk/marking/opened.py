@@ -133,6 +133,7 @@ class OpenedMarker:
             again=read.extra,
             problems=(*read.problems, *(self.reader.other_shows(data, form, read) if form else ())),
             flags=flags,
+            blank=file.blank if file else (),
         )
 
     def _explain(

@@ -65,7 +65,8 @@ class SealedMarker:
             strange = self._strange(found) if reading.book and not form else ""
             said = self.reader.other_shows(data, form, reading) if form else []
             if not strange or self.reader.is_ours(reading.book):  # who got nothing right has a number, too
-                return self._marks(reading, found, keys, [*said, *[strange] * bool(strange)])
+                blank = file.blank if file else ()
+                return self._marks(reading, found, keys, [*said, *[strange] * bool(strange)], blank)
             problem = strange
         if not form and not reading.hopeless:
             problem += f"; --as {shlex.quote(name)}={reading.form or BYTES} marks it all the same"
@@ -79,7 +80,9 @@ class SealedMarker:
         size = len(self.model)
         return Marks(size, self.kinds, problem, missing=tuple(range(size)), keys=self._keys(file))
 
-    def _marks(self, reading: Reading, found: BookMarks, keys: KeySheet, said: Sequence[str]) -> Marks:
+    def _marks(
+        self, reading: Reading, found: BookMarks, keys: KeySheet, said: Sequence[str], blank: Sequence[str]
+    ) -> Marks:
         """The marks of a book, and how it was read. An entry whose record may stand in a line that
         can't be read is not said to be missing. Where the hand-in numbers its records, these
         have its numbers."""
@@ -101,7 +104,7 @@ class SealedMarker:
             problems=(*reading.problems, *said),
             keys=keys,
             unread=tuple(sorted(unread)),
-            blank=reading.blank,
+            blank=(*reading.blank, *blank),
         )
 
     def _strange(self, found: BookMarks) -> str:

@@ -242,4 +242,5 @@ def both(form: KeyFile, file: Optional[KeyFile]) -> KeyFile:
     names = [name for name, value in file.values.items() if form.values.get(name, value) != value]
     said = [f"{name}: NAME.keys and the answer form differ; that of NAME.keys counts" for name in names]
     values = {**form.values, **file.values}
-    return KeyFile(values, (*file.problems, *form.problems, *said), file.unread)
+    blank = tuple(name for name in (*form.blank, *file.blank) if name not in values)
+    return KeyFile(values, (*file.problems, *form.problems, *said), file.unread, blank)
