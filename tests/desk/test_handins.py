@@ -744,6 +744,9 @@ class Folders(Case):
             ({"scan.pdf": b"%PDF-1.7", "values.txt": keys}, "3", 1),
             ({"values.txt": keys}, "3", 1),
             ({"a.book": BOOK, "b.book": BOOK, "values.txt": keys}, "3", 1),
+            ({"a.book": BOOK, "b.book": BOOK, "form.txt": form}, "1", 1),
+            ({"a.book": BOOK, "form.txt": form, "more.txt": form}, "12", 1),
+            ({"form.txt": form, "more.txt": form}, "0", 1),
         )):  # fmt: skip
             with self.subTest(sorted(files)):
                 rows, done = self.rows(f"class{number}", files)
@@ -754,9 +757,11 @@ class Folders(Case):
                     self.assertIn(name, said)
         blank = json.loads(self.mark("class2", "--json").out)["sheets"][0]["blank"]
         self.assertEqual((len(blank), "O" in blank, "D" in blank), (8, True, False))
-        said = "2 books in this folder, a.book, b.book: keep one, or name the one that counts by itself"
-        self.assertIn(said, mine[0]["problem"])
-        self.assertIn("class9/ann: ", done.error)
+        for number, what, names in ((9, "books", "a.book, b.book"), (12, "answer forms", "form.txt, more.txt")):
+            said = f"2 {what} in this folder, {names}: keep one, or name the one that counts by itself"
+            done = self.mark(f"class{number}", "--csv")
+            self.assertIn(said, next(csv.DictReader(done.out.decode().splitlines()))["problem"])
+            self.assertIn(f"class{number}/ann: ", done.error)
 
     def test_keys_beside_unmarked(self) -> None:
         """Keys count whatever the book is, and the book counts 0 until somebody decides."""

@@ -127,15 +127,16 @@ def _room(folder: str, named: Container[str], judge: Judge) -> _Room:
     if books or forms:
         no_book = "left out: no book by its content, beside a hand-in (named by itself, it is marked)"
         left.update({name: Skipped(name, no_book, True) for name in others})
-    hand_in, more = _one(books or ([] if forms else others), forms)
+    books = books or ([] if forms else others)
+    hand_in, more = _one(books, forms)
     own = [name for name in keys if hand_in and name == keys_of(hand_in)]
-    taken = own or (keys if len(keys) == 1 else [])
-    taken += forms if hand_in and hand_in not in forms and len(forms) == 1 else []
+    beside = forms if books else []  # which are read as keys
+    taken = [*(own or (keys if len(keys) == 1 else [])), *(beside if len(beside) == 1 else [])]
     said = f"read as the keys of {place(hand_in or folder)}"
     rest = [Skipped(name, said) for name in taken]
-    for what, several in (("files of keys", keys), ("answer forms", forms if hand_in else [])):
+    for what, several in (("files of keys", keys), ("answer forms", beside)):
         why = f"left out: one of {len(several)} {what} in this folder (keep one)"
-        rest += [Skipped(name, why, True) for name in several if name not in taken and name != hand_in]
+        rest += [Skipped(name, why, True) for name in several if name not in taken]
     if hand_in or more or taken:
         problem = more or ("" if hand_in else "no book in this folder, but keys: ask for the book")
         return _Room(hand_in or folder, taken, [*left.values(), *rest], problem)
