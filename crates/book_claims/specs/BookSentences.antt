@@ -33,8 +33,9 @@ pub record ManyRings : Type 0 where
 
 -- ---- a book and its records
 
--- 8b: "A record opens within a larger book as it does alone." A book opens exactly if each of its records does, by itself (`RecordAlone`); and of what
--- opening writes, record i is what record i of the sealed book opens to. The lengths are those that the call takes
+-- 8b: "A book opens exactly if each of its records does alone, and each then opens to what it opens to alone." A book opens exactly if each
+-- of its records does, by itself (`RecordAlone`); and of what opening writes, record i is what record i of the sealed book opens to. The
+-- lengths are those that the call takes
 pub record WithinABook : Type 0 where
   pub exactly : (r s out : List ℕ) → length r ≡ ringSize → length s ≤ sealedSize * mostRecords → length s % sealedSize ≡ 0
       → plainSize * (length s / sealedSize) ≤ length out

@@ -50,8 +50,9 @@ pub record WholePairing (m : ℕ) (f : ℕ → List ℕ) (n : ℕ) (g : ℕ → 
   pub pairing : Pairing m f n g given σ
   pub none-left : (i j : ℕ) → i < m → j < n → given i ≡ false → g j ≡ f i → (k : ℕ) × (k < m) × (given k ≡ true) × (σ k ≡ j)
 
--- 10a: "If a record of the hand-in counts for each entry of the model whose sealed record has the same bytes, none twice, no other pairing
--- counts more." All such pairings count the same, which is the number above, and no pairing counts more; and there is one
+-- 10a: "Give entries of the model a record of the hand-in with the bytes of their sealed record, no record to two, until no more can be
+-- given: the number is the same however it is done, and no pairing counts more." All such pairings count the same, which is the number
+-- above, and no pairing counts more; and there is one
 pub record NoneCountsMore (m : ℕ) (f : ℕ → List ℕ) (n : ℕ) (g : ℕ → List ℕ) : Type 0 where
   pub number : (given : ℕ → Bool) (σ : ℕ → ℕ) → WholePairing m f n g given σ → count m given ≡ pairs m f n g
   pub most : (given : ℕ → Bool) (σ : ℕ → ℕ) → Pairing m f n g given σ → count m given ≤ pairs m f n g
@@ -75,8 +76,8 @@ abbrev pub CopiesAddNothing : Type 0
 CopiesAddNothing = (w n : ℕ) → 0 < w → (model handIn x : List ℕ) → length handIn ≡ w * n → length x ≡ w
     → copies (length model / w) (recordAt w model) x ≤ copies n (recordAt w handIn) x → matched w model (handIn ++ x) ≡ matched w model handIn
 
--- 10d: "It is full with no record over exactly if the hand-in is a reordering of the model's sealed form, which opens to the reordered
--- model." The model is given as a well-formed plain book p, under a ring r
+-- 10d: "Every entry of the model has its equal record, and no record is over, exactly if the hand-in is a reordering of the model's sealed
+-- form; such a hand-in opens to the model reordered alike." The model is given as a well-formed plain book p, under a ring r
 pub record FullMark : Type 0 where
   pub exactly : (r p handIn : List ℕ) → Bytes ringSize r → WellFormed p
       → ((matched sealedSize (sealedForm r p) handIn ≡ length p / plainSize) × (length handIn ≡ length (sealedForm r p)))

@@ -64,8 +64,8 @@ pub record FCollides : Type 0 where
 
 -- ---- the cores
 
--- 3e: "The dropped byte is zero." It is each byte equally often: under every key, of the 256^15 inputs that end in a zero byte, exactly
--- 256^14 have d there
+-- 3e: "If the input ends in a zero byte, the dropped byte is zero." It is each byte equally often: under every key, of the 256^15 inputs
+-- that end in a zero byte, exactly 256^14 have d there
 abbrev pub DroppedByte : Type 0
 DroppedByte = (k : List ℕ) (d : ℕ) → d < 256 → Count (256 ^ 14) (λ x. ZeroAt 15 x × (bl1 k x ! 7 ≡ d))
 
@@ -90,7 +90,7 @@ pub record NotBackwards : Type 0 where
 
 -- 5h: "Two changed bytes of BL2's output are always noticed." Of BL2's output with no check failed, two bytes of one group, both ⊕ d: no
 -- check fails again, but for the fifth of kinds 2 and 5, which fails exactly if one of the two is the number byte and d is 32 or more, so
--- that it touches the top three bits. Every fifteen bytes are the output for some text (2a)
+-- that it touches the top three bits. Every fifteen bytes are the output for some text (`NothingLost`)
 
 -- the number, from 0, of the group of these sizes in which place i stands; the inserted byte is the last of its group
 abbrev pub groupAt : List ℕ → ℕ → ℕ
@@ -263,8 +263,8 @@ abbrev pub TextsExchanged : Type 0
 TextsExchanged = (r t u : List ℕ) → t ! 0 ≡ u ! 0 → part 4 2 t ≡ part 4 2 u
     → (openFault r (withText u t) ≡ openFault r u) × (openRecord r (withText u t) ≡ part 0 6 (openRecord r t) ++ part 6 12 (openRecord r u))
 
--- 4c: "The same key sealed twice gives another text." Two plain records of the same kind, version and body have the same text in their
--- sealed records under a ring, whatever their identities; and so in sealed books, at whatever places
+-- 4c: "The same entry sealed twice under one ring gives two texts." Two plain records of the same kind, version and body have the same text
+-- in their sealed records under a ring, whatever their identities; and so in sealed books, at whatever places
 abbrev pub SameEntry : List ℕ → List ℕ → Type 0
 SameEntry p q = (p ! 0 ≡ q ! 0) × (part 4 14 p ≡ part 4 14 q)
 

@@ -1,5 +1,5 @@
--- Sentences that are false as a reason: what they give as the reason is so, and what they conclude does not follow from it. Each statement
--- has a variant of which the reason is so and the conclusion is not, or the conclusion without the reason.
+-- Sentences that are false as a reason: the conclusion may hold, but not for that reason. Each statement has a variant of which the reason
+-- is so and the conclusion is not, or the conclusion without the reason.
 use mathlib.Core.List.{List, _++_}
 use mathlib.Core.Path.{_≡_}
 use Prim.Native.Nat.{ℕ, zero, suc, _-_, _^_, _<_, _≤_}

@@ -20,8 +20,8 @@ use Rattle.standard.specs.declared.Version.{Version}
 use Rattle.claims.specs.Entries.{Only, OfOne, ExactlyOne, Count, Legal, Opens, ZeroAt, SameText}
 use Rattle.claims.specs.Variants.{ta52WithoutBits, bl1Unchained, bl1By}
 
--- 2a: "Decryption undoes encryption." And encryption undoes decryption. The lengths are those that the calls take; others are refused with
--- 11
+-- 2a: "Decryption undoes encryption, and encryption undoes decryption." And encryption undoes decryption. The lengths are those that the
+-- calls take; others are refused with 11
 pub record Undone : Type 0 where
   pub back : (k b : List ℕ) → length k ≡ 16 → length b ≡ 8 → decryptCall k (encryptCall k b .bytes) ≡ record { refusal = 0; bytes = b }
   pub forth : (k b : List ℕ) → length k ≡ 16 → length b ≡ 8 → encryptCall k (decryptCall k b .bytes) ≡ record { refusal = 0; bytes = b }
@@ -145,15 +145,15 @@ abbrev pub SevenOthers : Type 0
 SevenOthers = (s : List ℕ) (v : Version) (ck : List ℕ) (n : ℕ) → length s ≡ 16 → Bytes 10 ck → n ≤ 31
     → Count 7 (λ t. Bytes 15 t × (ta52Call t s v ≡ record { refusal = 0; key = ck; number = n; «failed_checks» = fifthAlone }))
 
--- 5e: "Without the check of the three zero bits eight texts would open to one entry, and sealing would not give the text back." Seven of
--- the eight are the sealed text of no entry at all
+-- 5e: "Without the check of the three zero bits eight texts would open to one entry of kinds 2 and 5, and for seven of them sealing would
+-- not give the text back." Seven of the eight are the sealed text of no entry at all
 pub record EightWithout : Type 0 where
   pub eight : (s : List ℕ) (v : Version) (ck : List ℕ) (n : ℕ) → length s ≡ 16 → Bytes 10 ck → n ≤ 31
       → Count 8 (λ t. Bytes 15 t × (ta52WithoutBits t s v ≡ record { refusal = 0; key = ck; number = n; «failed_checks» = 0 }))
   pub not-back : (s : List ℕ) (v : Version) (t : List ℕ) → length s ≡ 16 → ta52Call t s v .«failed_checks» ≡ fifthAlone
       → (ck : List ℕ) (n : KeyNumber) → Bytes 10 ck → n .0 ≤ 31 → ta51Call ck v s n .bytes ≡ t → ⊥
 
--- 5c: "Without any check exactly 256^5 texts of kind 1, 8 · 256^4 of kinds 2 and 5, and 256^3 of kinds 3, 4 and 6 unseal to one entry." To
+-- 5c: "Without any check exactly 256^5 texts of kind 1, 8 · 256^4 of kinds 2 and 5, and 256^3 of kinds 3, 4 and 6 unseal to each entry." To
 -- each legal body; one of them is its sealed text. For kinds 2 and 5 it is 256^4 if the fifth check, of the three zero bits, is still made:
 -- bit 4 of the failed checks is that one's
 abbrev pub unsealingAlike : Algorithm → ℕ
@@ -176,9 +176,10 @@ changed n i d xs = table n (λ j. choose (eqb j i) (xs ! j ⊕ d) (xs ! j))
 abbrev pub Carried : Type 0
 Carried = (k t : List ℕ) (i d : ℕ) → i < 7 → part 8 7 (opened k (changed 15 i d t)) ≡ changed 7 i d (part 8 7 (opened k t))
 
--- 9b: "Of a text that opens the flag notices each change of one byte from the second to the seventh for kind 1, from the fourth for kinds 2
--- and 5, from the third for kinds 3, 4 and 6." There the byte's group stands wholly in the right part of BL2's output. A d of 0 would be no
--- change. Of the other bytes nothing is claimed: `OneBit` has a change of the second byte of kind 3 that the flag does not notice
+-- 9b: "Of a text that opens the flag notices each change of one byte: from the second to the seventh for kind 1, from the fourth to the
+-- seventh for kinds 2 and 5, from the third to the seventh for kinds 3, 4 and 6." There the byte's group stands wholly in the right part of
+-- BL2's output. A d of 0 would be no change. Of the other bytes nothing is claimed: `OneBit` has a change of the second byte of kind 3 that
+-- the flag does not notice
 abbrev pub noticedFrom : Algorithm → ℕ
 noticedFrom Ta31 = 1
 noticedFrom Ta51 = 3
@@ -189,6 +190,7 @@ abbrev pub Noticed : Type 0
 Noticed = (a : Algorithm) (s : List ℕ) (v : Version) (t : List ℕ) (i d : ℕ) → Opens a s v t
     → noticedFrom a ≤ i → i < 7 → (d ≡ 0 → ⊥) → unsealCall a (changed 15 i d t) s v .«failed_checks» ≡ 0 → ⊥
 
--- 5g: "One changed byte of BL2's output is always noticed." Of an output of which no check fails. A d of 0 would be no change
+-- 5g: "Where no check of BL2's output fails, a change of one byte of it is always noticed." Of an output of which no check fails. A d of 0
+-- would be no change
 abbrev pub OneOfOutput : Type 0
 OneOfOutput = (a : Algorithm) (u : List ℕ) (i d : ℕ) → failed (formOf a) u ≡ 0 → i < 15 → (d ≡ 0 → ⊥) → failed (formOf a) (changed 15 i d u) ≡ 0 → ⊥

@@ -133,8 +133,8 @@ pub record InputBytes (x : RingInputs) : Type 0 where
 abbrev pub HoldsOf : List ℕ → Type 0
 HoldsOf r = (s out : List ℕ) → ((i : ℕ) → s ! i < 256) → plainSize * (length s / sealedSize) ≤ length out → Demand3 r s out
 
--- 1p: "With TA22 or EXP2 wrong, a text could open to two entries." Demand 3 would still hold, since it holds of every ring of 52 bytes,
--- however it was made. The inputs have to consist of bytes, or the ring would not
+-- 1p: "With TA22 or EXP2 wrong, a text could open to two entries, kind, ring and version given." Demand 3 would still hold, since it holds
+-- of every ring of 52 bytes, however it was made. The inputs have to consist of bytes, or the ring would not
 pub record StillHolds : Type 0 where
   pub right : (x : RingInputs) → ringWith exp2 (λ c. c) x ≡ ring x
   pub challenge-reversed : (x : RingInputs) → InputBytes x → HoldsOf (ringWith exp2 reversed x)

@@ -1,4 +1,4 @@
--- The bounds of 7b are sharp: a table of examples, a test of it that computes, and what the test says.
+-- The bounds of `Noticed` are sharp: a table of examples, a test of it that computes, and what the test says.
 use Rattle.standard.proofs.Prelude.{_≡_, refl, sym, ap, _∙_, Bool, true, false, not, _&&_, _⊎_, inl, inr, List, [], _∷_, ℕ, _+_, _-_, _≤_, _<_, eqb}
 use Rattle.standard.proofs.Prelude.{leb, ltb, length, eqb-true, eqb-false, not-true, lt-leb, le-ltb}
 use lib.ListN.{getD}
@@ -17,7 +17,7 @@ use Rattle.claims.proofs.TermLaws.{literal-bytes, pair}
 use Rattle.example_claims.specs.Sharp.{Unnoticed, Sharp}
 use Rattle.example_claims.proofs.UnsealingLaws.{answered}
 
--- ---- the examples, in the order of the bytes: the change, and then the text; there is no row where 7b says that each change is noticed
+-- ---- the examples, in the order of the bytes: the change, and then the text; there is no row where `Noticed` says that each change is noticed
 
 -- kind 1
 abbrev rows31 : List (List ℕ)

@@ -107,7 +107,7 @@ pub record Palindrome : Type 0 where
 
 -- ---- f
 
--- 2b: "f takes two halves to the same under one round key." Under a round key of zeros, as in `FCollides`: to 01 9c 10 b0
+-- 2b: "There are two halves that f takes to the same under one round key." Under a round key of zeros, as in `FCollides`: to 01 9c 10 b0
 pub record FBytes : Type 0 where
   pub first : f half₁ (zeros 12) ≡ 0x01 ∷ 0x9c ∷ 0x10 ∷ 0xb0 ∷ []
   pub second : f half₂ (zeros 12) ≡ 0x01 ∷ 0x9c ∷ 0x10 ∷ 0xb0 ∷ []

@@ -61,8 +61,9 @@ STEPS: tuple[Step, ...] = (
         "BL1's sixteen bytes lose byte 8, the last of the left block. The right block, decrypted,"
         " is the right input ⊕ the left output; and as the input's last byte is zero, the last"
         " byte of that is the dropped one. So each string of 15 bytes comes from exactly one input"
-        " that ends in a zero byte (3a). Without the zero byte 256 inputs would share it (3b), and"
-        " so they would without the chaining (3c).",
+        " that ends in a zero byte (3a). Without the zero byte 256 inputs would share it (3b);"
+        " without the chaining 256 that end in a zero byte would share each text that comes from"
+        " one at all (3c).",
     ),
     Step(
         "One entry for a text",
@@ -93,19 +94,21 @@ STEPS: tuple[Step, ...] = (
     Step(
         "Books",
         "A book is its records in their order, as many as its length says; it opens exactly if"
-        " each of them does (8b), and it is the sealed form of one plain book (8a). That no record"
-        " was left out, repeated or moved does not follow (8d, 8e, 8f).",
+        " each of them does (8b), and if it opens, it is the sealed form of one plain book (8a)."
+        " That no record was left out, repeated or moved does not follow (8d, 8e, 8f).",
     ),
     Step(
         "What the flag notices",
         "To open to one entry only is not to notice every change. Some changes of one byte are"
-        " always noticed (9b); others may lead from one text that opens to another (9d, 9f).",
+        " always noticed (9b); other changes may lead from one text that opens to another (9c, 9d,"
+        " 9f).",
     ),
     Step(
         "Marking by equal records",
         "A hand-in may have its records in any order. It is marked by the number of its records"
         " that are the model's, byte for byte, none counted twice; no other way to pair them would"
-        " count more (10a), and neither order nor copies change it (10b, 10c).",
+        " count more (10a), and neither order nor copies beyond the model's own change it (10b,"
+        " 10c).",
     ),
     # end steps
 )
@@ -116,9 +119,11 @@ PARTS: tuple[Part, ...] = (
         "given",
         1,
         "Say what must be fixed for that.",
-        "Kind, ring and version are said to be given, in any words: the sealing key and the"
-        " version will do, and so will the key of the cipher.",
-        "One of them is left out.",
+        "Kind, ring and version are said to be given, in any words: kind, sealing key and version"
+        " will do, and so will the kind and the key of the cipher. 'Must be known' counts as"
+        " given, and a wrong reason for it costs nothing here.",
+        "One of them is left out, the kind too: under one key and version a text may open as"
+        " kinds 2, 3 and 4 to three entries (1b).",
         "Nothing is said to be fixed, or it is said to hold whatever the ring or the version (1j,"
         " 1k).",
     ),
@@ -126,16 +131,20 @@ PARTS: tuple[Part, ...] = (
         "one entry",
         3,
         "Why can a sealed text open to one entry only?",
-        "Kind, ring and version are given, and two entries never have one text (4b), by any sound"
-        " route. Undoing: unsealing undoes sealing, so both entries would be what the text unseals"
-        " to (4a). Tracing back: the same text has the same right block, so the same dropped byte,"
-        " the same left block, the same input, the same body (3a). Contradiction. Counting: the"
-        " texts that inputs ending in a zero byte give are all there are, and there are as many"
-        " such inputs; a map from a set onto one of the same size takes no two to one. The checks"
-        " are not needed, and leaving them out costs nothing here.",
-        "A sound route, but nothing is said to be given. Or a step is left out that the route"
-        " needs: how the dropped byte comes back, where the candidate traces back. ('Unsealing"
-        " undoes sealing' holds this step, and lacks nothing.)",
+        "Kind, ring and version are said to be given, anywhere in the answer, and two entries"
+        " never have one text (4b), by any sound route. Undoing: unsealing undoes sealing, so two"
+        " entries with one text would both be what it unseals to (4a). Tracing back: the same text"
+        " has the same right block, so the same dropped byte, the same left block, the same input,"
+        " the same body (3a). Either of them by contradiction. Counting: the texts that inputs"
+        " ending in a zero byte give are all there are, and there are as many such inputs; a map"
+        " from a finite set onto one of the same size takes no two to one; and two bodies never"
+        " have one input. Each of these sentences is full as it stands; why its steps hold is"
+        " asked under 'properties'. The checks are not needed, and leaving them out costs nothing"
+        " here.",
+        "A sound route, and nothing is said to be given. Or a step is left out that the route"
+        " needs: where the candidate traces back, that the right block gives the dropped byte."
+        " ('Unsealing undoes sealing' holds this step, and lacks nothing, where it is concluded"
+        " from it that two entries have two texts.)",
         "The conclusion alone; a route that rests on a sentence which is false or no reason (2c,"
         " 3d, 9d); or chance: 'few texts open' is no argument, since 256^12 of kind 3 do.",
     ),
@@ -157,21 +166,23 @@ PARTS: tuple[Part, ...] = (
         " be read out of it. Of BL1: the input ends in a zero byte, and the left output goes into"
         " the right block. Of the cipher: decryption undoes encryption under one key (2a). Who"
         " argues by undoing says why unsealing undoes sealing with the same three.",
-        "One of the three is left out, or is named without its property.",
-        "None of them; or false reasons: f can be undone (2c), S is a permutation (2d), the"
-        " dropped byte is zero (3e).",
+        "One or two of the three are left out, or are named without their property.",
+        "None of the three with its property, or only false reasons in their place: f can be"
+        " undone (2c), S is a permutation (2d), the dropped byte is zero (3e). 'Each step has one"
+        " result' is none of them.",
     ),
     Part(
         "without it",
         2,
         "What is no longer so without it?",
-        "For each property that the argument uses what is lost, in any words. The zero byte, or"
-        " the chaining: 256 inputs share a text (3b, 3d, 3c). A cipher that can be undone: two"
-        " blocks may have one encryption, and two inputs one text (2e). What is given: the text"
-        " opens to other entries, too (1b, 1j, 1k). Where the checks are used: so many texts"
-        " unseal to one entry (5c), or eight (5e).",
-        "One of the properties that were named, and no more.",
-        "Nothing, or a sentence that is false.",
+        "For each of expansion, BL1 and cipher, as far as the argument uses it, what is lost, in"
+        " any words. The expansion: with a byte of the body left out two bodies have one input,"
+        " and so one text. The zero byte, or the chaining: 256 inputs share a text (3b, 3d, 3c). A"
+        " cipher that can be undone: two blocks may have one encryption, and two inputs one text"
+        " (2e). What is lost without what is given (a text may open to other entries, too: 1b, 1j,"
+        " 1k) or without the checks (5c, 5e) may stand in the place of one of these.",
+        "At least one of all these, and not enough for full.",
+        "Nothing, or only sentences that are false.",
     ),
     Part(
         "was sealed",
@@ -179,11 +190,15 @@ PARTS: tuple[Part, ...] = (
         "Why was every text that opens sealed from an entry?",
         "Each text comes from one input that ends in a zero byte; the checks pass only if that"
         " input is the expansion of a legal body, for kinds 2 and 5 with the three bits; so"
-        " sealing that body gives the text (5a, 6a). Or by counting: as many texts pass the checks"
-        " as there are legal bodies, and the bodies' texts are all different and all pass (6d); a"
-        " one-to-one map between sets of one size reaches all.",
+        " sealing that body gives the text (5a, 6a). That each text has such an input may be shown"
+        " by sealing what BL2 gives, with 2a both ways, or by counting (3a). Or by counting alone:"
+        " as many texts pass the checks as there are legal bodies, and the bodies' texts are all"
+        " different and all pass (6d); a one-to-one map between sets of one size reaches all."
+        " 'Number below 32' is the three bits, and kind 2 may stand for 5.",
         "'The checks pass, so the key is right', without that they pass on nothing but"
-        " expansions; or the three bits are left out where kinds 2 and 5 are spoken of (5e).",
+        " expansions; the three bits are left out where kinds 2 and 5 are spoken of (5e); or that"
+        " sealing gives the text back is left out, or only said ('unsealing is the reverse of"
+        " sealing'), where the checks are used.",
         "'Unsealing has one result, so it was sealed' (6c); 'it unseals to a key' (5b); or"
         " nothing.",
     ),
@@ -193,17 +208,22 @@ PARTS: tuple[Part, ...] = (
 # What is done with a sentence that is none of the claims.
 RULES: tuple[str, ...] = (
     # begin rules, made by `contracts write`
-    "A sentence is judged by what it says, not by its words. A row about all kinds settles a"
-    " sentence about one kind; the row's words 'kind, ring and version given' may stand anywhere"
-    " in the candidate's text.",
+    "Half is half of the points. What a sound route leaves unsaid because it does not need it"
+    " costs nothing.",
+    "A sentence is judged by what it says, not by its words. A true row about all kinds settles a"
+    " sentence about one kind; a false row does so only for the kinds that its why or its instead"
+    " speaks of. The words 'kind, ring and version given' may stand anywhere in the candidate's"
+    " text.",
     "A sentence that no row settles, and that does not follow from rows in a step that the marker"
     " can write down, is neither proved nor refuted here. It wins nothing and costs nothing. If a"
     " part rests on it alone, two markers decide that part together; nobody is marked down for a"
     " sentence that has not been refuted.",
     "A false sentence costs the part that rests on it, and no other. Beside a sound argument that"
     " does not use it, it costs nothing.",
-    "Of a false row, tick who says it and who denies it, and whether a reason is given. To deny"
-    " it with a reason may stand for a property, or for what is no longer so, where it is one.",
+    "Of a false row, tick whether the candidate says it or denies it, and whether a reason is"
+    " given. Where a denial with its reason names a property, or what is lost without one, it"
+    " counts as that. Two entries of different kinds are two entries, though their bytes are the"
+    " same (1a).",
     # end rules
 )
 
@@ -317,9 +337,9 @@ CLAIMS: tuple[Claim, ...] = (
         "A sealed book opens under one ring only.",
         "false",
         "for all",
-        "of the ring only those keys are used that the book's kinds name",
-        "The empty book opens under every ring, and a book without kind 1 under every D, to the"
-        " same book.",
+        "of D, O and G only those are used that the book's kinds name",
+        "The empty book opens under every ring; and a book without kind 1 that opens under a ring"
+        " opens with every other D in it, too, to the same book.",
         "book_claims",
         "BookSentences.ManyRings",
         "BookClaims.many-rings",
@@ -370,8 +390,8 @@ CLAIMS: tuple[Claim, ...] = (
         "TA22's challenge is reversed, as TA21's seed is.",
         "false",
         "example",
-        "response and key are then others than the standard's, unless the challenge reads the"
-        " same backwards",
+        "for the challenge 01 02 .. 0a, under the session key 00 01 .. 0f and with the masks 000f"
+        " and 3ff0, response and key would be others than the standard's",
         "TA22 takes the challenge as it is.",
         "claims",
         "Variants.ChallengeReversed",
@@ -384,7 +404,8 @@ CLAIMS: tuple[Claim, ...] = (
         "false",
         "for all",
         "a challenge that reads the same backwards is the same reversed",
-        "Of such a challenge they are the same, under every session key and with all masks.",
+        "Of a challenge that reads the same backwards they are the same, under every session key"
+        " and with all masks.",
         "example_claims",
         "Examples.Palindrome",
         "ComputedClaims.palindrome",
@@ -395,8 +416,8 @@ CLAIMS: tuple[Claim, ...] = (
         "EXP2's last byte is the ⊕ of the five inserted bytes.",
         "false",
         "example",
-        "it is their sum: for the seed 01 02 .. 0a it is 1f and not 0b, so TA41 answers otherwise"
-        " under every root",
+        "it is their sum: for the seed 01 02 .. 0a it is 1f and not 0b, so for that seed TA41"
+        " answers otherwise under every root",
         "It is their sum, without the carry out of eight bits.",
         "claims",
         "Variants.LastByteXored",
@@ -405,12 +426,12 @@ CLAIMS: tuple[Claim, ...] = (
     Claim(
         "1p",
         "still-holds",
-        "With TA22 or EXP2 wrong, a text could open to two entries.",
+        "With TA22 or EXP2 wrong, a text could open to two entries, kind, ring and version given.",
         "false",
         "for all",
-        "whatever ring comes out, demand 3 holds of it",
-        "Another ring comes out, as a rule, and under it each text still opens to one entry at"
-        " most.",
+        "demand 3 holds of every ring of 52 bytes, so of whatever ring comes out",
+        "As a rule another ring comes out; under it, too, each text opens to one entry at most,"
+        " kind and version given.",
         "claims",
         "Variants.StillHolds",
         "VariantClaims.still-holds",
@@ -418,7 +439,7 @@ CLAIMS: tuple[Claim, ...] = (
     Claim(
         "2a",
         "undone",
-        "Decryption undoes encryption.",
+        "Decryption undoes encryption, and encryption undoes decryption.",
         "true",
         "for all",
         "each round is undone by the same round on the halves exchanged",
@@ -430,7 +451,7 @@ CLAIMS: tuple[Claim, ...] = (
     Claim(
         "2b",
         "f-bytes",
-        "f takes two halves to the same under one round key.",
+        "There are two halves that f takes to the same under one round key.",
         "true",
         "example",
         "under a round key of zeros 00 03 01 36 and 00 03 c1 36 both go to 01 9c 10 b0",
@@ -457,7 +478,7 @@ CLAIMS: tuple[Claim, ...] = (
         "The cipher can be undone because S is a permutation.",
         "false as a reason",
         "for all",
-        "a round ⊕ f of one half into the other, and the same ⊕ takes it away",
+        "a round takes f of one half into the other by ⊕, and the same ⊕ takes it away",
         "Sixteen such rounds can be undone whatever f is.",
         "claims",
         "Reasons.WhateverF",
@@ -482,8 +503,8 @@ CLAIMS: tuple[Claim, ...] = (
         "Encryption hides the key.",
         "open",
         "",
-        "that a text tells nothing of the key to who has not the sealing key is a belief about"
-        " the cipher, and no consequence of its definition",
+        "that nobody can find the key from a text without the sealing key is a belief about the"
+        " cipher; nothing here proves or refutes it",
         "",
         "",
         "",
@@ -535,8 +556,8 @@ CLAIMS: tuple[Claim, ...] = (
         "for all",
         "with the zero byte at another place of the input's right block there are as many inputs"
         " as texts, with two there fewer, and 256 of them share a text",
-        "That there is room for each does not say that no two meet; the last byte, which is zero,"
-        " says it.",
+        "That there is room for each does not say that no two meet; that the input's last byte is"
+        " zero does (3a).",
         "claims",
         "Reasons.FewerInputs",
         "CoreClaims.fewer-inputs",
@@ -544,12 +565,12 @@ CLAIMS: tuple[Claim, ...] = (
     Claim(
         "3e",
         "dropped-byte-zero",
-        "The dropped byte is zero.",
+        "If the input ends in a zero byte, the dropped byte is zero.",
         "false",
         "for all",
         "it is a byte of the cipher's output",
-        "It is each byte equally often: of the inputs that end in a zero byte exactly 256^14 have"
-        " it there.",
+        "It is each byte equally often: for each value, exactly 256^14 of the inputs that end in"
+        " a zero byte have it as the dropped byte.",
         "claims",
         "FalseClaims.DroppedByte",
         "DroppedClaims.dropped-byte",
@@ -573,8 +594,9 @@ CLAIMS: tuple[Claim, ...] = (
         "false",
         "for all",
         "BL2 takes the last byte of the decrypted right block for the dropped byte",
-        "With the zero byte at B8 it gives the input back exactly if the input ends in a zero"
-        " byte; with BL1's own byte there, exactly if that byte is the input's last.",
+        "With the zero byte at B8 it gives the input's first fifteen bytes back exactly if the"
+        " input ends in a zero byte; with BL1's own byte there, exactly if that byte is the"
+        " input's last.",
         "claims",
         "FalseClaims.NotBackwards",
         "DroppedClaims.not-backwards",
@@ -585,8 +607,8 @@ CLAIMS: tuple[Claim, ...] = (
         "The zero byte can as well be put back at the end.",
         "false",
         "example",
-        "the two blocks are then cut one byte further on, and a sealed text does not open, as a"
-        " rule",
+        "the two blocks are then cut one byte further on: the text of the key 01 02 .. 0a with"
+        " number 4660, of kind 3 under O 00 01 .. 0f with version 7, then fails all three checks",
         "It belongs where byte 8 was dropped.",
         "claims",
         "Variants.ZeroAtEnd",
@@ -632,12 +654,12 @@ CLAIMS: tuple[Claim, ...] = (
     Claim(
         "4c",
         "sealed-twice",
-        "The same key sealed twice gives another text.",
+        "The same entry sealed twice under one ring gives two texts.",
         "false",
         "for all",
         "nothing goes into a text but kind, sealing key, version and body",
-        "Two entries of one kind, version and body have the same text, wherever they stand and"
-        " whatever their identities.",
+        "Under one ring two records of one kind, version and body have the same text, wherever"
+        " they stand and whatever their identities.",
         "claims",
         "FalseClaims.SealedTwice",
         "IdentityClaims.sealed-twice",
@@ -661,7 +683,8 @@ CLAIMS: tuple[Claim, ...] = (
         "The checks pass exactly on the expansions of legal bodies, and shrinking gives the body.",
         "true",
         "for all",
-        "the inserted bytes follow from the others, and shrinking leaves the others",
+        "the inserted bytes follow from the others, for kinds 2 and 5 the three bits are zero,"
+        " and shrinking keeps the rest",
         "",
         "claims",
         "TrueClaims.ChecksExactly",
@@ -683,7 +706,7 @@ CLAIMS: tuple[Claim, ...] = (
         "5c",
         "without-any-check",
         "Without any check exactly 256^5 texts of kind 1, 8 · 256^4 of kinds 2 and 5, and 256^3"
-        " of kinds 3, 4 and 6 unseal to one entry.",
+        " of kinds 3, 4 and 6 unseal to each entry.",
         "true",
         "for all",
         "one for each value of the inserted bytes, and of the three bits",
@@ -708,11 +731,11 @@ CLAIMS: tuple[Claim, ...] = (
     Claim(
         "5e",
         "eight-without",
-        "Without the check of the three zero bits eight texts would open to one entry, and"
-        " sealing would not give the text back.",
+        "Without the check of the three zero bits eight texts would open to one entry of kinds 2"
+        " and 5, and for seven of them sealing would not give the text back.",
         "true",
         "for all",
-        "these seven and the sealed text, which alone has the three bits zero",
+        "the seven of 5d and the sealed text, which alone has the three bits zero",
         "",
         "claims",
         "TrueClaims.EightWithout",
@@ -725,7 +748,8 @@ CLAIMS: tuple[Claim, ...] = (
         "false",
         "for all",
         "sealing leaves them zero, so a text with others was not sealed",
-        "Under every key a text would open that is the sealed text of no entry.",
+        "Without it, under every sealing key and version a text would open as kinds 2 and 5 that"
+        " is the sealed text of no entry of theirs, key and version given.",
         "claims",
         "Variants.BitsUnchecked",
         "BitsClaims.bits-unchecked",
@@ -733,7 +757,7 @@ CLAIMS: tuple[Claim, ...] = (
     Claim(
         "5g",
         "one-byte-of-output",
-        "One changed byte of BL2's output is always noticed.",
+        "Where no check of BL2's output fails, a change of one byte of it is always noticed.",
         "true",
         "for all",
         "it stands in one group, whose ⊕ then differs, or is the inserted byte itself",
@@ -786,9 +810,10 @@ CLAIMS: tuple[Claim, ...] = (
         "Unsealing has one result, so what opens was sealed.",
         "false as a reason",
         "for all",
-        "the unsealing without the check of the three bits has one result, too, and gives every"
-        " entry back",
-        "By that unsealing a text opens, under every key, that is the sealed text of no entry.",
+        "for kinds 2 and 5 the unsealing without the check of the three bits has one result, too,"
+        " and gives every entry back",
+        "By that unsealing, under every sealing key and version, a text opens that is the sealed"
+        " text of no entry of that kind, key and version given.",
         "claims",
         "Reasons.OneResult",
         "BitsClaims.one-result",
@@ -840,8 +865,9 @@ CLAIMS: tuple[Claim, ...] = (
         "for all",
         "the flag is worked from kind, version, the sealing key and the text, and every three"
         " bytes are some identity, encrypted",
-        "A record opens, or does not, whatever its encrypted identity: to another identity, with"
-        " the same kind, version and body.",
+        "With any other encrypted identity a record that opens goes on opening, to another"
+        " identity with the same kind, version and body; one that does not open goes on not"
+        " opening.",
         "claims",
         "FalseClaims.IdentityFree",
         "IdentityClaims.identity-free",
@@ -853,8 +879,8 @@ CLAIMS: tuple[Claim, ...] = (
         "false",
         "for all",
         "C enters TA61 alone",
-        "Under another C a record opens to the same kind, version and body; its identity may be"
-        " another.",
+        "With another C a record that opens opens to the same kind, version and body, and one"
+        " that does not open does not; of the identity nothing is said here.",
         "book_claims",
         "RecordSentences.CommonKeyFree",
         "RecordClaims.common-key-free",
@@ -867,8 +893,8 @@ CLAIMS: tuple[Claim, ...] = (
         "false",
         "for all",
         "a text knows its kind's key and its version, and no identity",
-        "Two records of the same kind and version may exchange their texts: each opens to its own"
-        " identity with the other's body.",
+        "Two records of the same kind and version that open under a ring may exchange their"
+        " texts: each opens to its own identity with the other's body.",
         "claims",
         "FalseClaims.TextsExchanged",
         "IdentityClaims.texts-exchanged",
@@ -879,7 +905,8 @@ CLAIMS: tuple[Claim, ...] = (
         "The kind byte is protected.",
         "false",
         "for all",
-        "no byte of the text is worked from it but by the sealing key that it names",
+        "it goes into the text only by the sealing key and the expansion that it names, and kinds"
+        " 3 and 4 have both in common",
         "A record of kind 3 that opens, opens with kind byte 4, too, to the same identity,"
         " version and body.",
         "book_claims",
@@ -902,7 +929,8 @@ CLAIMS: tuple[Claim, ...] = (
     Claim(
         "8b",
         "within-a-book",
-        "A record opens within a larger book as it does alone.",
+        "A book opens exactly if each of its records does alone, and each then opens to what it"
+        " opens to alone.",
         "true",
         "for all",
         "no record's opening looks at another",
@@ -942,7 +970,7 @@ CLAIMS: tuple[Claim, ...] = (
         "false",
         "for all",
         "no record knows of another",
-        "A book that opens goes on opening with a record in it twice.",
+        "A book of fewer than 1,024 records that opens goes on opening with a record in it twice.",
         "book_claims",
         "BookSentences.Doubled",
         "BookClaims.doubled",
@@ -954,7 +982,8 @@ CLAIMS: tuple[Claim, ...] = (
         "false",
         "for all",
         "no record knows its place",
-        "The reordered book opens to the plain book in that order.",
+        "A book that opens goes on opening with its records in another order, to the plain book"
+        " in that order.",
         "book_claims",
         "BookSentences.OrderChanged",
         "BookClaims.order-changed",
@@ -975,9 +1004,9 @@ CLAIMS: tuple[Claim, ...] = (
     Claim(
         "9b",
         "noticed",
-        "Of a text that opens the flag notices each change of one byte from the second to the"
-        " seventh for kind 1, from the fourth for kinds 2 and 5, from the third for kinds 3, 4 and"
-        " 6.",
+        "Of a text that opens the flag notices each change of one byte: from the second to the"
+        " seventh for kind 1, from the fourth to the seventh for kinds 2 and 5, from the third to"
+        " the seventh for kinds 3, 4 and 6.",
         "true",
         "for all",
         "the byte's whole group stands in the right part, where that byte alone has changed",
@@ -989,9 +1018,9 @@ CLAIMS: tuple[Claim, ...] = (
     Claim(
         "9c",
         "sharp",
-        "Some change of each other byte goes unnoticed: of the first for kind 1, of the first"
-        " three for kinds 2 and 5, of the first two for kinds 3, 4 and 6, and of the last eight"
-        " for all.",
+        "Of some text a change of each other byte goes unnoticed: of the first for kind 1, of the"
+        " first three for kinds 2 and 5, of the first two for kinds 3, 4 and 6, and of the last"
+        " eight for all.",
         "true",
         "example",
         "for each of them there is a text that opens before and after a change of it",
@@ -1009,7 +1038,7 @@ CLAIMS: tuple[Claim, ...] = (
         "as kind 3, version 7, under O 00 01 .. 0f, f20234e6a621c279ee4f4cf0ad6279 and"
         " f20034e6a621c279ee4f4cf0ad6279 differ in one bit and open to different keys; so they do"
         " as kinds 4 and 6, and 9e has kinds 1, 2 and 5",
-        "From a text that opens, a change of one bit may lead to another.",
+        "From a text that opens, a change of one bit may lead to another that opens.",
         "claims",
         "FalseClaims.OneBit",
         "ExampleClaims.one-bit",
@@ -1020,10 +1049,11 @@ CLAIMS: tuple[Claim, ...] = (
         "For kinds 1, 2 and 5 the flag notices every change of one byte.",
         "false",
         "example",
-        "of kind 1 under D 00 01 .. 09 541f2a277684453cad9193d1e0acaa and the same with d4 in"
-        " front open, of kind 2 under O 00 01 .. 0f 57b82885ccb448198c9d93bb19ec5f and the same"
-        " with dc for 28",
-        "A change of the first byte, or of the third, may go unnoticed.",
+        "with version 7, of kind 1 under D 00 01 .. 09 541f2a277684453cad9193d1e0acaa and the"
+        " same with d4 in front open, of kind 2 under O 00 01 .. 0f (and so of kind 5 under such a"
+        " G) 57b82885ccb448198c9d93bb19ec5f and the same with dc for 28",
+        "A change of the first byte may go unnoticed for kind 1, and one of the third for kinds 2"
+        " and 5.",
         "example_claims",
         "Examples.OneByte",
         "ComputedClaims.one-byte",
@@ -1044,8 +1074,9 @@ CLAIMS: tuple[Claim, ...] = (
     Claim(
         "10a",
         "equal-records",
-        "If a record of the hand-in counts for each entry of the model whose sealed record has"
-        " the same bytes, none twice, no other pairing counts more.",
+        "Give entries of the model a record of the hand-in with the bytes of their sealed record,"
+        " no record to two, until no more can be given: the number is the same however it is done,"
+        " and no pairing counts more.",
         "true",
         "for all",
         "of each record's copies the smaller of the two books' numbers can be paired",
@@ -1081,8 +1112,9 @@ CLAIMS: tuple[Claim, ...] = (
     Claim(
         "10d",
         "all-right",
-        "It is full with no record over exactly if the hand-in is a reordering of the model's"
-        " sealed form, which opens to the reordered model.",
+        "Every entry of the model has its equal record, and no record is over, exactly if the"
+        " hand-in is a reordering of the model's sealed form; such a hand-in opens to the model"
+        " reordered alike.",
         "true",
         "for all",
         "each record then stands in both books equally often",
