@@ -12,7 +12,7 @@ from unittest import mock
 import reference
 from common import CLASS, DESK, ENTRIES, PLAIN_BOOK, RING, SITTING, Case, here, ring_for, seal, taa1
 from taa1 import Refused, Sitting
-from taa1_desk.engine import Engine as Desk
+from taa1_desk.engine import Engine
 from taa1_desk.marking.working import Steps
 from taa1_desk.names import both
 from taa1_desk.reading.sittings import Heading
@@ -33,11 +33,11 @@ WORKED = reference.Working()  # by other hands than the engine's and the desk's
 # The claims whose instance is the proof's example, whatever the sitting and its book.
 EXAMPLES = {
     "f-collides", "two-rings", "two-versions", "kind-1-only", "o-and-g-differ",
-    "flag-notices-every-change", "one-byte-1-2-5", "zero-at-end-either-way",
+    "flag-notices-every-change", "one-byte-1-2-5", "sharp", "f-bytes", "zero-at-end-either-way",
 }  # fmt: skip
 
 
-def maker(sitting: Sitting = SITTING, plain: bytes = PLAIN_BOOK, desk: Optional[Desk] = None) -> Maker:
+def maker(sitting: Sitting = SITTING, plain: bytes = PLAIN_BOOK, desk: Optional[Engine] = None) -> Maker:
     """What makes a sitting's instances."""
     return Maker(desk or DESK, sitting, ring_for(sitting), plain)
 
@@ -60,12 +60,12 @@ def by_proof(of: Maker) -> set[str]:
     return {name for name in INSTANCES if made(name, of).source.startswith(PROOF)}
 
 
-class Recording(Desk):
+class Recording(Engine):
     """A desk that keeps what is asked of the engine, and its answers."""
 
     def __init__(self) -> None:
         """Keeps nothing yet but the ring's call."""
-        super().__init__(DESK.engine)
+        super().__init__(DESK.host)
         self.calls: list[tuple[str, tuple[Any, ...], dict[str, Any]]] = []
         self.call("ring", *SITTING)
 
@@ -160,7 +160,7 @@ class Made(Case):
                 with self.subTest(claim=name, row=row):
                     if mark not in others:
                         self.assertTrue(desk.answered(mark, value), (mark, value))
-                    elif mark == GIVEN and name not in EXAMPLES and isinstance(value, bytes):
+                    elif mark == GIVEN and name not in {*EXAMPLES, "palindrome"} and isinstance(value, bytes):
                         self.assertIn(value, own)
             del desk.calls[before:]
 

@@ -42,7 +42,7 @@ class Rooms(unittest.TestCase):
         self.assertFalse([name for name in seen if rooms.room_of(name) in ("showing", "command", "cli")])
 
     def test_short(self) -> None:
-        """Each room says what it is for, and no module is very long, but for the claims' instances
+        """Each room says what it is for, and no module is very long, but for the claims
         and the working, a class each."""
         for room in rooms.DESK.iterdir():
             if room.is_dir() and room.name != "__pycache__":
@@ -53,7 +53,7 @@ class Rooms(unittest.TestCase):
             for lines in [path.read_text().count("\n")]
             if lines > 400
         }
-        self.assertLessEqual(set(long), {"instances", "working"}, long)
+        self.assertLessEqual(set(long), {"claims", "working"}, long)
 
     def test_picture(self) -> None:
         """tests/desk/rooms.py --write makes it."""

@@ -5,7 +5,7 @@ from __future__ import annotations
 from taa1 import Sitting
 
 from .claims import CLAIMS, PARTS, RULES, STEPS, Claim
-from ..engine import Engine as Desk
+from ..engine import Engine
 from .document import Block, Boxes, Document, Fields, Head, Noted, Pairs, Table, Together, Words
 from .instances import MARKS, Maker, instance_of
 from .paper import QUESTION
@@ -71,7 +71,7 @@ def _shown(made: Maker, claim: Claim) -> Block:
 
 
 def argument_sheet(
-    desk: Desk, sitting: Sitting, ring: Ring, heading: Heading, plain: bytes
+    desk: Engine, sitting: Sitting, ring: Ring, heading: Heading, plain: bytes
 ) -> Document:
     """The question, the model argument, the rubric and the claims with room for marks, and
     after them their instances."""

@@ -7,7 +7,7 @@ from typing import Any, Callable, NamedTuple, Optional
 
 from taa1 import Sitting
 
-from ..engine import Engine as Desk
+from ..engine import Engine
 from ..problems import Problem
 from ..names import KIND_NAMES, both, field, sealing
 from .html import Code, grouped
@@ -112,7 +112,7 @@ EXAMPLE = Entry(3, 0, 7, UPWARD[1:11], 0x1234)
 class Maker:
     """The sitting, its book, the calls and the working, from which instances are made."""
 
-    def __init__(self, desk: Desk, sitting: Sitting, ring: Ring, plain: bytes) -> None:
+    def __init__(self, desk: Engine, sitting: Sitting, ring: Ring, plain: bytes) -> None:
         """Takes the sitting's ring, and a book that has entries."""
         self.desk, self.sitting, self.ring, self.plain = desk, sitting, ring, plain
         self.entries = [Entry.of(record) for record in split(plain, PLAIN)]

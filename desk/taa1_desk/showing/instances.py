@@ -9,12 +9,12 @@ from __future__ import annotations
 
 from typing import Union
 
-from . import instances_books, instances_core, instances_keys, instances_texts
+from . import instances_books, instances_core, instances_flag, instances_keys, instances_texts
 from .instance import INSTANCES, MARKS, PROOF, Instance, Maker
 
 __all__ = ["INSTANCES", "MARKS", "NONE", "PROOF", "Instance", "Maker", "instance_of"]
 
-_TOPICS = (instances_books, instances_core, instances_keys, instances_texts)  # fill INSTANCES
+_TOPICS = (instances_books, instances_core, instances_flag, instances_keys, instances_texts)  # fill INSTANCES
 
 # The claims of which there is no instance, and why.
 NONE = {
