@@ -89,7 +89,7 @@ class Table(unittest.TestCase):
 
     def test_module(self) -> None:
         """The typed methods take what the table has, under the same names."""
-        kinds = {"bytes": Bytes, "version": Version, "number": KeyNumber}
+        kinds: dict[str, Any] = {"bytes": Bytes, "version": Version, "number": KeyNumber}
         methods = {name: call for name, call in vars(Engine).items() if not name.startswith("_")}
         self.assertEqual(set(methods), set(CALLS) | {"release"})
         for call in CALLS.values():
