@@ -89,6 +89,7 @@ class KeyMark(NamedTuple):
     wants: Optional[bytes]
     under: tuple[str, ...] = ()  # own values that are wrong, from which it follows
     also: str = ""  # the model's value that it is instead
+    note: str = ""  # that digits of it were miscopied
 
 
 class KeySheet(NamedTuple):
@@ -105,6 +106,11 @@ class KeySheet(NamedTuple):
         """The values that are not the model's."""
         states = ("wrong", "follows")
         return {mark.name: mark.has for mark in self.marks if mark.state in states and mark.has}
+
+    @property
+    def right(self) -> list[str]:
+        """The values that are the model's."""
+        return [mark.name for mark in self.marks if mark.state == "right"]
 
     @property
     def worked_rightly(self) -> list[str]:

@@ -1,7 +1,8 @@
 """Times the marking of a large class: measure.py [CANDIDATES [ENTRIES]].
 
-Each candidate's book is the model under one slip of the table in turn; one in seven
-is shuffled, and one in five has half of its entries replaced by noise.
+Each candidate's book is the model under one slip of the table in turn, and every fourth
+under a slip inside the cipher, everywhere or in TA61 alone; one in seven is shuffled, and
+one in five has half of its entries replaced by noise.
 """
 
 from __future__ import annotations
@@ -18,9 +19,11 @@ sys.path[:0] = [str(ROOT / folder) for folder in ("python", "desk")]
 
 from taa1_desk.command.inputs import read_sitting  # noqa: E402
 from taa1_desk.engine import Engine  # noqa: E402
+from taa1_desk.marking.cipher_slips import CIPHER_SLIPS  # noqa: E402
 from taa1_desk.marking.sealed import SealedMarker  # noqa: E402
 from taa1_desk.marking.slipped import work  # noqa: E402
 from taa1_desk.marking.slips import SLIPS  # noqa: E402
+from taa1_desk.marking.trials import Trial, cipher_trials  # noqa: E402
 from taa1_desk.reading.sittings import sitting_ring  # noqa: E402
 from taa1_desk.records import KINDS, SEALED, Entry  # noqa: E402
 
@@ -37,19 +40,35 @@ def entry(kind: int) -> Entry:
     return Entry(kind, DRAW.getrandbits(24), DRAW.getrandbits(16), key, number)
 
 
+def in_cipher(marker: SealedMarker) -> list[dict[int, bytes]]:
+    """The records under each slip inside the cipher, everywhere and in TA61 alone."""
+    tried = marker.book.tried
+
+    def record(trial: Trial, at: int) -> bytes:
+        head, model = marker.model[at], tried.work.truth[at]
+        made = {part: tried._made(trial, (at, part)) or model[part] for part in model}
+        return bytes(head[:1] + made["identity"] + made["text"][1:])
+
+    trials = [trial for slip in CIPHER_SLIPS for trial in list(cipher_trials(slip))[:2]]
+    return [{at: record(trial, at) for at in range(len(marker.model))} for trial in trials]
+
+
 def main() -> None:
     """Makes the class, and prints how long its marking takes."""
     candidates, entries = ([int(arg) for arg in sys.argv[1:]] + [1000, 100][len(sys.argv) - 1 :])[:2]
     engine = Engine()
     sitting = read_sitting(str(SITTING))
     plain = b"".join(entry(1 + at % len(KINDS)).data for at in range(entries))
-    model = SealedMarker(engine, sitting, sitting_ring(engine, sitting, SITTING.name), plain).model
+    marker = SealedMarker(engine, sitting, sitting_ring(engine, sitting, SITTING.name), plain)
+    model, ciphers = marker.model, in_cipher(marker)
     slips = list(work(engine, sitting, plain))
     with tempfile.TemporaryDirectory() as folder:
         (Path(folder) / "plain").write_bytes(plain)
         names = []
         for number in range(candidates):
             altered = slips[number % len(slips)].records
+            if number % 4 == 3:
+                altered = ciphers[number // 4 % len(ciphers)]
             records = [altered.get(at, record) for at, record in enumerate(model)]
             if number % 7 == 0:
                 DRAW.shuffle(records)
@@ -58,7 +77,7 @@ def main() -> None:
             names.append(Path(folder) / f"{number}.book")
             names[-1].write_bytes(b"".join(records))
         command = [sys.executable, *map(str, (ROOT / "taa1", "mark", SITTING, Path(folder) / "plain", *names))]
-        what = f"{candidates:,} books of {entries:,} entries, {len(SLIPS)} slips"
+        what = f"{candidates:,} books of {entries:,} entries, {len(SLIPS)} slips and those that are tried"
         pages = ["--html", str(Path(folder) / "pages")]
         ways: dict[str, list[str]] = {"text": [], "pages": pages}
         for form, more in ways.items():

@@ -79,8 +79,6 @@ def _one_slip(of: Exam) -> Iterator[SealedBook]:
             book = books[slip.name]
             wrong = len(of.entries) - right(of.sealed, book)
             say = f"{_counted(of, book)}; {slip.mistake}: explains {wrong} of {wrong}"
-            if group == "cipher":
-                say = f"{_counted(of, book)}; no slip of the table is claimed"
             yield SealedBook(
                 f"{of.name}/{slip.name}",
                 group,

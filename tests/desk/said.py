@@ -3,6 +3,16 @@
 from __future__ import annotations
 
 SEALING = {
+    "schedule-0e": "D's 1e read as 0e",
+    "schedule-right": "rotation to the right",
+    "schedule-d-first": "rotation after D's ⊕",
+    "round-keys-left": "bytes 15 to 4 of the register for the round key",
+    "round-keys-late": "schedule begun at Q2",
+    "f-unpermuted": "no transposition of the bits",
+    "f-transposed": "transposition of the bits in the other direction",
+    "f-unchained": "T's not chained",
+    "halves-unswapped": "halves not exchanged at the end",
+    "f-high-nibbles": "high nibbles of T4 to T11",
     "unchained": "no chaining in BL1",
     "unchained-in-seals": "no chaining in BL1, in sealing alone",
     "unchained-in-keys": "no chaining in BL1, in deriving keys alone",
@@ -220,13 +230,14 @@ EDITED = {
     "text-twice": ("another entry's text", 1),
     "key-of-next": ("another entry's key", 1),
     "keys-exchanged": ("two entries' keys exchanged", 2),
+    "version-wrong": ("another entry's version", 1),
     "flags-missed": ("redundancy not checked", 7),
     "flag-missed-once": ("three zero bits not checked", 1),
 }
 # Edited files of keys, likewise.
 EDITED_KEYS = {
     "o-right-book-wrong": "G for O",
-    "response-key-exchanged": "masks exchanged",
+    "response-key-exchanged": "response 1 and key 1 in each other's lines",
     "keys-exchanged": "keys 1 and 2 exchanged",
     "sessions-miscopied": "session keys 1 and 2 exchanged",
     "only-d-wrong": "TB4 as a sum",

@@ -100,7 +100,7 @@ class Forms(unittest.TestCase):
         self.assertEqual([e.index for e in sheet.entries if e.state == "wrong"], [9])
         assert sheet.refused
         self.assertEqual((sheet.refused.number, sheet.refused.index), (6, 9))
-        self.assertIn("  entry 9: seals no key: all 5 checks fail\n", sheet_text(sheet))
+        self.assertIn("  entry 9: text: one digit differs: b for a at place 30; seals no key: all 5 checks fail\n", sheet_text(sheet))
         self.assertIn("  left blank on the form: entries 3 and 7\n", sheet_text(sheet))
         keys = {name: value for name, value in KEYS.items() if name != "D"}
         self.assertIn("  left blank on the form: D and entry 3\n", sheet_text(mark(filled(

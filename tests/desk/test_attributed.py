@@ -88,10 +88,6 @@ class SealedBooks(unittest.TestCase):
         mistyped = {1} if book.name.endswith("-mistyped") else set()
         self.assertLessEqual(set(wrong(sheet)) - mistyped, set(explained(sheet)))
 
-    def _cipher(self, book: SealedBook, sheet: Sheet) -> None:
-        """The cipher is not worked anew, so nothing is claimed."""
-        self.assertEqual(sheet.slips, ())
-
     def _edited(self, book: Union[SealedBook, OpenedBook], sheet: Sheet) -> None:
         slip, entries = said.EDITED.get(book.name.partition("/")[2], ("", 0))
         found = [(each.name, len(each.entries)) for each in sheet.slips]

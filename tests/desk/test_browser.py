@@ -20,7 +20,7 @@ HEADING = "title = Key management, the winter paper\ndate = 3 December\n"
 BOOK = CLASS / "model.txt"
 # The pages, and the sheets of paper that each takes at most.
 PAGES = {
-    "paper": 2, "form": 3, "solution": 10, "model": 6, "argue": 25, "index": 3,
+    "paper": 2, "form": 3, "solution": 13, "model": 6, "argue": 25, "index": 3,
     "ann.book": 1, "ben.book": 2, "cho.book": 2, "dee.book": 2, "eve.book": 2, "fay.book": 2,
     "noise.book": 1, "all-wrong.book": 3, "many.book": 2, "gil.txt": 2,
     f"{'e' * 80}.book": 1,

@@ -33,6 +33,8 @@ MODEL = MARKER.model
 # Exchanged masks make a D of four bytes, and no book; with both sides, the other is no slip.
 NO_BOOK = {"masks exchanged", "both sides for one"}
 NO_BOOK |= {f"{value}s 1 and 2 exchanged" for value in ("session key", "response", "key")}
+LINES = {side: f"response {side} and key {side}" for side in (1, 2)}
+NO_BOOK |= {f"{which} in each other's lines" for which in (*LINES.values(), " and ".join(LINES.values()))}
 
 
 def seal(sitting: Sitting = SITTING, plain: bytes = PLAIN_BOOK) -> bytes:
@@ -169,8 +171,8 @@ class Slips(unittest.TestCase):
         names = [slip.name for slip in SLIPS]
         self.assertEqual(len(set(names)), len(names))
         for slip in SLIPS:
-            self.assertLessEqual(set(slip.altered), set(STEPS), slip.name)
-            if slip.step_in(3) not in STEPS.values():  # several steps that take an input
+            self.assertLessEqual(set(slip.altered), {*STEPS, "keys"}, slip.name)
+            if slip.step_in(3) not in (*STEPS.values(), slip.at):  # several steps that take an input
                 self.assertTrue(slip.inputs, slip.name)
                 steps = {name for name, _ in STEPS.values()}
                 self.assertLessEqual(set(re.split(", | and ", slip.step_in(3)[0])), steps, slip.name)

@@ -139,7 +139,7 @@ class Pages(Case):
             "the entry's fields (document 01)",
             "Entry 2: kind 2, SCK under O (KSO) by TA51",
             "Entry 4: kind 3, GCK under O (KSO) by TA81",
-            "Seals no key: all 3 checks fail.",
+            "Text: two neighbouring digits are exchanged: fd for df at places 29 and 30; seals no key: all 3 checks fail.",
             f"({WRONG_MEANS}; {FAILS_MEANS})",
         ):
             self.assertIn(words, said)

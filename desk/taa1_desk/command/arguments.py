@@ -199,6 +199,14 @@ def parser(says: str, runs: Mapping[str, Run]) -> Parser:
     schedule.add_argument("key", type=bytes_of, metavar="KEY", help="16 bytes, or @FILE")
     _common(schedule, json="")
 
+    tracing = command("trace")
+    tracing.add_argument("key", type=bytes_of, metavar="KEY", help="16 bytes, or @FILE")
+    tracing.add_argument("block", type=bytes_of, metavar="BLOCK", help="8 bytes, or @FILE")
+    tracing.add_argument("--decrypt", action="store_true", help="the round keys in reverse order")
+    tracing.add_argument("--find", type=bytes_of, metavar="OUTPUT", help="name the slips that give these 8 bytes")
+    tracing.add_argument("--html", action="store_true", help="write a page of HTML")
+    _common(tracing, json="")
+
     _common(command("tables", private=False))
 
     model = command("model")

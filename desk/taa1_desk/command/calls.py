@@ -13,10 +13,13 @@ from taa1.calls import CALLS, Call
 from taa1.library import build, repository
 
 from ..engine import Engine, RefusedFile, refusals
+from ..marking.trace import search, traced
 from ..problems import Problem, place, shown
 from ..reading import books, decoding, lineage, sittings
 from ..records import PLAIN, Entry, split
 from ..setting.damage import damaged
+from ..showing import trace
+from ..showing.document import as_page
 from ..values import without_0x
 from . import files, inputs
 from .arguments import flag_of
@@ -189,6 +192,26 @@ def run_schedule(args: argparse.Namespace) -> int:
     return ACCEPTED
 
 
+def run_trace(args: argparse.Namespace) -> int:
+    """A block through the cipher, round by round; or the slips that give another output."""
+    engine, given = Engine(), (args.key, args.block)
+    if args.find is not None and (args.html or len(args.find) != 8):
+        raise Problem("trace: --find takes an output of 8 bytes, and makes no page (no --html)")
+    try:
+        if args.find is not None:
+            found = search(engine, *given, args.find, args.decrypt)
+            text = json_text(trace.search_json(found)) if args.json else trace.search_text(found)
+        else:
+            made = traced(engine, *given, args.decrypt)
+            text = json_text(trace.trace_json(made)) if args.json else trace.trace_text(made)
+            text = as_page(trace.trace_document(made)) if args.html else text
+    except Refused as refused:
+        said = lengths(refused, CALLS["encrypt"], ("KEY", "BLOCK"), given)
+        raise RefusedFile("trace", refused, said) from None
+    emit_text(args, text)
+    return ACCEPTED
+
+
 def run_tables(args: argparse.Namespace) -> int:
     """The tables that program printtables prints."""
     program, root = PRINTTABLES, repository()
@@ -224,5 +247,6 @@ RUNS = {
     "cell": run_cell,
     "diffusion": run_diffusion,
     "schedule": run_schedule,
+    "trace": run_trace,
     "tables": run_tables,
 }

@@ -27,6 +27,7 @@ LECTURE: dict[str, str] = {
     "card": "taa1 card '010203?? 04050607 07??0906 0a0b0c0d'",
     "cell": "taa1 cell 0102030405060708090a 0036024d0554471c990f",
     "schedule": "taa1 schedule 00112233445566778899aabbccddeeff",
+    "trace": "taa1 trace 00112233445566778899aabbccddeeff 0123456789abcdef",
     "diffusion": "taa1 diffusion --draw 100",
     "tables": "taa1 tables",
     "call": "taa1 call tb7 --group-key 0102030405060708090a0b0c",

@@ -12,6 +12,7 @@ from ..engine import Engine
 from ..marking.model import model_answer
 from ..marking.opening_slips import OPENING_SLIPS
 from ..marking.slips import EXCHANGES, SLIPS
+from ..marking.trials import tried_names
 from ..problems import STANDARD, Problem, place, shown
 from ..reading import books, schemes, sittings
 from ..setting import draw
@@ -119,6 +120,7 @@ def run_scheme(args: argparse.Namespace) -> int:
 def run_slips(args: argparse.Namespace) -> int:
     """The names of the slips that marking looks for."""
     names = dict.fromkeys(slip.name for slip in (*SLIPS, *EXCHANGES, *OPENING_SLIPS))
+    names.update(dict.fromkeys(tried_names()))
     emit_text(args, "".join(f"{name}\n" for name in names))
     return ACCEPTED
 

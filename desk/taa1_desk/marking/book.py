@@ -10,14 +10,14 @@ from __future__ import annotations
 
 from collections import Counter, defaultdict
 from functools import partial
-from typing import NamedTuple, Optional
+from typing import Iterable, NamedTuple, Optional
 
 from taa1 import Refused
 
 from ..engine import Engine
 from ..problems import Problem
 from ..records import KINDS, PLAIN, SEALED, Entry, split
-from ..sheet import Explained, KeySheet, Marked, Opened, differences
+from ..sheet import Difference, Explained, KeySheet, Marked, Opened, differences
 from .explain import (
     IDENTITY,
     KEY,
@@ -30,14 +30,19 @@ from .explain import (
     explained,
     joined,
     named,
+    of_keys,
     under_own,
 )
 from .keys import NOT_AGREED, KeyMarker, own_keys
+from .miscopied import miscopied_said
 from .pairing import Pairs, out_of_order, pair
 from .slipped import work, work_under
+from .trials import Sealing
+from .tried import Tried, Versions
 from .unsealing import said_by
 from .working import Steps
 
+MOST_SOUGHT = 16  # texts of a hand-in that are tried with other entries' versions
 FIELDS = {"identity": slice(1, 4), "version": slice(4, 6), "text": slice(6, SEALED)}
 
 
@@ -87,6 +92,7 @@ class BookMarker:
             self.fields["key", entry.key].append(place)
             for field, at in FIELDS.items():
                 self.fields[field, record[at]].append(place)
+            self.fields["version in sealing", record[4:6]].append(place)
             for value in (record[1:4], record[6:], entry.key):
                 self.signs[value].add(place)
         self.table = Table()
@@ -96,6 +102,8 @@ class BookMarker:
             self.table.add(worked.slip, wrong, worked.keys)
             for (place, _), value in wrong.items():
                 self.signs[value].add(place)
+        self.tried = Tried(engine, keys.sitting, keys.model, Sealing(self.entries, self.parts))
+        self.versions = Versions(engine, ring, self.entries)
         self.known: dict[bytes, Opened] = {}
 
     def marked(self, book: bytes, keys: KeySheet) -> BookMarks:
@@ -131,6 +139,7 @@ class BookMarker:
                     differ,
                     names.get(index),
                     tuple(borrowed.get(index, {}).items()),
+                    note="" if index in names or model is None else self._miscopied(record, model, differ),
                     record=record,
                     follows=self._follows(record, keys) if index in pairs.following else "",
                     own_text=has_text,
@@ -212,8 +221,10 @@ class BookMarker:
                     wrong[place, part] = value
         entries = set(wrong)
         wrong.update({(KEY, name): value for name, value in keys.wrong.items()})
-        right += [(KEY, name) for name in keys.worked_rightly]
-        found = self.table.explain(wrong, right)
+        right += of_keys(keys.worked_rightly)
+        fixed = of_keys(keys.right)
+        found = self.table.explain(wrong, right, fixed=fixed)
+        found = self.tried.more(found, wrong, right, fixed=fixed)
         rest = set(wrong).difference(*(each.parts for each in found))
         under = self.keys.explain(keys, rest)
         own = self._explain_own(keys, {part: wrong[part] for part in rest})
@@ -224,6 +235,11 @@ class BookMarker:
             for field, value in self._wrong_alone(records[at[place]], place).items()
             if (place, IDENTITY if field == IDENTITY else TEXT) in rest
         }
+        for place in sorted({place for place, part in rest if part == TEXT})[:MOST_SOUGHT]:
+            record = records[at[place]]
+            version = self.versions.version(place, record[6:]) if self.alike(record, place) == 2 else None
+            if version is not None:
+                alone[place, "version in sealing"] = version
         others, borrowed = exchanges(alone, self.fields)
         said = partial(explained, wrong=entries, at=at, step=self._step)
         slips = [said(each)._replace(own=own_) for each, own_ in joined(found, own)]
@@ -252,6 +268,14 @@ class BookMarker:
             for slip, sealed in work_under(self.engine, keys.ring, mine)
         )
         return under_own(made, {part: value for part, value in wrong.items() if part[0] in mine})
+
+    def _miscopied(self, record: bytes, place: int, differ: Iterable[Difference]) -> str:
+        """Digits of a record that were miscopied, of what it says or of its bytes."""
+        model = self.model[place]
+        values = [(d.field, d.has, d.wants) for d in differ]
+        values.append(("encrypted identity", record[1:4].hex(), model[1:4].hex()))
+        values.append(("text", record[6:].hex(), model[6:].hex()))
+        return miscopied_said(values)
 
     def _wrong_alone(self, record: bytes, place: int) -> dict[str, bytes]:
         """The fields of a record that are wrong with nothing else wrong in their part."""

@@ -122,6 +122,9 @@ _BL1: dict[str, Mapping[str, Alteration]] = {
     "BL1 chained with the left input": {
         "chained": lambda steps, right, left_output, left_input: xor(right, left_input)
     },
+    "BL1's ⊕ after the encryption of the right block": {
+        "bl1": lambda steps, key, data: _joined_after(steps, key, data)
+    },
     "BL1 begun at the right block": {"bl1": lambda steps, key, data: _from_right(steps, key, data)},
     "BL1's output blocks exchanged": {
         "bl1": lambda steps, key, data: _halves(Steps.bl1(steps, key, data))
@@ -135,6 +138,11 @@ _BL1: dict[str, Mapping[str, Alteration]] = {
 def _halves(data: bytes) -> bytes:
     """The halves, exchanged."""
     return data[8:] + data[:8]
+
+
+def _joined_after(steps: Steps, key: bytes, data: bytes) -> bytes:
+    left = steps.encrypt(key, data[:8])
+    return left + xor(steps.encrypt(key, data[8:]), left)
 
 
 def _from_right(steps: Steps, key: bytes, data: bytes) -> bytes:

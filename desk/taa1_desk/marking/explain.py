@@ -28,6 +28,11 @@ class Found(NamedTuple):
     others: tuple[Slip, ...]
 
 
+def of_keys(names: Iterable[str]) -> list[Part]:
+    """The parts that keys of these names are."""
+    return [(KEY, name) for name in names]
+
+
 def altered(
     made: Mapping[int, Mapping[str, Any]], truth: Sequence[Mapping[str, Any]]
 ) -> dict[Part, Any]:
@@ -62,14 +67,19 @@ class Table:
         return (part, value) in self.given
 
     def explain(
-        self, wrong: Mapping[Part, Any], right: Iterable[Part], weak: Collection[Part] = ()
+        self,
+        wrong: Mapping[Part, Any],
+        right: Iterable[Part],
+        weak: Collection[Part] = (),
+        fixed: Collection[Part] = (),
     ) -> list[Found]:
         """The slips that give the wrong parts.
 
         The one that explains most comes first, then the one that explains most of the
         rest. Of slips that explain as many, the one is likelier that would have altered
         fewer of the parts that are right, or that only other slips explain. Parts that
-        very many slips give are weak: no slip is named for such parts alone.
+        very many slips give are weak: no slip is named for such parts alone. Nor is one that
+        would have altered a part that is fixed, as a key that stands on the sheet as right.
         """
         given: dict[int, set[Part]] = defaultdict(set)
         for part, value in wrong.items():
@@ -79,6 +89,7 @@ class Table:
             slip: parts
             for slip, parts in given.items()
             if not parts <= set(weak)
+            and (self.slips[slip].in_use or self.alters[slip].isdisjoint(fixed))
             and (not self.slips[slip].in_writing or parts == self.alters[slip])
         }
         left: set[Part] = set().union(*explains.values())
@@ -147,10 +158,7 @@ def exchanges(
     wrong: Mapping[tuple[int, str], Any], owners: Mapping[tuple[str, Any], list[int]]
 ) -> tuple[list[Found], dict[int, dict[str, int]]]:
     """Wrong fields, by their entries' places, that are another entry's of the model: what
-    they are called, and by place and field whose they are.
-
-    A version alone is too common to be anybody's unless two are exchanged.
-    """
+    they are called, and by place and field whose they are."""
     found = {at: owners.get((at[1], value), []) for at, value in wrong.items()}
     named: dict[str, set[Part]] = defaultdict(set)
     whose: dict[int, dict[str, int]] = defaultdict(dict)

@@ -2,11 +2,12 @@
 
 from __future__ import annotations
 
-from typing import Any, Callable, Mapping
+from typing import Any, Callable, Mapping, Optional
 
 from taa1 import Sitting
 
 from ..records import Ring
+from ..words import listed
 from .slip import EACH_SIDE, Alteration, Slip, added, exchanged, limited
 from .working import Keys, Steps
 
@@ -65,6 +66,60 @@ def _d_and_zeros(steps: Steps, sitting: Sitting, ring: Ring) -> bytes:
 def _ta41(steps: Steps, sitting: Sitting, derive: Callable[[bytes, bytes], bytes]) -> bytes:
     """O under a session key."""
     return steps.ta41(derive(sitting.root, sitting.rs), sitting.rso)
+
+
+def _sessions_exchanged(steps: Steps, sitting: Sitting, own: Optional[Mapping[str, bytes]] = None) -> Keys:
+    """TA12 under session key 2 and TA22 under session key 1, where both run."""
+    own = own or {}
+    if steps.inputs(sitting).sides != 3:
+        return Steps.keys(steps, sitting, own)
+    one, two = (run(sitting.root, sitting.rs) for run in (steps.ta11, steps.ta21))
+    other = {"session key 1": own.get("session key 2", two), "session key 2": own.get("session key 1", one)}
+    return Steps.keys(steps, sitting, {**own, **other})
+
+
+def _lines(*sides: str) -> Slip:
+    """A side's response and key in each other's lines."""
+
+    def alter(steps: Steps, keys: Keys) -> Keys:
+        made = dict(keys)
+        for side in sides:
+            if keys[f"session key {side}"]:
+                made[f"response {side}"], made[f"key {side}"] = keys[f"key {side}"], keys[f"response {side}"]
+        return made
+
+    names = listed([f"response {side} and key {side}" for side in sides])
+    return Slip(f"{names} in each other's lines", {"listed": alter})
+
+
+def _parts(name: str, make: Callable[[bytes, bytes], bytes]) -> Slip:
+    """D of parts of both keys."""
+    return Slip(f"TB4 as {name}", {"tb4": lambda steps, one, two: make(one, two)})
+
+
+# Parts of both keys joined, ten bytes together.
+_JOINED = {
+    "the first half of key 1 and the second of key 2": lambda one, two: one[:5] + two[5:],
+    "the first half of key 2 and the second of key 1": lambda one, two: two[:5] + one[5:],
+    "the first halves of key 1 and key 2": lambda one, two: one[:5] + two[:5],
+    "the first halves of key 2 and key 1": lambda one, two: two[:5] + one[:5],
+    "the second halves of key 1 and key 2": lambda one, two: one[5:] + two[5:],
+    "the second halves of key 2 and key 1": lambda one, two: two[5:] + one[5:],
+    "the second half of key 1 and the first of key 2": lambda one, two: one[5:] + two[:5],
+    "the second half of key 2 and the first of key 1": lambda one, two: two[5:] + one[:5],
+    "bytes of key 1 and key 2 in turn": lambda one, two: bytes(
+        (one, two)[at % 2][at] for at in range(10)
+    ),
+    "bytes of key 2 and key 1 in turn": lambda one, two: bytes(
+        (two, one)[at % 2][at] for at in range(10)
+    ),
+    "the first five bytes of key 1 and key 2, in turn": lambda one, two: bytes(
+        (one, two)[at % 2][at // 2] for at in range(10)
+    ),
+    "the first five bytes of key 2 and key 1, in turn": lambda one, two: bytes(
+        (two, one)[at % 2][at // 2] for at in range(10)
+    ),
+}
 
 
 def _listed(value: str) -> Slip:
@@ -154,6 +209,8 @@ RING_SLIPS: tuple[Slip, ...] = (
     Slip("key 1 for D, no TB4", {"tb4": lambda steps, one, two: one}),
     Slip("key 2 for D, no TB4", {"tb4": lambda steps, one, two: two}),
     Slip("TB4 as a sum", {"tb4": lambda steps, one, two: added(one, two)}),
+    *(_parts(name, make) for name, make in _JOINED.items()),
+    Slip("session keys 1 and 2 exchanged in use", {"keys": _sessions_exchanged}, at=("TA12 and TA22", "5.7")),
     _ring("C for D", d=lambda steps, s, r: r.c),
     _ring("D for C", c=lambda steps, s, r: r.d),
     _ring("C and D exchanged", c=lambda steps, s, r: r.d, d=lambda steps, s, r: r.c),
@@ -175,6 +232,9 @@ RING_SLIPS: tuple[Slip, ...] = (
     _listed("session key"),
     _listed("response"),
     _listed("key"),
+    _lines("1"),
+    _lines("2"),
+    _lines("1", "2"),
 )
 
 

@@ -17,7 +17,8 @@ from ..handed import KeyFile
 from ..problems import Problem
 from ..records import KINDS, Ring
 from ..sheet import KeyMark, KeySheet
-from .explain import KEY, Found, Part, Table
+from .explain import KEY, Found, Part, Table, of_keys
+from .miscopied import slip_of_pen
 from .model import sides_of
 from .slips import slips_of
 from .working import Keys, Steps, ring_of
@@ -91,7 +92,8 @@ class KeyMarker:
                     used = (next(filter(own.get, each), "") for each in PARENTS[name])
                     under = tuple(each for each in used if each and own[each] != self.model[each])
                 also = next((n for n, v in self.model.items() if v == has and state == "wrong"), "")
-                marks.append(KeyMark(name, state, has, wants, under, also))
+                pen = slip_of_pen(has.hex(), wants.hex()) if state == "wrong" and wants else None
+                marks.append(KeyMark(name, state, has, wants, under, also, pen or ""))
         ring = ring_of({name: own.get(name, value) for name, value in worked.items()})
         differs = ring != self.ring
         return KeySheet(tuple(marks), file.problems, own, ring if differs else None, file.unread)
@@ -111,4 +113,5 @@ class KeyMarker:
         for slip in slips_of(self.sitting):
             made = Steps(self.engine, slip.altered).keys(self.sitting, sheet.own)
             table.add(slip, {}, {n: v for n, v in made.items() if v != worked[n]})
-        return table.explain(wrong, [(KEY, m.name) for m in sheet.marks if m.state != "wrong"])
+        right = of_keys(mark.name for mark in sheet.marks if mark.state != "wrong")
+        return table.explain(wrong, right, fixed=of_keys(sheet.right))

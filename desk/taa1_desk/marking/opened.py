@@ -18,7 +18,7 @@ from ..engine import Engine, RefusedFile
 from ..handed import HandIn
 from ..problems import Problem, place
 from ..reading.answers import FLAG, Answer
-from ..records import KINDS, SEALED, Ring, split
+from ..records import KINDS, SEALED, Entry, Ring, split
 from ..sheet import Difference, Explained, Flags, KeySheet, Marked, Marks, Wanted, differences
 from ..words import failed_checks
 from .explain import (
@@ -33,13 +33,17 @@ from .explain import (
     explained,
     joined,
     named,
+    of_keys,
     under_own,
 )
 from .keys import NOT_AGREED, KeyMarker, own_keys
+from .miscopied import miscopied_said
 from .opened_reading import OpenedReader, Read, entry_of, state_of
 from .slipped import open_under, work_opened
 from .slipped import opened as worked_open
 from .slips import EXCHANGED
+from .trials import Opening
+from .tried import Tried
 from .unsealing import opened
 from .working import Opened, Steps
 
@@ -66,6 +70,7 @@ class OpenedMarker:
         for worked in work_opened(engine, sitting, records):
             made = {index: _parts(each) for index, each in worked.opened.items()}
             self.table.add(worked.slip, altered(made, truth), worked.keys)
+        self.tried = Tried(engine, sitting, self.keys.model, Opening(records, truth, _parts))
 
     def _check(self, records: list[bytes], where: str) -> None:
         bad = next((i for i, record in enumerate(records) if record[0] not in KINDS), 0)
@@ -151,9 +156,11 @@ class OpenedMarker:
                 wrong.update({(index, p): v for p, v in said.items() if v != truth[p]})
         entries = set(wrong)
         wrong.update({(KEY, name): value for name, value in keys.wrong.items()})
-        right += [(KEY, name) for name in keys.worked_rightly]
+        right += of_keys(keys.worked_rightly)
+        fixed = of_keys(keys.right)
         invented = {part for part, value in wrong.items() if part[1] == FLAG and value}
-        found = self.table.explain(wrong, right, invented)
+        found = self.table.explain(wrong, right, invented, fixed)
+        found = self.tried.more(found, wrong, right, invented, fixed)
         rest = set(wrong).difference(*(each.parts for each in found))
         own = self._explain_own(keys, {part: wrong[part] for part in rest}, invented)
         left = rest.difference(*(each.parts for each in own))
@@ -231,7 +238,7 @@ class OpenedMarker:
                 alone[index, wrong[0].field] = getattr(entry, wrong[0].field)
         owners: dict[tuple[str, Any], list[int]] = defaultdict(list)
         for index, truth in enumerate(self.truth):
-            for field in EXCHANGED.keys() - {TEXT}:
+            for field in EXCHANGED.keys() & set(Entry._fields):
                 owners[field, getattr(truth, field)].append(index)
         return exchanges(alone, owners)
 
@@ -261,6 +268,7 @@ class OpenedMarker:
             note = "flag invented"
         elif state == "wrong" and answer.entry:
             differ = differences(answer.entry, entry_of(truth))
+            note = miscopied_said((d.field, d.has, d.wants) for d in differ)
         record = answer.entry.data if answer.entry else b""
         return Marked(index, state, index, differences=differ, note=note, record=record)
 

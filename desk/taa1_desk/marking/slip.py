@@ -20,7 +20,7 @@ SEALING = ("TA31", "TA51", "TA81", "TA91")
 IDLE: dict[int, tuple[str, ...]] = {1: ("TA21", "TA22"), 2: ("TA11", "TA12"), 3: ()}
 # The steps that no seal and no identity has.
 KEY_STEPS = {"inputs", "reversed_seed", "split", "chosen", "tb4", "tb7", "ring", "exp2", "last_byte"}
-KEY_STEPS |= {"listed"}
+KEY_STEPS |= {"listed", "keys"}
 KEY_STEPS |= {name.lower() for name in DERIVING}
 
 
@@ -45,11 +45,14 @@ class Slip(NamedTuple):
     family: str = ""  # the name of the slip that it is in some algorithms alone
     algorithms: tuple[str, ...] = ()  # those
     inputs: tuple[str, ...] = ()  # of the sitting, that it alters
+    at: tuple[str, str] = ("", "")  # its step and clause, where it is none of STEPS
 
     def step_in(self, sides: int, algorithms: Collection[str] = ()) -> tuple[str, str]:
         """The step at which it happens in a sitting of so many sides, and the clause; of
         inputs, the steps that take them. A step that several algorithms have stands in the
         clauses of those in which the slip shows."""
+        if self.at[0]:
+            return self.at
         idle = {name.lower() for name in IDLE[sides]}
         taking = [
             method
@@ -73,6 +76,11 @@ class Slip(NamedTuple):
     def in_writing(self) -> bool:
         """Whether it exchanges what is written down of keys: then both must show it."""
         return "listed" in self.altered
+
+    @property
+    def in_use(self) -> bool:
+        """Whether it takes keys of the list in each other's place: the list may be right."""
+        return "ring" in self.altered
 
     @property
     def in_keys_alone(self) -> bool:

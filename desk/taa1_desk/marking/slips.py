@@ -15,11 +15,14 @@ SLIPS: tuple[Slip, ...] = (*RING_SLIPS, *CORE_SLIPS, *ENTRY_SLIPS, *RECORD_SLIPS
 EXCHANGED: dict[str, Slip] = {
     "identity": Slip("two entries' identities exchanged", {}),
     "version": Slip("two entries' versions exchanged", {}),
+    "version in sealing": Slip("two entries' versions exchanged in sealing", {}, at=("version repeated", "5.8.2")),
     "key": Slip("two entries' keys exchanged", {}),
     "text": Slip("two entries' texts exchanged", {}),
 }
 ANOTHERS: dict[str, Slip] = {
     "identity": Slip("another entry's identity", {}),
+    "version": Slip("another entry's version", {}),
+    "version in sealing": Slip("another entry's version in sealing", {}, at=("version repeated", "5.8.2")),
     "key": Slip("another entry's key", {}),
     "text": Slip("another entry's text", {}),
 }

@@ -22,6 +22,7 @@ from ..records import KINDS, PLAIN, Entry, split
 from .document import Block, Boxes, Document, Fields, Head, Lines, Pairs, Table, Together, Words
 from .html import Code, Row
 from .model import sitting_values
+from .trace import solution_blocks
 
 ARGUMENT_LINES = 24
 QUESTION = (
@@ -41,6 +42,7 @@ class Examination(NamedTuple):
     keys: list[Step]  # the working of the first two generations
     strings: list[Step]  # that of TA61's strings
     records: list[list[Step]]  # and that of each entry
+    cipher: list[Block]  # the trace of one block
 
 
 def examination(
@@ -63,7 +65,9 @@ def examination(
     answered = {key["name"]: key["value"] for key in model["keys"]}
     if made != answered or sealed != model["sealed"]:
         raise Problem("the working, step by step, is not what the engine answers: no page is made")
-    return Examination(heading, sitting, entries, model, keys, of_strings, records)
+    bc = next(step.inputs for step in of_strings if step.method == "bc")
+    cipher = solution_blocks(engine, bc["key"], bc["block"])
+    return Examination(heading, sitting, entries, model, keys, of_strings, records, cipher)
 
 
 def chosen(mask: int) -> str:
@@ -310,6 +314,7 @@ def solution(of: Examination) -> Document:
         }
         blocks.append(_steps(title, steps, results, taken))
     blocks.append(Words(f"Sealing the book takes {of.model['runs']} cipher runs."))
+    blocks += [Head("The cipher, round by round"), *of.cipher]
     return Document("Worked solution", of.heading.line, blocks)
 
 

@@ -281,7 +281,8 @@ def keys_said(keys: KeySheet) -> list[str]:
         if mark.state == "wrong" and mark.wants is not None:
             also = f", which is {mark.also}" if mark.also else ""
             if len(mark.has) == len(mark.wants):
-                said.append(f"{mark.name}: {mark.has.hex()}{also}, not {mark.wants.hex()}")
+                note = f" ({mark.note})" if mark.note else ""
+                said.append(f"{mark.name}: {mark.has.hex()}{also}, not {mark.wants.hex()}{note}")
             elif mark.has:  # else a line is said that can't be read
                 length = plural(len(mark.has), "byte")
                 said.append(f"{mark.name}: {length}{also}, not {len(mark.wants)}")

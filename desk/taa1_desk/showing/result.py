@@ -53,7 +53,8 @@ def key_result(mark: KeyMark) -> str:
     if not mark.has:
         return "wrong: not to be read"
     length = f": {len(mark.has)} bytes, not {len(mark.wants)}" * (len(mark.has) != len(mark.wants))
-    return f"wrong{length}{f': it is {both(mark.also)}' * bool(mark.also)}"
+    also = f"it is {both(mark.also)}" if mark.also else ""
+    return f"wrong{length}" + "".join(f": {said}" for said in (also, mark.note) if said)
 
 
 def _explained(sheet: Sheet, wrong: int) -> str:
