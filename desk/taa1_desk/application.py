@@ -1,3 +1,4 @@
+# SPDX-License-Identifier: MIT
 """The application: a class's hand-ins, marked.
 
 It touches no file, stream or argument. A front hands it what was handed in, and shows the

@@ -1,3 +1,4 @@
+# SPDX-License-Identifier: MIT
 """What an examination asks for: the values of the first two generations, and the book.
 
 The question paper, the answer form and what reads a form that is filled in go by it.

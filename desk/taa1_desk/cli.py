@@ -1,3 +1,4 @@
+# SPDX-License-Identifier: MIT
 """The desk: one command for setters and tutors over the engine's calls.
 
 The exit status is 0 for success, 1 for a refusal, and 2 for a wrong use, an

@@ -1,3 +1,4 @@
+# SPDX-License-Identifier: MIT
 """The engine's calls by name, over the one table."""
 
 from __future__ import annotations

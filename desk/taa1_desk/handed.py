@@ -1,3 +1,4 @@
+# SPDX-License-Identifier: MIT
 """What is handed in, before it is marked: a file's bytes, or why there are none, and keys."""
 
 from __future__ import annotations

@@ -1,3 +1,4 @@
+# SPDX-License-Identifier: MIT
 """What marks hand-ins: the one protocol of both markers, of sealed and of opened books."""
 
 from __future__ import annotations

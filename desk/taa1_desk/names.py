@@ -1,3 +1,4 @@
+# SPDX-License-Identifier: MIT
 """The field's names beside the desk's: one table of keys, one of kinds.
 
 The desk's names are those of document 01: root, D, kind 2. A custodian says K, DCK, an

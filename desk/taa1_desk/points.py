@@ -1,3 +1,4 @@
+# SPDX-License-Identifier: MIT
 """Points, in exact fractions, and how they are said."""
 
 from __future__ import annotations

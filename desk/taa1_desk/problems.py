@@ -1,3 +1,4 @@
+# SPDX-License-Identifier: MIT
 """What is wrong with a use, a file or a stream, and how messages name things."""
 
 from __future__ import annotations

@@ -1,3 +1,4 @@
+# SPDX-License-Identifier: MIT
 """Plain and sealed records in names: kinds, fields, and where they stand."""
 
 from __future__ import annotations

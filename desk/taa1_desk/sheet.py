@@ -1,3 +1,4 @@
+# SPDX-License-Identifier: MIT
 """Mark sheets: what was found of what each candidate handed in; and the class."""
 
 from __future__ import annotations

@@ -1,3 +1,4 @@
+# SPDX-License-Identifier: MIT
 """The one rule for numbers and byte strings, in files and in options.
 
 Identities, the network identity, masks and byte strings are hexadecimal; an identity has

@@ -1,3 +1,4 @@
+# SPDX-License-Identifier: MIT
 """Numbers, lists and entries in words."""
 
 from __future__ import annotations

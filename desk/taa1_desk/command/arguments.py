@@ -1,3 +1,4 @@
+# SPDX-License-Identifier: MIT
 """The commands' arguments."""
 
 from __future__ import annotations

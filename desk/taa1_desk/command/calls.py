@@ -1,3 +1,4 @@
+# SPDX-License-Identifier: MIT
 """The commands that are calls of the engine, or files turned by one."""
 
 from __future__ import annotations

@@ -1,3 +1,4 @@
+# SPDX-License-Identifier: MIT
 """Files and streams: read within limits, written whole or not at all."""
 
 from __future__ import annotations

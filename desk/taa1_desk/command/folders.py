@@ -1,3 +1,4 @@
+# SPDX-License-Identifier: MIT
 """Which files of folders are hand-ins, and what their pages are called."""
 
 from __future__ import annotations

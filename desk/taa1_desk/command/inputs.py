@@ -1,3 +1,4 @@
+# SPDX-License-Identifier: MIT
 """Sittings, rings, books, schemes and lists of candidates in files."""
 
 from __future__ import annotations

@@ -1,3 +1,4 @@
+# SPDX-License-Identifier: MIT
 """Signals that end the work: where they raise, and where they wait."""
 
 from __future__ import annotations

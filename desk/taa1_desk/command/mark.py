@@ -1,3 +1,4 @@
+# SPDX-License-Identifier: MIT
 """The command that marks: it walks folders, has the class marked, writes and says."""
 
 from __future__ import annotations

@@ -1,3 +1,4 @@
+# SPDX-License-Identifier: MIT
 """Values on the command line."""
 
 from __future__ import annotations

@@ -1,3 +1,4 @@
+# SPDX-License-Identifier: MIT
 """What a command writes: bytes, text and JSON, over no file that is read."""
 
 from __future__ import annotations

@@ -1,3 +1,4 @@
+# SPDX-License-Identifier: MIT
 """What `taa1 --help` prints: the commands of the day, then those of the lecture, an example each."""
 
 from __future__ import annotations

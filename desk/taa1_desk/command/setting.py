@@ -1,3 +1,4 @@
+# SPDX-License-Identifier: MIT
 """The commands that set an examination: draw, model, paper, argue."""
 
 from __future__ import annotations

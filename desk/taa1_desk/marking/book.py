@@ -1,3 +1,4 @@
+# SPDX-License-Identifier: MIT
 """Marks a candidate's sealed book beside the model, entry by entry.
 
 A sealed book is right exactly if its records are the model's, in any order: the

@@ -1,3 +1,4 @@
+# SPDX-License-Identifier: MIT
 """The slips inside the cipher: one table, each a name and the steps of `hurdle` that it alters.
 
 They are what a program does whose writer has misread one line of 01 or of clause 6. Digits

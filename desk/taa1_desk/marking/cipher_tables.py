@@ -1,3 +1,4 @@
+# SPDX-License-Identifier: MIT
 """Slips of the cipher that are digits miscopied from the tables of clause 6: D, a, E and S.
 
 They are very many, so they are made only where they are searched.

@@ -1,3 +1,4 @@
+# SPDX-License-Identifier: MIT
 """The steps of the working by name, and the clauses of 000 in which they stand."""
 
 from __future__ import annotations

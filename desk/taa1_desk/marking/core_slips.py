@@ -1,3 +1,4 @@
+# SPDX-License-Identifier: MIT
 """The slips in the expansions and in the core."""
 
 from __future__ import annotations

@@ -1,3 +1,4 @@
+# SPDX-License-Identifier: MIT
 """A hand-in's entries counted, and a class in numbers."""
 
 from __future__ import annotations

@@ -1,3 +1,4 @@
+# SPDX-License-Identifier: MIT
 """The slips in the entries, in the sealed text and in the identity."""
 
 from __future__ import annotations

@@ -1,3 +1,4 @@
+# SPDX-License-Identifier: MIT
 """Which slips explain what is wrong: those that give it, byte for byte.
 
 What a slip can give is cut into parts, which are explained apart: an entry's identity,

@@ -1,3 +1,4 @@
+# SPDX-License-Identifier: MIT
 """HURDLE-II step by step, in the words of 01: halves, E, the chain T0 to T11, bits to
 bytes, and the registers Q1 to Q17.
 

@@ -1,3 +1,4 @@
+# SPDX-License-Identifier: MIT
 """The slips in the keys of the first two generations, and in the ring."""
 
 from __future__ import annotations

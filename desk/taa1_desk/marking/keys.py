@@ -1,3 +1,4 @@
+# SPDX-License-Identifier: MIT
 """Marks the keys that a candidate hands in.
 
 Each value is marked beside the model's, and worked again from the candidate's own

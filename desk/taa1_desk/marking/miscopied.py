@@ -1,3 +1,4 @@
+# SPDX-License-Identifier: MIT
 """Digits that are copied wrongly: one of them another, or two neighbours exchanged."""
 
 from __future__ import annotations

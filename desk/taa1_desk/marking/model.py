@@ -1,3 +1,4 @@
+# SPDX-License-Identifier: MIT
 """The model answer of a sitting: every key on the way, and each entry sealed."""
 
 from __future__ import annotations

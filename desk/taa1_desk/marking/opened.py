@@ -1,3 +1,4 @@
+# SPDX-License-Identifier: MIT
 """Marks what candidates opened from a sealed book that was handed out.
 
 A hand-in is lines, where `entry I flag` says that the flag of entry I is set, or a

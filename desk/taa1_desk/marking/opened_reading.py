@@ -1,3 +1,4 @@
+# SPDX-License-Identifier: MIT
 """What a hand-in says of entries that were opened: lines, or a plain book's bytes.
 
 Lines are about the entries that they name. Bytes name none, so their records are paired

@@ -1,3 +1,4 @@
+# SPDX-License-Identifier: MIT
 """The slips in unsealing."""
 
 from __future__ import annotations

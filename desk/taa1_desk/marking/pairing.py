@@ -1,3 +1,4 @@
+# SPDX-License-Identifier: MIT
 """Which entry of the model each record of a book is, or is meant to be."""
 
 from __future__ import annotations

@@ -1,3 +1,4 @@
+# SPDX-License-Identifier: MIT
 """What a mark sheet comes to by a scheme, in exact fractions."""
 
 from __future__ import annotations

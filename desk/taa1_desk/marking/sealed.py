@@ -1,3 +1,4 @@
+# SPDX-License-Identifier: MIT
 """Marks sealed books: how a hand-in is read, what its records are, and whether it is this sitting's."""
 
 from __future__ import annotations

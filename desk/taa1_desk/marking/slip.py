@@ -1,3 +1,4 @@
+# SPDX-License-Identifier: MIT
 """What a slip is: a name, and the steps of the working that it alters.
 
 The blocks come from the engine all the same, so a slip holds no cipher: it exchanges,

@@ -1,3 +1,4 @@
+# SPDX-License-Identifier: MIT
 """What each slip makes of a model: keys, sealed records, and what these open to."""
 
 from __future__ import annotations

@@ -1,3 +1,4 @@
+# SPDX-License-Identifier: MIT
 """The table of the slips that candidates make."""
 
 from __future__ import annotations

@@ -1,3 +1,4 @@
+# SPDX-License-Identifier: MIT
 """The trace of a block through HURDLE-II, and the slips that give another output for it.
 
 The rounds are `hurdle`'s; the engine's `encrypt` or `decrypt` confirms what comes out.

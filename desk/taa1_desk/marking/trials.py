@@ -1,3 +1,4 @@
+# SPDX-License-Identifier: MIT
 """The slips that are tried where the table of slips has no name, and what each makes of a model.
 
 Each takes a cipher of its own or a sitting of its own: the slips inside the cipher, TA61's

@@ -1,3 +1,4 @@
+# SPDX-License-Identifier: MIT
 """Looks slips up that are tried only where the table of slips leaves something without a name.
 
 They are many (`trials`), so one part of a hand-in that nothing explains is looked up first, a

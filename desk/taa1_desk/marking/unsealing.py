@@ -1,3 +1,4 @@
+# SPDX-License-Identifier: MIT
 """What sealed records unseal to, by the engine's own calls: the one unsealing."""
 
 from __future__ import annotations

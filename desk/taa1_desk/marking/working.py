@@ -1,3 +1,4 @@
+# SPDX-License-Identifier: MIT
 """TAA1 worked step by step, from the engine's `encrypt` and `decrypt`, ⊕ and sums.
 
 Each step is a method of `Steps` with a name and the clause of 000 that it stands in.

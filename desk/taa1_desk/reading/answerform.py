@@ -1,3 +1,4 @@
+# SPDX-License-Identifier: MIT
 """The answer form that `paper` prints, filled in and handed in as text."""
 
 from __future__ import annotations

@@ -1,3 +1,4 @@
+# SPDX-License-Identifier: MIT
 """What was opened from a sealed book, in lines: an entry's fields, or that its flag is set."""
 
 from __future__ import annotations

@@ -1,3 +1,4 @@
+# SPDX-License-Identifier: MIT
 """Candidates' names: from a list, or from the names of their files.
 
 A list has a line `FILE = Name` for each candidate. FILE is the name of the hand-in's

@@ -1,3 +1,4 @@
+# SPDX-License-Identifier: MIT
 """Bytes as text: the one decoder, and hexadecimal digits."""
 
 from __future__ import annotations

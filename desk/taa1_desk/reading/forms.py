@@ -1,3 +1,4 @@
+# SPDX-License-Identifier: MIT
 """The forms that a hand-in's bytes may have as text: hexadecimal, dumps, and others."""
 
 from __future__ import annotations

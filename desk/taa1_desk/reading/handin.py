@@ -1,3 +1,4 @@
+# SPDX-License-Identifier: MIT
 """How a hand-in is recognised and read.
 
 A hand-in should be a sealed book in bytes. Files come in other forms, too (`forms`), and

@@ -1,3 +1,4 @@
+# SPDX-License-Identifier: MIT
 """The file of keys that a candidate hands in beside a book: NAME.keys, names and values."""
 
 from __future__ import annotations

@@ -1,3 +1,4 @@
+# SPDX-License-Identifier: MIT
 """How many records of a hand-in are compared with a model."""
 
 from __future__ import annotations

@@ -1,3 +1,4 @@
+# SPDX-License-Identifier: MIT
 """Lineage sheets as lines: how each key is made from others."""
 
 from __future__ import annotations

@@ -1,3 +1,4 @@
+# SPDX-License-Identifier: MIT
 """What copying a book as if it were text does to its bytes: line ends, 0a and 0d, are changed
 or lost, and zero bytes are lost. It is named, and not undone."""
 

@@ -1,3 +1,4 @@
+# SPDX-License-Identifier: MIT
 """Lines of text: which say something, those of the form NAME = VALUE, and books in lines.
 
 Blank lines count for nothing, nor does what stands after a #.

@@ -1,3 +1,4 @@
+# SPDX-License-Identifier: MIT
 """A scheme of points in a text."""
 
 from __future__ import annotations

@@ -1,3 +1,4 @@
+# SPDX-License-Identifier: MIT
 """Sealed books with entries whose flag is set, for candidates to open."""
 
 from __future__ import annotations

@@ -1,3 +1,4 @@
+# SPDX-License-Identifier: MIT
 """Sittings and model books from the system's randomness."""
 
 from __future__ import annotations

@@ -1,3 +1,4 @@
+# SPDX-License-Identifier: MIT
 """The marking aid for the argument: for a marker who has nothing else beside the script."""
 
 from __future__ import annotations

@@ -1,3 +1,4 @@
+# SPDX-License-Identifier: MIT
 """A candidate's page: what was handed in beside what was wanted."""
 
 from __future__ import annotations

@@ -1,3 +1,4 @@
+# SPDX-License-Identifier: MIT
 """The argument for markers as data, since an installed desk has no docs: the steps of the
 model argument, the parts of the rubric and the rows of the table. `contracts write` makes
 them from crates/claims/argument.toml, as it does docs/ARGUMENT.md's."""

@@ -1,3 +1,4 @@
+# SPDX-License-Identifier: MIT
 """The class as a page: its numbers, pictures, and a row for each candidate."""
 
 from __future__ import annotations

@@ -1,3 +1,4 @@
+# SPDX-License-Identifier: MIT
 """What was handed in over what was wanted, byte by byte."""
 
 from __future__ import annotations

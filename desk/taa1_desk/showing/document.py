@@ -1,3 +1,4 @@
+# SPDX-License-Identifier: MIT
 """A document of headings, words and tables: written once, shown as text and as a page."""
 
 from __future__ import annotations

@@ -1,3 +1,4 @@
+# SPDX-License-Identifier: MIT
 """A class for other programs: JSON, and comma-separated values for a spreadsheet.
 
 docs/desk.md describes both forms. A change that a reader of the JSON would notice gives

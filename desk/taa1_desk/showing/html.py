@@ -1,3 +1,4 @@
+# SPDX-License-Identifier: MIT
 """What every page of HTML shares: the style, the frame, tables, and bytes in groups.
 
 A page is whole in itself, without script, font or picture from elsewhere. It is black

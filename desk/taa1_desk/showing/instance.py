@@ -1,3 +1,4 @@
+# SPDX-License-Identifier: MIT
 """What the instances of claims share: the calls that make and try them, the working, and
 the marks that say of each value whose it is."""
 

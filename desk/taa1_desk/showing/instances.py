@@ -1,3 +1,4 @@
+# SPDX-License-Identifier: MIT
 """An instance of each claim, by the claim's name, of a sitting's own bytes or the example of
 the proof; and why a claim has none.
 

@@ -1,3 +1,4 @@
+# SPDX-License-Identifier: MIT
 """Instances about records and books, and about marking by equal records."""
 
 from __future__ import annotations

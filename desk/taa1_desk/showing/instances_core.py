@@ -1,3 +1,4 @@
+# SPDX-License-Identifier: MIT
 """Instances about the cipher, BL1 and BL2, and the dropped byte."""
 
 from __future__ import annotations

@@ -1,3 +1,4 @@
+# SPDX-License-Identifier: MIT
 """Instances about what the flag notices."""
 
 from __future__ import annotations

@@ -1,3 +1,4 @@
+# SPDX-License-Identifier: MIT
 """Instances about what is given: kind, ring and version, and how the ring is made."""
 
 from __future__ import annotations

@@ -1,3 +1,4 @@
+# SPDX-License-Identifier: MIT
 """Instances about single texts: one entry for each, and the checks."""
 
 from __future__ import annotations

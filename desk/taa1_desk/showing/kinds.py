@@ -1,3 +1,4 @@
+# SPDX-License-Identifier: MIT
 """The kinds and the keys with both names, as text."""
 
 from __future__ import annotations

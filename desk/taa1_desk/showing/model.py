@@ -1,3 +1,4 @@
+# SPDX-License-Identifier: MIT
 """The model answer as text, JSON and a page."""
 
 from __future__ import annotations

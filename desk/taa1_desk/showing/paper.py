@@ -1,3 +1,4 @@
+# SPDX-License-Identifier: MIT
 """The question paper, the blank answer form and the worked solution of a sitting.
 
 The paper and the form are the candidate's: they are made of what is given and of what

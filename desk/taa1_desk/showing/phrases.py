@@ -1,3 +1,4 @@
+# SPDX-License-Identifier: MIT
 """What is said of a mark sheet, in a few words each."""
 
 from __future__ import annotations

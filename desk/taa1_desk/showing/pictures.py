@@ -1,3 +1,4 @@
+# SPDX-License-Identifier: MIT
 """Pictures of numbers, as SVG within a page.
 
 Widths are in percent of the place that a picture has, and heights in pixels, so that a

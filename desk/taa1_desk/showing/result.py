@@ -1,3 +1,4 @@
+# SPDX-License-Identifier: MIT
 """A candidate's result in a sentence."""
 
 from __future__ import annotations

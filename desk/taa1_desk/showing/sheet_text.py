@@ -1,3 +1,4 @@
+# SPDX-License-Identifier: MIT
 """Mark sheets and a class's summary as lines of text."""
 
 from __future__ import annotations

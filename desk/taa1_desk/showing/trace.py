@@ -1,3 +1,4 @@
+# SPDX-License-Identifier: MIT
 """The trace of a block through HURDLE-II, round by round, to lay beside a program's own print."""
 
 from __future__ import annotations
