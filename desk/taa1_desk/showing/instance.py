@@ -14,6 +14,7 @@ from ..names import KIND_NAMES, both, field, sealing
 from .html import Code, grouped
 from ..records import KINDS, PLAIN, SEALED, Entry, Ring, split, whole
 from ..words import failed_checks
+from ..marking.unsealing import unsealed
 from ..marking.working import EXP3_GROUPS, FOURS, PAIRS, Steps, ring_of, xor, xored
 
 __all__ = [
@@ -162,9 +163,9 @@ class Maker:
 
     def unseal(self, kind: int, text: bytes, key: bytes, version: int) -> Unsealed:
         """What a text unseals to as a kind."""
-        fields = self.desk.call(KINDS[kind].unseal, text, key, version)
-        number = fields["number"].to_bytes(2, "big") if KINDS[kind].number else b""
-        return Unsealed(fields["key"] + number, fields["failed_checks"])
+        found = unsealed(self.desk, kind, text, key, version)
+        number = b"" if found.number is None else found.number.to_bytes(2, "big")
+        return Unsealed(found.key + number, found.failed)
 
     def unsealed(self, entry: Entry, text: bytes) -> Unsealed:
         """What a text unseals to as an entry's kind, with its version."""
