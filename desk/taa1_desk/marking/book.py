@@ -103,7 +103,7 @@ class BookMarker:
             self.table.add(worked.slip, wrong, worked.keys)
             for (place, _), value in wrong.items():
                 self.signs[value].add(place)
-        self.tried = Tried(engine, keys.sitting, keys.model, Sealing(self.entries, self.parts))
+        self.tried = Tried(engine, keys.sitting, keys.model, Sealing(self.entries, self.parts, parts_of))
         self.versions = Versions(engine, ring, self.entries)
         self.known: dict[bytes, Opened] = {}
 

@@ -20,7 +20,7 @@ from ..records import KINDS, Ring
 from ..sheet import KeyMark, KeySheet
 from .explain import KEY, Found, Part, Table, of_keys
 from .miscopied import slip_of_pen
-from .model import sides_of
+from .model import keys_of
 from .slips import slips_of
 from .working import Keys, Steps, ring_of
 
@@ -48,10 +48,7 @@ class KeyMarker:
         """Takes the sitting's ring, and has the engine's calls make the model's other keys."""
         self.engine, self.sitting, self.ring = engine, sitting, ring
         self.steps = Steps(engine)
-        one, two = sides_of(engine, sitting)
-        halves = [side[name] for side in (one, two) for name in ("response", "key")]
-        values = (one["session_key"], two["session_key"], *halves, *ring)
-        self.model: Keys = dict(zip(KEYS, values))
+        self.model: Keys = keys_of(engine, sitting, ring)
         if self.steps.keys(sitting) != self.model:
             raise Problem(NOT_AGREED)
         idle = {1: "2", 2: "1"}.get(sitting.sides, "-")

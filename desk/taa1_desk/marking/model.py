@@ -7,7 +7,7 @@ from typing import Any, Optional
 
 from taa1 import Sitting
 
-from ..asked import IDLE, MADE
+from ..asked import IDLE, KEYS, MADE
 from ..engine import Engine, refusals
 from ..names import KIND_NAMES, field
 from ..reading.sittings import make_ring
@@ -31,6 +31,13 @@ def sides_of(engine: Engine, sitting: Sitting) -> list[dict[str, Optional[bytes]
         else:
             halves.append(idle)
     return halves
+
+
+def keys_of(engine: Engine, sitting: Sitting, ring: Ring) -> dict[str, Optional[bytes]]:
+    """Every key of the first two generations, and the ring's, by their names."""
+    one, two = sides_of(engine, sitting)
+    halves = [side[name] for side in (one, two) for name in ("response", "key")]
+    return dict(zip(KEYS, (one["session_key"], two["session_key"], *halves, *ring)))
 
 
 def core_input(engine: Engine, entry: Entry, ring: Ring) -> bytes:

@@ -100,7 +100,7 @@ def clauses_of(words: str) -> list[str]:
     return words.replace(" and ", ", ").split(", ")
 
 
-def _within(step: str, alteration: Alteration, algorithms: tuple[str, ...]) -> Alteration:
+def within(step: str, alteration: Alteration, algorithms: tuple[str, ...]) -> Alteration:
     """An alteration in some algorithms alone."""
     right = getattr(Steps, step)
 
@@ -116,7 +116,7 @@ def limited(
     """A slip wherever its step occurs, then in each of these places alone."""
     made = [Slip(name, altered)]
     for words, algorithms in ((key, value) for place in places for key, value in place.items()):
-        limited = {step: _within(step, alter, algorithms) for step, alter in altered.items()}
+        limited = {step: within(step, alter, algorithms) for step, alter in altered.items()}
         made.append(Slip(alone(name, words), limited, name, algorithms))
     return made
 

@@ -13,7 +13,6 @@ from typing import Any, Callable, Iterable, Iterator, Mapping, Optional, Protoco
 
 from taa1 import Sitting
 
-from ..asked import KEYS
 from ..engine import Engine
 from ..names import IN_SITTING, both
 from ..records import KINDS, Entry, Ring, whole
@@ -21,8 +20,8 @@ from .cipher_slips import CIPHER_SLIPS, CipherSlip
 from .explain import IDENTITY, TEXT
 from .hurdle import Hurdle
 from .miscopied import miscopied
-from .model import sides_of
-from .slip import DERIVING, SEALING, Alteration, Slip, alone
+from .model import keys_of
+from .slip import DERIVING, SEALING, Alteration, Slip, alone, within
 from .unsealing import opened
 from .working import Blocks, Keys, Opened, Steps, ring_of
 
@@ -55,9 +54,14 @@ class Work(Protocol):
 class Sealing:
     """Sealed records."""
 
-    def __init__(self, entries: Sequence[Entry], truth: Sequence[Mapping[str, Any]]) -> None:
-        """Takes the model's entries, and the parts of their records."""
-        self.entries, self.truth = entries, truth
+    def __init__(
+        self,
+        entries: Sequence[Entry],
+        truth: Sequence[Mapping[str, Any]],
+        parts: Callable[[bytes], dict[str, bytes]],
+    ) -> None:
+        """Takes the model's entries, the parts of their records, and what cuts such into parts."""
+        self.entries, self.truth, self.parts = entries, truth, parts
         self.kinds: Sequence[int] = [entry.kind for entry in entries]
 
     def head(self, text: bytes) -> bytes:
@@ -71,13 +75,11 @@ class Sealing:
     def text(self, steps: Steps, ring: Ring, place: int) -> dict[str, Any]:
         """Kind, version and sealed text."""
         entry = self.entries[place]
-        record = steps.record(entry, bytes(3), steps.text(entry, ring))
-        return {TEXT: record[:1] + record[4:]}
+        return {TEXT: self.parts(steps.record(entry, bytes(3), steps.text(entry, ring)))[TEXT]}
 
     def called(self, engine: Engine, ring: Ring, place: int) -> dict[str, Any]:
         """The entry sealed as a book of its own."""
-        record = engine.call("seal_book", ring.data, self.entries[place].data)["out"]
-        return {IDENTITY: record[1:4], TEXT: record[:1] + record[4:]}
+        return self.parts(engine.call("seal_book", ring.data, self.entries[place].data)["out"])
 
 
 class Opening:
@@ -163,10 +165,7 @@ class GivenTrial(Trial):
         """The keys of that sitting."""
         if self._keys is None:
             taken = self.slip.altered["inputs"](None, sitting)
-            one, two = sides_of(engine, taken)
-            halves = [side[name] for side in (one, two) for name in ("response", "key")]
-            ring = Ring.of(engine.call("ring", *taken)["ring"])
-            self._keys = dict(zip(KEYS, (one["session_key"], two["session_key"], *halves, *ring)))
+            self._keys = keys_of(engine, taken, Ring.of(engine.call("ring", *taken)["ring"]))
         return self._keys
 
     def parts(
@@ -183,12 +182,9 @@ def _alone(slip: CipherSlip, where: str, altered: Mapping[str, Alteration], algo
     return Slip(alone(slip.name, where), altered, slip.name, algorithms, at=slip.step)
 
 
-def _within(step: str, run: Alteration, algorithms: tuple[str, ...]) -> Alteration:
-    """A step's block by another cipher, in some algorithms alone."""
-    right = getattr(Steps, step)
-    return lambda steps, key, block: (
-        run(key, block) if steps.algorithm in algorithms else right(steps, key, block)
-    )
+def _by(run: Callable[[bytes, bytes], bytes]) -> Alteration:
+    """A block by another cipher."""
+    return lambda steps, key, block: run(key, block)
 
 
 def _p(table: Sequence[int]) -> Alteration:
@@ -199,18 +195,18 @@ def cipher_trials(slip: CipherSlip) -> Iterator[Trial]:
     """A slip of the cipher everywhere, and in some algorithms alone."""
     cipher: Hurdle = slip.cipher()
     everywhere: dict[str, Alteration] = {
-        "encrypt": lambda steps, key, block: cipher.encrypt(key, block),
-        "decrypt": lambda steps, key, block: cipher.decrypt(key, block),
+        "encrypt": _by(cipher.encrypt),
+        "decrypt": _by(cipher.decrypt),
     }
     if slip.table:
         everywhere["p"] = _p(slip.table)
     yield Trial(Slip(slip.name, everywhere, at=slip.step), True, "dog", True)
-    bc = {"bc": lambda steps, key, block: cipher.encrypt(key, block)}
+    bc = {"bc": _by(cipher.encrypt)}
     yield Trial(_alone(slip, "TA61", bc, ("TA61",)), False, "", True)
-    blocks = {each: _within(each, cipher.encrypt, SEALING) for each in ("left_block", "right_block")}
-    back = {each: _within(each, cipher.decrypt, OPENING) for each in ("left_back", "right_back")}
+    blocks = {each: within(each, _by(cipher.encrypt), SEALING) for each in ("left_block", "right_block")}
+    back = {each: within(each, _by(cipher.decrypt), OPENING) for each in ("left_back", "right_back")}
     yield Trial(_alone(slip, "sealing", {**blocks, **back}, SEALING), False, "dog")
-    derived = {each: _within(each, cipher.encrypt, DERIVING) for each in ("left_block", "right_block")}
+    derived = {each: within(each, _by(cipher.encrypt), DERIVING) for each in ("left_block", "right_block")}
     yield Trial(_alone(slip, "deriving keys", derived, DERIVING), True, "do")
 
 
