@@ -466,11 +466,13 @@ class Command(Case):
         self.assertIn(b"12 of 12 entries right; opens", said)
 
     def test_ring(self) -> None:
-        """The ring is made once, by one call, for whatever is marked with it."""
+        """A ring is made once, by one call, for whatever is marked with it; argue makes another,
+        of an altered sitting."""
         answer, made = Binding.answer, []
 
         def counted(binding: Binding, name: str, *values: Any, **options: Any) -> dict[str, Any]:
-            made.append(name)
+            if name == "ring":
+                made.append(values)
             return answer(binding, name, *values, **options)
 
         inputs, ann = (CLASS / "sitting.txt", CLASS / "model.txt"), CLASS / "ann.book"
@@ -479,4 +481,4 @@ class Command(Case):
             with self.subTest(command), mock.patch.object(Binding, "answer", counted):
                 made.clear()
                 self.assertLess(here(*command, cwd=self.folder).status, 2)
-                self.assertEqual(made.count("ring"), 1)
+                self.assertEqual([made.count(values) for values in made], [1] * (2 if command[0] == "argue" else 1))
