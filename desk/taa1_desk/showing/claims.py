@@ -209,8 +209,9 @@ PARTS: tuple[Part, ...] = (
 # What is done with a sentence that is none of the claims.
 RULES: tuple[str, ...] = (
     # begin rules, made by `contracts write`
-    "Half is half of the points. What a sound route leaves unsaid because it does not need it"
-    " costs nothing.",
+    "The points are proposed; a setter may weigh the parts otherwise, and decides what 'one"
+    " result' is worth. Half is half of the points. What a sound route leaves unsaid because it"
+    " does not need it costs nothing.",
     "A sentence is judged by what it says, not by its words. A true row about all kinds settles a"
     " sentence about one kind; a false row does so only for the kinds that its why or its instead"
     " speaks of. The words 'kind, ring and version given' may stand anywhere in the candidate's"
