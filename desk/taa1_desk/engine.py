@@ -19,8 +19,12 @@ class RefusedFile(Exception):
 
     def __init__(self, where: str, refused: Refused, more: str = "") -> None:
         """Takes the file's name as messages have it, and what else is to be said."""
-        super().__init__(f"{where}: {refused}: {more}" if more else f"{where}: {refused}")
+        super().__init__(where, refused, more)
         self.refused = refused
+
+    def __str__(self) -> str:
+        """The line that messages have."""
+        return ": ".join(str(each) for each in self.args if each != "")
 
 
 @contextmanager

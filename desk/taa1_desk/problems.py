@@ -11,8 +11,12 @@ class Problem(Exception):
 
     def __init__(self, *lines: str) -> None:
         """Takes one line or more."""
-        super().__init__("\n".join(lines))
+        super().__init__(*lines)
         self.lines = lines
+
+    def __str__(self) -> str:
+        """The lines."""
+        return "\n".join(self.lines)
 
 
 def shown(name: str) -> str:

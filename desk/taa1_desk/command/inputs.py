@@ -3,7 +3,7 @@
 
 from __future__ import annotations
 
-from typing import Optional
+from typing import Callable, Optional
 
 from taa1 import Sitting
 
@@ -14,7 +14,9 @@ from ..reading.books import parse_plain, parse_sealed
 from ..reading.decoding import lines_text
 from ..reading.sittings import Heading, parse_ring, parse_sitting
 from ..records import Ring
-from .files import read
+from .files import read as read_file
+
+Read = Callable[[str], bytes]  # gives a file's bytes
 
 
 def once(*names: str) -> None:
@@ -28,33 +30,41 @@ def read_sitting(name: str) -> Sitting:
     return read_headed(name)[0]
 
 
-def read_headed(name: str) -> tuple[Sitting, Heading]:
+def read_headed(name: str, read: Read = read_file) -> tuple[Sitting, Heading]:
     """The sitting in a file, and its heading."""
     return parse_sitting(read(name), place(name))
 
 
 def read_ring(engine: Engine, name: str) -> Ring:
     """The ring in a file, or that of the sitting in it."""
-    return parse_ring(engine, read(name), place(name))
+    return parse_ring(engine, read_file(name), place(name))
 
 
-def read_plain(engine: Engine, name: str, raw: bool = False) -> bytes:
+def read_plain(engine: Engine, name: str, raw: bool = False, read: Read = read_file) -> bytes:
     """A well-formed plain book, in lines, hexadecimal or bytes."""
     return parse_plain(engine, read(name), place(name), raw)
 
 
-def read_sealed(name: str, raw: bool = False) -> bytes:
+def read_model(engine: Engine, name: str, raw: bool, else_: str, read: Read = read_file) -> bytes:
+    """The model, a plain book with entries in it; what it means else is given."""
+    plain = read_plain(engine, name, raw, read)
+    if not plain:
+        raise Problem(f"{place(name)}: no entry in it, so {else_}")
+    return plain
+
+
+def read_sealed(name: str, raw: bool = False, read: Read = read_file) -> bytes:
     """A sealed book's bytes, in hexadecimal or as they are."""
     return parse_sealed(read(name), place(name), raw)
 
 
-def read_scheme(name: Optional[str]) -> schemes.Scheme:
+def read_scheme(name: Optional[str], read: Read = read_file) -> schemes.Scheme:
     """The scheme in a file, or the default."""
     if name is None:
         return schemes.parse(schemes.DEFAULT, "the default")
     return schemes.parse(lines_text(read(name), place(name)), place(name))
 
 
-def read_list(name: Optional[str]) -> dict[str, str]:
+def read_list(name: Optional[str], read: Read = read_file) -> dict[str, str]:
     """The candidates' names in a list, by their files."""
     return candidates.parse_list(lines_text(read(name), place(name)), place(name)) if name else {}

@@ -26,7 +26,6 @@ from .output import ACCEPTED, emit_text, json_text
 
 # What a model without entries means, to the commands that want some.
 NO_ENTRY = {
-    "mark": "there is nothing to mark",
     "paper": "there is nothing to ask for",
     "argue": "there is no instance of a claim",
 }
@@ -42,10 +41,9 @@ def examination(args: argparse.Namespace) -> tuple[Engine, Sitting, sittings.Hea
 
 def model_book(engine: Engine, args: argparse.Namespace) -> bytes:
     """The model, a plain book, with entries in it where the command wants some."""
-    plain = inputs.read_plain(engine, args.book, args.bytes)
-    if not plain and args.command in NO_ENTRY:
-        raise Problem(f"{place(args.book)}: no entry in it, so {NO_ENTRY[args.command]}")
-    return plain
+    if args.command in NO_ENTRY:
+        return inputs.read_model(engine, args.book, args.bytes, NO_ENTRY[args.command])
+    return inputs.read_plain(engine, args.book, args.bytes)
 
 
 def run_draw(args: argparse.Namespace) -> int:
