@@ -18,7 +18,7 @@ class Marker(Protocol):
 
     @property
     def asked(self) -> Sequence[str]:
-        """The values that the sitting asks for."""
+        """The values that are asked for beside the book."""
 
     def mark(self, hand_in: HandIn) -> Marks:
         """What is found of a hand-in, and of the keys beside it."""

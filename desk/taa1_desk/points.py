@@ -5,14 +5,26 @@ from __future__ import annotations
 
 import re
 from fractions import Fraction
-from typing import NamedTuple
+from typing import NamedTuple, Optional
+
+
+NOT_HANDED_IN = "not handed in"  # why a value is lost
+
+
+class Lost(NamedTuple):
+    """An entry of the model, or a value, that gave less than it could, and why."""
+
+    what: str  # entry 7, or the value's name
+    why: str
 
 
 class Item(NamedTuple):
-    """What gives or costs points."""
+    """A line of the scheme: what it gives or costs in a hand-in."""
 
     what: str
     points: Fraction
+    most: Optional[Fraction] = None  # its share of what could be reached; None of what is given in the place of that
+    lost: tuple[Lost, ...] = ()
 
 
 class Points(NamedTuple):
@@ -30,6 +42,11 @@ class Points(NamedTuple):
     def share(self) -> Fraction:
         """Their share of what could be reached."""
         return self.sum / self.most if self.most else Fraction(0)
+
+    @property
+    def whole(self) -> bool:
+        """Whether nothing that counts was lost."""
+        return not any(item.lost for item in self.items)
 
     def of(self, what: str) -> Fraction:
         """The points of an item; 0 of one that gives or costs none."""

@@ -37,8 +37,8 @@ class Marked:
     """One record of a candidate's book."""
 
     index: int
-    state: str  # right, wrong, doubled or extra; of what was opened, also unsaid
-    model: Optional[int]  # the model's entry that it is, repeats or is most like
+    state: str  # right, wrong, doubled, further (an attempt) or extra; of what was opened, also unsaid
+    model: Optional[int]  # the model's entry that it is, repeats, tries again or is most like
     moved: bool = False  # it stands in another order than the model's
     opened: Optional[Opened] = None
     differences: tuple[Difference, ...] = ()
@@ -47,7 +47,6 @@ class Marked:
     note: str = ""  # what else is wrong
     record: bytes = b""  # as it was handed in
     follows: str = ""  # the candidate's own key under which it is right
-    own_text: bool = False  # its kind, version and text are an entry's that has no right record
 
 
 class Flags(NamedTuple):
@@ -138,6 +137,7 @@ class Marks:
     keys: KeySheet = KeySheet()  # handed in beside it
     unread: tuple[int, ...] = ()  # entries without a record that may be in a line that can't be read
     blank: tuple[str, ...] = ()  # rows of a form that are left blank
+    wanted: Sequence[bytes] = ()  # the model's sealed records; none of a book that was to be opened
 
     @property
     def right(self) -> int:
@@ -156,9 +156,8 @@ class Marks:
 
     @property
     def extra(self) -> int:
-        """How many records are no entry's own: those too many, repeats of right ones, and
-        further attempts at the same entries."""
-        return self.again + sum(entry.state in ("extra", "doubled") for entry in self.entries)
+        """How many records, or answers, there are beyond the number of the model's entries."""
+        return max(0, len(self.entries) + self.again - self.size)
 
     @property
     def has_problems(self) -> bool:
@@ -192,6 +191,11 @@ class Sheet(Marks):
     ) -> Sheet:
         """The sheet of marks."""
         return cls(**vars(marks), name=name, candidate=candidate, points=points, unlisted=unlisted)
+
+    @property
+    def perfect(self) -> bool:
+        """Whether the candidate has all that counts, keys that are asked for among it."""
+        return super().perfect and (self.points is None or self.points.whole)
 
     @property
     def has_unread(self) -> bool:

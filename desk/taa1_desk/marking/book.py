@@ -119,8 +119,6 @@ class BookMarker:
         moved = out_of_order(pairs.certain)
         slips, borrowed = self._explain(records, pairs.entries, keys)
         names = named(slips)
-        free = Counter(text_of(record) for record in self.model)
-        free.subtract(text_of(self.model[place]) for place in pairs.certain.values())
         entries = []
         for index, record in enumerate(records):
             model = pairs.entries.get(index)
@@ -129,8 +127,6 @@ class BookMarker:
                 continue
             opened = self._open(record)
             differ = () if model is None else differences(opened, self.entries[model])
-            has_text = index not in pairs.certain and free[text_of(record)] > 0
-            free[text_of(record)] -= has_text
             entries.append(
                 Marked(
                     index,
@@ -143,7 +139,6 @@ class BookMarker:
                     note="" if index in names or model is None else self._miscopied(record, model, differ),
                     record=record,
                     follows=self._follows(record, keys) if index in pairs.following else "",
-                    own_text=has_text,
                 )
             )
         missing = sorted(set(range(len(self.model))) - set(pairs.entries.values()))
@@ -301,4 +296,6 @@ def _state(pairs: Pairs, index: int) -> tuple[str, Optional[int]]:
         return "wrong", pairs.entries[index]
     if index in pairs.again:
         return "doubled", pairs.again[index]
-    return "extra", pairs.attempts.get(index)
+    if index in pairs.attempts:
+        return "further", pairs.attempts[index]
+    return "extra", None

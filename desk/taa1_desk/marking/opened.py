@@ -92,8 +92,8 @@ class OpenedMarker:
 
     @property
     def asked(self) -> Sequence[str]:
-        """The values that the sitting asks for."""
-        return self.keys.asked
+        """None: what was opened is asked for, and no keys."""
+        return ()
 
     def no_hand_in(self, data: bytes) -> str:
         """What a text is that can be no hand-in; nothing, if it may be one."""

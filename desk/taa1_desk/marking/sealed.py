@@ -43,7 +43,7 @@ class SealedMarker:
 
     @property
     def asked(self) -> Sequence[str]:
-        """The values that the sitting asks for."""
+        """The values that the sitting asks for, of the sides that run."""
         return self.keys.asked
 
     def no_hand_in(self, data: bytes) -> str:
@@ -79,7 +79,9 @@ class SealedMarker:
     def _unmarked(self, problem: str, file: Optional[KeyFile]) -> Marks:
         """The marks of a hand-in that can't be read; keys beside it are marked all the same."""
         size = len(self.model)
-        return Marks(size, self.kinds, problem, missing=tuple(range(size)), keys=self._keys(file))
+        blank = file.blank if file else ()
+        missing = tuple(range(size))
+        return Marks(size, self.kinds, problem, missing=missing, keys=self._keys(file), blank=blank, wanted=self.model)
 
     def _marks(
         self, reading: Reading, found: BookMarks, keys: KeySheet, said: Sequence[str], blank: Sequence[str]
@@ -106,6 +108,7 @@ class SealedMarker:
             keys=keys,
             unread=tuple(sorted(unread)),
             blank=(*reading.blank, *blank),
+            wanted=self.model,
         )
 
     def _strange(self, found: BookMarks) -> str:

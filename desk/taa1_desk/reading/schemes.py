@@ -15,39 +15,54 @@ DEFAULT = """\
 # Points. A number is whole or a fraction: 2, 1/2, -1. A line that is left out counts as here.
 
 entry = 1             # each entry that is right: of a book that was opened, also a flag that is set
+text = 1/2            # in the place of an entry: kind, version and sealed text are those of an entry
+identity = 1/4        # in the place of an entry: the encrypted identity is that of an entry
 redundancy byte = 0   # each check of an entry's redundancy that does not fail, also of wrong entries
 
-session key = 2       # each, where it is handed in: in NAME.keys beside NAME.book, or on the answer form
+session key = 2       # each: in NAME.keys beside NAME.book, or on the answer form
 response = 1
 key = 1
 D = 1
 O = 2
 G = 1
 
-keys asked = 0        # 0: values that are not handed in cost nothing; 1: they count in what can be reached
+keys asked = 1        # 1: values that are not handed in count in what can be reached; 0: they cost nothing
 
 follow-through = 1/2  # of the points, for what is wrong but right under the candidate's own keys
-extra = -1            # each record that is no entry's own: one too many, a repeat, a further attempt
+extra = -1            # each record beyond the number of the model's entries
 order = 0             # each entry in another order than the model's
 
-# The sum is never below 0.
+# text and identity together are less than entry, or both 0. Beside another entry, text is half of
+# it where its line is left out, and identity a quarter. The sum is never below 0.
 """
 Scheme = dict[str, Fraction]
 COSTS = ("extra", "order")
 SHARE = "follow-through"
 ASKED = "keys asked"
+TEXT, IDENTITY = "text", "identity"
+PARTS = {TEXT: Fraction(1, 2), IDENTITY: Fraction(1, 4)}  # of an entry, where no line says it
 EXTRA = "extra records"
 
 
 def parse(text: str, where: str) -> Scheme:
     """The scheme of a text; what it leaves out is the default's."""
-    default = _read(DEFAULT, "the default", None)
-    return {**default, **_read(text, where, default)}
+    default, _ = _read(DEFAULT, "the default", None)
+    given, lines = _read(text, where, default)
+    scheme = {**default, **given}
+    scheme.update({part: share * scheme["entry"] for part, share in PARTS.items() if part not in given})
+    parts = [scheme[part] for part in PARTS]
+    if any(parts) and sum(parts) >= scheme["entry"]:
+        line = min(lines[part] for part in PARTS if part in lines)
+        come = f"text {said(parts[0])} and identity {said(parts[1])} come to {said(parts[0] + parts[1])}"
+        less = f"where less than entry, {said(scheme['entry'])}, is wanted"
+        raise Problem(f"{where}, line {line}: {come}, {less}: lessen one of them, or make both 0")
+    return scheme
 
 
-def _read(text: str, where: str, known: Optional[Scheme]) -> Scheme:
-    """The points of each name; any name is taken where none is known."""
+def _read(text: str, where: str, known: Optional[Scheme]) -> tuple[Scheme, dict[str, int]]:
+    """The points of each name, and its line; any name is taken where none is known."""
     scheme: Scheme = {}
+    lines: dict[str, int] = {}
     wrong = []
     names = None if known is None else {name: name for name in known}
     for line in named_values(text, "NAME = POINTS, as in entry = 1", names):
@@ -55,13 +70,13 @@ def _read(text: str, where: str, known: Optional[Scheme]) -> Scheme:
         if not problem and not re.fullmatch(r"[+-]?[0-9]{1,9}(\s*/\s*0*[1-9][0-9]{0,8})?", value):
             problem = f"{name}: {quoted(value)} is no whole number nor a fraction, as 2, 1/2 or -1"
         elif not problem:
-            scheme[name] = Fraction("".join(value.split()))
+            scheme[name], lines[name] = Fraction("".join(value.split())), line.number
             problem = _beyond(name, scheme[name])
         if problem:
             wrong.append(f"{where}, line {line.number}: {problem}")
     if wrong:
         raise Problem(*wrong)
-    return scheme
+    return scheme, lines
 
 
 def _beyond(name: str, points: Fraction) -> str:

@@ -13,7 +13,19 @@ from ..sheet import Explained, Flags, KeySheet, Marked, Sheet, Wanted
 from . import comparison
 from .comparison import Field, plain_fields, sealed_fields
 from .html import Html, Number, Row, breakable, fields, join, page, pairs, table, tag, text
-from .phrases import FAILS_MEANS, WRONG_MEANS, explains, fault, not_read, opening_words, others, too_many, was_read
+from .phrases import (
+    FAILS_MEANS,
+    WRONG_MEANS,
+    explains,
+    fault,
+    lost_said,
+    not_handed_in,
+    not_read,
+    opening_words,
+    others,
+    too_many,
+    was_read,
+)
 from .result import key_result, result
 
 RESULT = """
@@ -98,10 +110,14 @@ def step_said(step: str, clause: str) -> str:
 
 
 def _points(points: Points) -> Html:
-    """What gave or cost points, and their sum."""
-    rows = [(item.what, Number(points_said(item.points))) for item in points.items]
-    rows.append((f"sum, of {points_said(points.most)}", Number(points_said(points.sum))))
-    return table(("for", "points"), rows, "points")
+    """What gave or cost points, of how many, what was lost where, and their sum. What is given in
+    the place of entries is part of what these could give, so it is of none."""
+    rows: list[tuple[Any, ...]] = []
+    for item in points.items:
+        of = Number(points_said(item.most)) if item.most else None
+        rows.append((item.what, Number(points_said(item.points)), of, lost_said(item.lost)))
+    rows.append(("sum", Number(points_said(points.sum)), Number(points_said(points.most)), ""))
+    return table(("for", "points", "of", "lost"), rows, "points")
 
 
 def _keys(keys: KeySheet) -> Iterable[Html]:
@@ -178,12 +194,12 @@ def sheet_page(sheet: Sheet, wanted: Wanted, heading: str) -> str:
     hand_in = file if sheet.problem else f"{file}, {was_read(sheet)}"
     facts: list[tuple[str, Any]] = [("hand-in", breakable(hand_in))]
     facts += [] if sheet.problem else [("flags" if sheet.flags else "book", opening_words(sheet))]
-    facts += [("", line) for line in too_many(sheet) + others(sheet)]
+    facts += [("", line) for line in too_many(sheet) + not_handed_in(sheet) + others(sheet)]
     wrong = [entry for entry in sheet.entries if entry.state not in ("right", "doubled")]
     parts = [text("p", result(sheet), class_="result"), pairs(facts)]
     if sheet.slips:
         parts += [text("h2", "What went wrong, and at which step"), _slips(sheet)]
-    if sheet.points and len(sheet.points.items) > 1:
+    if sheet.points and sheet.points.items:
         parts += [text("h2", "Points"), _points(sheet.points)]
     if sheet.keys.marks or sheet.keys.problems:
         parts += [text("h2", "Keys of the first two generations"), *_keys(sheet.keys)]

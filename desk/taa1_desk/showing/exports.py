@@ -18,7 +18,7 @@ from ..reading.sittings import Heading
 from ..sheet import Class, Marked, Sheet
 from .phrases import to_look_at
 
-FORM, VERSION = "taa1 mark", 3
+FORM, VERSION = "taa1 mark", 4
 HEADS = (
     "candidate", "file", "entries", *COUNTED, "points", "of points", "opens", "slips", "read as",
     "problem",
@@ -133,7 +133,15 @@ def sheet_json(sheet: Sheet) -> dict[str, Any]:
         and {
             "sum": str(sheet.points.sum),
             "of": str(sheet.points.most),
-            "items": [{"for": item.what, "points": str(item.points)} for item in sheet.points.items],
+            "items": [
+                {
+                    "for": item.what,
+                    "points": str(item.points),
+                    "of": None if item.most is None else str(item.most),
+                    "lost": [each._asdict() for each in item.lost],
+                }
+                for item in sheet.points.items
+            ],
         },
         "keys": [
             {

@@ -8,7 +8,7 @@ from typing import Any, Iterable, Sequence
 
 from taa1 import Refusal
 
-from ..points import Points, said as points_said
+from ..points import NOT_HANDED_IN, Item, Lost, Points, said as points_said
 from ..reading.schemes import EXTRA
 from ..records import KINDS, SEALED
 from ..sheet import Explained, Flags, KeySheet, Marked, Sheet
@@ -106,7 +106,7 @@ def reading(sheet: Sheet) -> str:
 def _like(entry: Marked, values: bool = True) -> tuple[Any, ...]:
     """Entries that are equal in this have one line: what is wrong with them, and how far
     from the model's entry they stand; without values, which fields are wrong."""
-    if entry.state == "doubled" or entry.state == "extra" and entry.model is not None:
+    if entry.state in ("doubled", "further"):
         return entry.state, 0, (), (), "", False
     if entry.follows:
         own = (f"right under the candidate's own {entry.follows}",)
@@ -132,7 +132,7 @@ def fault(*entries: Marked, values: bool = True) -> str:
     models = sorted({entry.model for entry in entries if entry.model is not None})
     if state == "doubled":
         return f"{'is' if one else 'are'} the model's {entries_said(models)} again"
-    if state == "extra" and models:
+    if state == "further":
         return f"{'one ' * one}more attempt{'s' * (not one)} at the model's {entries_said(models)}"
     faults = list(said)
     for field, _ in borrowed:
@@ -178,32 +178,39 @@ def faults(sheet: Sheet) -> list[str]:
 
 
 def too_many(sheet: Sheet) -> list[str]:
-    """What is to be said first of a book with records that are no entry's own."""
+    """What is to be said first of a hand-in with more records than the model has entries."""
     if not sheet.extra:
         return []
     cost = -sheet.points.of(EXTRA) if sheet.points else Fraction(0)
     costs = f", which cost{'s' * (sheet.extra == 1)} {points_said(cost)}" if cost else ""
     records = len(sheet.entries) + sheet.again
     there = f"{records} records, where the model has {sheet.size} entries"
-    if records <= sheet.size:
-        repeats = sum(entry.state == "doubled" for entry in sheet.entries)
-        counted = (
-            (repeats, "a repeat of a right record", "repeats of right records"),
-            (
-                sheet.extra - repeats,
-                "a further attempt at an entry that has its record",
-                "further attempts at entries that have their record",
-            ),
-        )
-        there = " and ".join(one if count == 1 else more for count, one, more in counted if count)
     return [f"{plural(sheet.extra, 'extra record')}{costs}: {there}"]
 
 
 def sum_said(points: Points) -> str:
     """The points and their sum."""
-    parts = "; ".join(f"{item.what}: {points_said(item.points)}" for item in points.items)
+    parts = "; ".join(f"{item.what}: {points_said(item.points)}{_of(item)}" for item in points.items)
     parts = f" ({parts})" if len(points.items) > 1 else ""
     return f"points {points_said(points.sum)} of {points_said(points.most)}{parts}"
+
+
+def _of(item: Item) -> str:
+    """Of how many points an item is."""
+    return f" of {points_said(item.most)}" if item.most else ""
+
+
+def lost_said(lost: Sequence[Lost]) -> str:
+    """What was lost where: entries of the model, and values, by the reason."""
+    reasons = dict.fromkeys(each.why for each in lost)
+    return "; ".join(f"{why}: {rows_said([each.what for each in lost if each.why == why])}" for why in reasons)
+
+
+def not_handed_in(sheet: Sheet) -> list[str]:
+    """The values that are asked for and not handed in; blank rows of a form are named elsewhere."""
+    lost = [each for item in sheet.points.items for each in item.lost] if sheet.points else []
+    names = [each.what for each in lost if each.why == NOT_HANDED_IN]
+    return [f"not handed in: {listed(names)}"] if names else []
 
 
 def others(sheet: Sheet) -> list[str]:
@@ -233,7 +240,7 @@ def unread_said(sheet: Sheet) -> list[str]:
         where += ", or not there" if len(sheet.unread) > len(sheet.problems) else ""
         said.append(f"{where}: the model's {entries_said(list(sheet.unread))}")
     if sheet.blank:
-        said.append(f"left blank on the form: {blank_said(sheet.blank)}")
+        said.append(f"left blank on the form: {rows_said(sheet.blank)}")
     if sheet.left:
         more = f"{plural(sheet.left, 'more byte')} after the last record"
         cut = f"the last record is cut short: {sheet.left} of {SEALED} bytes"
@@ -241,8 +248,8 @@ def unread_said(sheet: Sheet) -> list[str]:
     return said
 
 
-def blank_said(rows: Sequence[str]) -> str:
-    """The rows of a form that are left blank."""
+def rows_said(rows: Sequence[str]) -> str:
+    """Values and entries, as the rows of a form."""
     entries = [int(row.split()[1]) for row in rows if row.startswith("entry ")]
     values = [row for row in rows if not row.startswith("entry ")]
     return listed([*values, *([entries_said(entries)] if entries else [])])

@@ -4,14 +4,14 @@
 from __future__ import annotations
 
 from ..sheet import Sheet, Summary
-from .phrases import UNTIL, explanation, faults, keys_said, others, sum_said, too_many, verdict
+from .phrases import UNTIL, explanation, faults, keys_said, not_handed_in, others, sum_said, too_many, verdict
 
 
 def sheet_text(sheet: Sheet, named: bool = False) -> str:
     """A mark sheet as lines of text, under the file's name, or the candidate's as well."""
     name = f"{sheet.candidate} ({sheet.name})" if named else sheet.name
     lines = [f"{name}: {verdict(sheet)}"]
-    said = too_many(sheet) + keys_said(sheet.keys) + faults(sheet) + others(sheet)
+    said = too_many(sheet) + keys_said(sheet.keys) + not_handed_in(sheet) + faults(sheet) + others(sheet)
     lines += [f"  {line}" for line in said]
     lines += [f"  slip: {explanation(slip, sheet)}" for slip in sheet.slips]
     until = f": {UNTIL}" if sheet.problem else ""
