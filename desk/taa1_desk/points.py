@@ -8,7 +8,7 @@ from fractions import Fraction
 from typing import NamedTuple, Optional
 
 
-NOT_HANDED_IN = "not handed in"  # why a value is lost
+BLANK, NOT_HANDED_IN = "left blank", "not handed in"  # why a value is lost
 
 
 class Lost(NamedTuple):
@@ -47,6 +47,11 @@ class Points(NamedTuple):
     def whole(self) -> bool:
         """Whether nothing that counts was lost."""
         return not any(item.lost for item in self.items)
+
+    @property
+    def not_handed_in(self) -> list[Lost]:
+        """The values that count and were not handed in, rows of a form that are blank among them."""
+        return [each for item in self.items for each in item.lost if each.why in (BLANK, NOT_HANDED_IN)]
 
     def of(self, what: str) -> Fraction:
         """The points of an item; 0 of one that gives or costs none."""

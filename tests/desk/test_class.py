@@ -39,10 +39,10 @@ BOOKS = {
     "fails": ([*MODEL[:4], FAILING, *MODEL[5:]], (11, 0, 1, 0, 0, 0)),
     "short": (MODEL[:9], (9, 0, 0, 3, 0, 0)),
     "twice": ([*MODEL, MODEL[0]], (12, 0, 0, 0, 0, 1)),
-    "double": ([*MODEL[:7], MODEL[0], *MODEL[8:]], (11, 0, 0, 1, 0, 1)),
+    "double": ([*MODEL[:7], MODEL[0], *MODEL[8:]], (11, 0, 0, 1, 0, 0)),
     "tried": ([*MODEL[:5], FAILING, *MODEL[5:]], (12, 0, 0, 0, 0, 1)),
     "noise": ([b"\x8f" * SEALED], (0, 0, 0, 0, 12, 0)),
-    "mixed": ([FAILING, _wrong_version(), *MODEL[5:], MODEL[6], MODEL[7]], (7, 1, 1, 3, 0, 2)),
+    "mixed": ([FAILING, _wrong_version(), *MODEL[5:], MODEL[6], MODEL[7]], (7, 1, 1, 3, 0, 0)),
 }
 
 
@@ -68,8 +68,8 @@ class Class(Case):
         self.assertEqual(opens, ["yes", "yes", "no", "yes", "yes", "yes", "no", "", "no"])
         self.assertIn("0 of 1 records begin with a kind", rows[7]["problem"])
         points = [(row["points"], row["of points"]) for row in rows]
-        wanted = [("9", "12"), ("11", "12"), ("10", "12"), ("11", "12"), ("0", "12"), ("5", "12")]
-        self.assertEqual(points[3:], wanted)
+        sums = ["12", "11 1/4", "11 1/4", "9", "11", "11", "11", "0", "7 1/2"]  # an identity is a quarter
+        self.assertEqual(points, [(each, "24") for each in sums])
 
     def test_formulas(self) -> None:
         """What a spreadsheet would work out has an apostrophe in front; commas are quoted."""
@@ -84,7 +84,7 @@ class Class(Case):
     def test_json(self) -> None:
         """The form has a number, and says of the class what the sheets say."""
         said = json.loads(taa1("mark", *INPUTS, *self.books, "--json").out)
-        self.assertEqual((said["form"], said["version"]), ("taa1 mark", 3))
+        self.assertEqual((said["form"], said["version"]), ("taa1 mark", 4))
         counts = [tuple(sheet["counts"].values()) for sheet in said["sheets"]]
         self.assertEqual(counts, [counts for _, counts in BOOKS.values()])
         wrong = {each.pop("entry"): tuple(each.values()) for each in said["class"]["wrong_entries"]}
@@ -93,7 +93,7 @@ class Class(Case):
             {2: (2, 0, 0), 4: (0, 2, 0), 0: (0, 0, 1), 1: (0, 0, 1), 3: (0, 0, 1), 7: (0, 0, 1),
              9: (0, 0, 1), 10: (0, 0, 1), 11: (0, 0, 1)},
         )  # fmt: skip
-        points = {"mean": "80/9", "median": "11", "of": "12", "in_percent": False, "candidates": 9, "not_marked": 1}
+        points = {"mean": "28/3", "median": "11", "of": "24", "in_percent": False, "candidates": 9, "not_marked": 1}
         self.assertEqual(said["class"]["points"], points)
         for sheet in said["sheets"]:
             self.assertEqual(sheet["extra"], sheet["counts"]["extra"], sheet["candidate"])
@@ -168,33 +168,34 @@ class Maxima(Case):
 
     def test_shares(self) -> None:
         """The class is compared by shares of what each could reach."""
+        scheme = self.file("scheme", "keys asked = 0\n")
         share = "Points, in percent of what each could reach"
         self.assertEqual(
-            self.mark(),
-            ["points 12 of 12", "points 13 of 15 (entries right: 12; D: 1)",
+            self.mark("--scheme", scheme),
+            ["points 12 of 12", "points 13 of 15 (entries right: 12 of 12; D: 1 of 1; O: 0 of 2)",
              f"{share}: mean 93.33, median 93.33 of 100, of all 2 candidates",
              f"{share}, and how many candidates have them, of all 2 candidates"],
         )  # fmt: skip
-        said = json.loads(taa1("mark", *INPUTS, *self.books, "--json").out)["class"]["points"]
+        said = json.loads(taa1("mark", *INPUTS, *self.books, "--json", "--scheme", scheme).out)["class"]["points"]
         wanted = {"mean": "280/3", "median": "280/3", "of": "100", "in_percent": True, "candidates": 2, "not_marked": 0}
         self.assertEqual(said, wanted)
 
     def test_asked(self) -> None:
-        """Where the scheme says that keys are asked for, one maximum holds for all, and who
+        """Where keys are asked for, as the default has it, one maximum holds for all, and who
         hands in fewer wins nothing."""
-        asked = ("--scheme", self.file("scheme", "keys asked = 1\n"))
+        lines = "entries right: 12 of 12; session keys: 0 of 4; responses: 0 of 2; keys: 0 of 2; D: {} of 1; O: 0 of 2"
         self.assertEqual(
-            self.mark(*asked),
-            ["points 12 of 24 (entries right: 12; 9 keys not handed in: 0)",
-             "points 13 of 24 (entries right: 12; D: 1; 7 keys not handed in: 0)",
+            self.mark(),
+            [f"points 12 of 24 ({lines.format(0)}; G: 0 of 1)",
+             f"points 13 of 24 ({lines.format(1)}; G: 0 of 1)",
              "Points: mean 12.5, median 12.5 of 24, of all 2 candidates",
              "Points, and how many candidates have them, of all 2 candidates"],
         )  # fmt: skip
         self.file("ben.keys", "".join((self.folder / "ben.keys").read_text().splitlines(True)[:1]))
-        self.assertIn("points 13 of 24", self.mark(*asked)[1])
+        self.assertIn("points 13 of 24", self.mark()[1])
         bad = self.file("scheme", "keys asked = 2\n")
         said = f"{bad}, line 1: keys asked: 2, where 0 or 1 is wanted"
-        self.fails(2, said, "mark", *INPUTS, *self.books, *asked)
+        self.fails(2, said, "mark", *INPUTS, *self.books, "--scheme", bad)
 
 
 class Application(unittest.TestCase):
@@ -209,7 +210,7 @@ class Application(unittest.TestCase):
         self.assertEqual([(sheet.candidate, sheet.name) for sheet in of.sheets], [("Ann", "ann.book"), ("Ben", "ben.book")])
         self.assertEqual([sheet.problem for sheet in of.sheets], [None, "no such file"])
         self.assertEqual([sheet.points and sheet.points.sum for sheet in of.sheets], [12, 0])
-        self.assertEqual((of.summary.perfect, of.summary.unreadable, of.absent), (1, 1, ("Cho",)))
+        self.assertEqual((of.summary.perfect, of.summary.unreadable, of.absent), (0, 1, ("Cho",)))  # no keys
         self.assertEqual((of.left_out, of.has_unread), (tuple(left_out), True))
 
 

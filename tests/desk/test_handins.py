@@ -608,7 +608,8 @@ class Command(Case):
         """Text, JSON and pages say how it was read."""
         self.file("ben.hex", BOOK.hex())
         words = "12 of 12 entries right; opens; read as hexadecimal"
-        self.assertEqual(self.mark("ben.hex").out.decode(), f"ben.hex: {words}\n  points 12 of 12\n")
+        alone = ("--scheme", self.file("scheme.txt", "keys asked = 0\n"))
+        self.assertEqual(self.mark("ben.hex", *alone).out.decode(), f"ben.hex: {words}\n  points 12 of 12\n")
         sheet = json.loads(self.mark("ben.hex", "--json").out)["sheets"][0]
         self.assertEqual(sheet["read_as"], "hexadecimal")
         self.mark("ben.hex", "--html", "pages")
@@ -770,7 +771,7 @@ class Folders(Case):
         (self.folder / "gus.keys").write_text(f"D = {ring[:10].hex()}\nO = {ring[10:26].hex()}\n")
         done = self.mark("gus.book", "--csv")
         row = next(csv.DictReader(done.out.decode().splitlines()))
-        self.assertEqual((row["right"], row["points"], row["of points"], done.status), ("0", "3", "15", 1))
+        self.assertEqual((row["right"], row["points"], row["of points"], done.status), ("0", "3", "24", 1))
         self.assertIn("the book is not marked, and counts 0 until somebody decides", row["problem"])
 
     def test_passed_over(self) -> None:

@@ -5,7 +5,9 @@ from __future__ import annotations
 import json
 import random
 import unittest
+from dataclasses import replace
 from fractions import Fraction
+from typing import Optional
 from unittest import mock
 
 from common import CLASS, DESK, ENTRIES, LINES, PLAIN_BOOK, RING, SITTING, Case, book_sheet, ring_for, seal, taa1
@@ -13,13 +15,14 @@ from said import SEALING
 from taa1_desk.asked import KEYS
 from taa1_desk.handed import KeyFile
 from taa1_desk.marking.counting import counts, summary
-from taa1_desk.marking.scoring import score
+from taa1_desk.marking.scoring import IDENTITIES, TEXTS, score
 from taa1_desk.marking.sealed import SealedMarker
 from taa1_desk.marking.slipped import work
 from taa1_desk.marking.slips import SLIPS
 from taa1_desk.marking.working import Steps
 from taa1_desk.names import field
 from taa1_desk.points import Points, said
+from taa1_desk.problems import Problem
 from taa1_desk.reading.keyfile import parse
 from taa1_desk.reading.schemes import DEFAULT
 from taa1_desk.reading.schemes import parse as parse_scheme
@@ -34,9 +37,14 @@ SCHEME = parse_scheme(DEFAULT, "the default")
 
 
 def points(records: list[bytes], scheme: str = "", keys: dict[str, bytes] = {}) -> Points:
-    """The points of a book by a scheme."""
+    """The points of a book by a scheme, where no keys are asked for."""
     sheet = book_sheet(MARKER, "book", b"".join(records), KeyFile(keys))
     return score(parse_scheme(scheme, "scheme"), sheet)
+
+
+def items(made: Points) -> dict[str, tuple[Fraction, Optional[Fraction]]]:
+    """The points of each item, and of how many."""
+    return {item.what: (item.points, item.most) for item in made.items}
 
 
 class Files(unittest.TestCase):
@@ -163,18 +171,20 @@ class Values(unittest.TestCase):
     def test_guess_decides_no_point(self) -> None:
         """Whatever a wrong record is taken for, the points are the same."""
         draw = random.Random(7)
-        scheme = parse_scheme("redundancy byte = 1/7\norder = -1/3\n", "scheme")
+        scheme = parse_scheme("text = 2/5\nidentity = 3/11\nredundancy byte = 1/7\norder = -1/3\n", "scheme")
         ring = RING._replace(o=bytes(range(16)), d=bytes(range(10)))
         under = split(DESK.call("seal_book", ring.data, PLAIN_BOOK)["out"], SEALED)
         slips = [worked.records for worked in work(DESK, SITTING, PLAIN_BOOK)]
         file = KeyFile({"D": ring.d, "O": ring.o})
-        different = 0
+        different = parts = 0
         for _ in range(60):
             pool = [*MODEL, *under, *(record for _ in range(3) for record in draw.choice(slips).values())]
             records = draw.choices(pool, k=draw.randint(1, 16))
             for at in range(0, len(records), 3):
                 other = draw.choice(MODEL)
-                records[at] = draw.choice((records[at], records[at][:6] + other[6:], other[:6] + draw.randbytes(15)))
+                named = other[:1] + draw.choice(MODEL)[1:4] + other[4:]  # a text under another's identity, or its own
+                kept = (records[at], records[at][:6] + other[6:], other[:6] + draw.randbytes(15), named)
+                records[at] = draw.choice(kept)
             book = b"".join(records)
             found = []
             for sign in (1, -1, 0):
@@ -183,13 +193,16 @@ class Values(unittest.TestCase):
                 with mock.patch.object(MARKER.book, "signs_of", turned):
                     sheet = book_sheet(MARKER, "book", book, file)
                 made = score(scheme, sheet)
-                found.append((made.sum, made.most, sheet.right, sheet.following, sheet.extra, len(sheet.missing)))
+                lines = tuple(item[:3] for item in made.items)
+                parts += any(item.points for item in made.items if item.what in (TEXTS, IDENTITIES))
+                found.append((lines, made.most, sheet.right, sheet.following, sheet.extra, len(sheet.missing)))
                 different += [entry.model for entry in sheet.entries] != [
                     entry.model for entry in book_sheet(MARKER, "book", book, file).entries
                 ]
             self.assertEqual(found[0], found[1], records)
             self.assertEqual(found[0], found[2], records)
         self.assertGreater(different, 10)  # the guess did matter elsewhere
+        self.assertGreater(parts, 60)  # and parts were won
 
     def test_unread(self) -> None:
         """A value that can't be read is handed in, and wrong."""
@@ -241,7 +254,7 @@ class Schemes(unittest.TestCase):
     """Points in exact fractions."""
 
     def test_default(self) -> None:
-        self.assertEqual(points(MODEL), ((("entries right", 12),), 12))
+        self.assertEqual(points(MODEL), ((("entries right", 12, 12, ()),), 12))
         self.assertEqual(SCHEME["follow-through"], Fraction(1, 2))
         self.assertEqual(parse_scheme("", "scheme"), SCHEME)
         self.assertEqual(parse_scheme(DEFAULT, "scheme"), SCHEME)
@@ -293,24 +306,28 @@ class Schemes(unittest.TestCase):
         self.assertEqual((tried.of("entries right"), tried.of("extra records")), (12, -36))
         self.assertEqual(tried.sum, 0)
         few = points([*noise[:6], *noise[12:18]])  # six entries tried twice: 12 records
-        self.assertEqual(few.of("extra records"), -6)
+        self.assertEqual((few.of("extra records"), few.sum), (0, Fraction(6, 4)))  # six identities
         self.assertEqual(points([*MODEL, MODEL[0]], "extra = 0").sum, 12)
 
-    def test_repeats(self) -> None:
-        """A right record that stands in the place of others costs as every extra one, and
-        the words, the counts and the points agree."""
+    def test_in_the_place(self) -> None:
+        """A copy in the place of other entries costs these and no more; beyond the number of the
+        model's entries each record costs. The words, the counts and the points agree."""
         for often in (1, 2, 11, 12, 20):
             book = [MODEL[0]] * often + MODEL[often:]
             sheet = book_sheet(MARKER, "book", b"".join(book))
-            made = points(book)
-            self.assertEqual((sheet.extra, counts(sheet).extra), (often - 1, often - 1))
-            self.assertEqual(made.of("extra records"), 1 - often)
-            self.assertEqual(made.sum, max(0, sheet.right - (often - 1)))
-            said = [line for line in sheet_text(sheet).splitlines() if "extra record" in line]
-            if 1 < often <= 12:
-                what = f"{often - 1} extra record{'s' * (often > 2)}"
-                repeats = "repeats of right records" if often > 2 else "a repeat of a right record"
-                self.assertEqual(said, [f"  {what}: {repeats}"])
+            made, extra = points(book), max(0, often - 12)
+            self.assertEqual((sheet.extra, counts(sheet).extra, made.of("extra records")), (extra, extra, -extra))
+            self.assertEqual(made.sum, max(0, 13 - min(often, 12) - extra))
+            self.assertEqual(counts(sheet)[:4], (13 - min(often, 12), 0, 0, min(often, 12) - 1))
+            lines = sheet_text(sheet).splitlines()
+            self.assertEqual([line for line in lines if "extra record" in line],
+                             ["  8 extra records: 20 records, where the model has 12 entries"] * (often == 20))
+            again = [line for line in lines if "the model's entry 0 again" in line]
+            self.assertEqual(len(again), often > 1)
+        other = [*MODEL[:7], MODEL[0][:6] + bytes(15), *MODEL[8:]]  # not a copy: an attempt at entry 0
+        self.assertEqual((points(other).sum, points(other).of("extra records")), (11, 0))
+        self.assertEqual(book_sheet(MARKER, "book", b"".join(other)).entries[7].state, "further")
+        self.assertEqual(points([*MODEL, MODEL[3]]).of("extra records"), -1)
 
     def test_repeated_redundancy(self) -> None:
         """A text that is properly sealed gives its redundancy's points once, also beside
@@ -324,7 +341,35 @@ class Schemes(unittest.TestCase):
         checks = sum(KINDS[entry.kind].checks for entry in ENTRIES)
         renamed = [each[:1] + bytes([each[1] ^ 1]) + each[2:] for each in MODEL]
         self.assertEqual(points(renamed, scheme).sum, checks)
-        self.assertEqual(points(MODEL[:3] + [MODEL[2]] * 9, scheme + "\nextra = 0").sum, 15)
+        self.assertEqual(points(MODEL[:3] + [MODEL[2]] * 9, scheme).sum, 15)
+        fewer = next(at for at, entry in enumerate(ENTRIES) if KINDS[entry.kind].checks == 3)
+        alone = points([*MODEL[:fewer], record, *MODEL[fewer + 1 :]], scheme)
+        self.assertEqual(alone.sum, checks)  # of the five checks no more than the entry has
+
+    def test_parts_of_scheme(self) -> None:
+        """Text and identity come to less than an entry; what is left out goes by the entry."""
+        for lines, text, identity in (
+            ("", "1/2", "1/4"),
+            ("entry = 2", "1", "1/2"),
+            ("entry = 1/3", "1/6", "1/12"),
+            ("entry = 0", "0", "0"),
+            ("text = 2/3", "2/3", "1/4"),
+            ("text = 0\nidentity = 0", "0", "0"),
+            ("entry = 0\ntext = 0\nidentity = 0", "0", "0"),
+            ("identity = 9/10\ntext = 0", "0", "9/10"),
+        ):
+            made = parse_scheme(lines, "scheme")
+            self.assertEqual((made["text"], made["identity"]), (Fraction(text), Fraction(identity)), lines)
+        for lines, line, text, identity, both, entry in (
+            ("text = 3/4", 1, "3/4", "1/4", "1", "1"),
+            ("entry = 1\nidentity = 1/2", 2, "1/2", "1/2", "1", "1"),
+            ("entry = 0\ntext = 1/2", 2, "1/2", "0", "1/2", "0"),
+            ("identity = 1\nentry = 2\n\ntext = 1", 1, "1", "1", "2", "2"),
+        ):
+            with self.assertRaises(Problem) as raised:
+                parse_scheme(lines, "scheme")
+            said = f"scheme, line {line}: text {text} and identity {identity} come to {both}, where less than entry, "
+            self.assertEqual(str(raised.exception), f"{said}{entry}, is wanted: lessen one of them, or make both 0")
 
     def test_order(self) -> None:
         self.assertEqual(points(MODEL[1:] + MODEL[:1]).sum, 12)
@@ -338,7 +383,8 @@ class Schemes(unittest.TestCase):
         number = Steps(DESK, {"number_byte": lambda steps, number: bytes([0x20 | number])})
         text = number.text(ENTRIES[2], RING)  # of kind 2: one of five checks fails
         book = [*MODEL[:2], MODEL[2][:6] + text, *MODEL[3:]]
-        self.assertEqual(points(book, "redundancy byte = 1/10").sum, 11 + Fraction(checks - 1, 10))
+        made = points(book, "redundancy byte = 1/10")
+        self.assertEqual(made.sum, 11 + Fraction(checks - 1, 10) + Fraction(1, 4))  # the identity is right
 
     def test_keys(self) -> None:
         """Values that are handed in count, and what follows from a wrong one counts in part."""
@@ -351,20 +397,31 @@ class Schemes(unittest.TestCase):
         made = points(book, "", values)
         halves = Fraction(1, 2) * (2 + 3)  # two entries; response 1, key 1 and D
         self.assertEqual((made.sum, made.most), (10 + halves + 2 + 1 + 1 + 2 + 1, 24))
-        self.assertEqual(points(book, "follow-through = 0", values).sum, made.sum - halves)
+        none = points(book, "follow-through = 0", values)  # then showing keys costs no part either
+        self.assertEqual(none.sum, made.sum - halves + Fraction(2, 4))
 
     def test_all_right(self) -> None:
-        """Who has every entry right and a key wrong has not all right."""
-        for keys, perfect in (
-            (KeyFile({}), True),
-            (KeyFile(VALUES), True),
-            (KeyFile({**VALUES, "D": bytes(10)}), False),
-            (KeyFile({**VALUES, "O": bytes(2)}), False),
-            (parse("O = 0102030"), False),
+        """All right is who has all that counts: who has every entry right and a key wrong, or one
+        that is asked for and not handed in, has not."""
+        lacks_d = {name: value for name, value in VALUES.items() if name != "D"}
+        for keys, asked, perfect in (
+            (KeyFile({}), 0, True),
+            (KeyFile({}), 1, False),
+            (KeyFile(VALUES), 0, True),
+            (KeyFile(VALUES), 1, True),
+            (KeyFile(lacks_d), 0, True),
+            (KeyFile(lacks_d), 1, False),
+            (KeyFile({**VALUES, "D": bytes(10)}), 0, False),
+            (KeyFile({**VALUES, "O": bytes(2)}), 0, False),
+            (parse("O = 0102030"), 0, False),
         ):
-            sheet = book_sheet(MARKER, "book", b"".join(MODEL), keys)
+            marks = book_sheet(MARKER, "book", b"".join(MODEL), keys)
+            made = score(parse_scheme(f"keys asked = {asked}", "scheme"), marks, MARKER.asked)
+            sheet = replace(marks, points=made)
             self.assertEqual((sheet.right, sheet.perfect), (12, perfect))
             self.assertEqual(summary([sheet]).perfect, int(perfect))
+        no_d = score(parse_scheme("D = 0", "scheme"), book_sheet(MARKER, "book", b"".join(MODEL), KeyFile(lacks_d)), MARKER.asked)
+        self.assertTrue(no_d.whole)  # it counts for nothing
 
 
 class Command(Case):
@@ -379,14 +436,17 @@ class Command(Case):
         self.assertEqual(
             done.decode(),
             f"{book}: 12 of 12 entries right; opens\n  O: 1 byte, not 16\n  right: D\n"
-            "  points 9 of 11 (entries right: 4; D: 5)\n",
+            "  not handed in: session key 1, session key 2, response 1, response 2, key 1, key 2 and G\n"
+            "  points 9 of 20 (entries right: 4 of 4; session keys: 0 of 4; responses: 0 of 2; keys: 0 of 2; "
+            "D: 5 of 5; O: 0 of 2; G: 0 of 1)\n",
         )
         (sheet,) = json.loads(self.accepted("mark", sitting, model, book, "--json"))["sheets"]
         self.assertEqual(sheet["points"]["sum"], "13")
         self.assertEqual([key["state"] for key in sheet["keys"]], ["right", "wrong"])
         pages = self.folder / "pages"
         self.accepted("mark", sitting, model, book, "--html", pages)
-        self.assertIn("13 of 15 points.", (pages / "ann.book.html").read_text())
+        said = "13 of 24 points. All 12 entries right; 1 of 2 keys wrong; 7 keys not handed in."
+        self.assertIn(said, (pages / "ann.book.html").read_text())
 
     def test_scheme(self) -> None:
         self.assertEqual(self.accepted("scheme").decode(), DEFAULT)

@@ -103,8 +103,8 @@ class Pages(Case):
         self.assertEqual(names, [*(f"{name}.book.html" for name in CANDIDATES), "index.html"])
         index = Page(pages / "index.html")
         self.assertEqual(index.links, names[:-1])
-        words = "6 candidates: 1 all right, 3 do not open, 0 not marked. Points, in percent of what each could"
-        self.assertIn(f"{words} reach: mean 79.51, median 83.33 of 100, of all 6 candidates.", index.texts)
+        words = "6 candidates: 1 all right, 3 do not open, 0 not marked. Points: mean 21, median 21.5 of 24"
+        self.assertIn(f"{words}, of all 6 candidates.", index.texts)
         for word in ("RS for RSO", "opens; kind 2 for kind 5", "three zero bits"):
             self.assertIn(word, index.texts)
         at = index.texts.index("3, GCK under O (KSO)", index.texts.index("three zero bits"))
@@ -129,8 +129,8 @@ class Pages(Case):
                 "fay · Key management, 3 December",
                 "Key management, 3 December",
                 "fay",
-                "10 of 12 points. 10 of 12 entries right, 2 wrong. One slip explains 1 of the 2 wrong "
-                "entries: bytes of the version exchanged.",
+                "20 1/2 of 24 points. 10 of 12 entries right, 2 wrong; 2 keys not handed in. One slip explains 1 of "
+                "the 2 wrong entries: bytes of the version exchanged.",
             ],
         )
         for words in (
@@ -203,9 +203,10 @@ class Pages(Case):
         """The keys that were handed in, wrong ones over those that are wanted, and the points."""
         page = Page(self.mark(CLASS / "ben.book") / "ben.book.html")
         for words in ("D (DCK)", "wrong, but right under the candidate's own key 1 and key 2",
-                      "entries right under own keys", "sum, of 24"):  # fmt: skip
+                      "entries right under own keys", "right under own keys: entries 0 and 1",
+                      "wrong: response 1 and response 2", "right under own keys: D"):  # fmt: skip
             self.assertIn(words, page.texts)
-        self.assertEqual(page.texts[page.texts.index("sum, of 24") + 1], "18 1/2")
+        self.assertEqual(page.texts[page.texts.index("sum") :][1:3], ["18 1/2", "24"])
         self.assertEqual((page.marked["b"][0], page.marked["u"][0]), ("9742 399d", "3eaf 8e4f"))
 
     def test_keys_alone(self) -> None:
@@ -217,7 +218,7 @@ class Pages(Case):
         page = Page(self.mark(book, status=1) / "gus.book.html")
         said = next(text for text in page.texts if "entries right" in text)
         self.assertTrue(said.endswith(
-            "All 12 entries right; 3 of 4 keys wrong. One slip explains response 2 and key 2: "
+            "All 12 entries right; 3 of 4 keys wrong; 5 keys not handed in. One slip explains response 2 and key 2: "
             f"{SEALING['ta22-reversed']}."), said)  # fmt: skip
         self.assertIn("wrong: not to be read", page.texts)
 

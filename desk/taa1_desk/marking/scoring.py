@@ -11,7 +11,7 @@ from collections import Counter
 from fractions import Fraction
 from typing import Callable, Iterable, NamedTuple, Sequence
 
-from ..points import NOT_HANDED_IN, Item, Lost, Points
+from ..points import BLANK, NOT_HANDED_IN, Item, Lost, Points
 from ..reading.schemes import ASKED, EXTRA, IDENTITY, SHARE, TEXT, Scheme
 from ..records import KINDS
 from ..sheet import Marked, Marks
@@ -21,7 +21,7 @@ VALUES = {"session key": "session keys", "response": "responses", "key": "keys",
 TEXTS, IDENTITIES = "right texts of other entries", "right identities of other entries"
 FOLLOWING = "entries right under own keys"
 OWN, NONE = "right under own keys", "no record has it"
-BLANK, NOT_READ = "left blank", "not read"
+NOT_READ = "not read"
 
 
 class _Left(NamedTuple):

@@ -208,7 +208,7 @@ def lost_said(lost: Sequence[Lost]) -> str:
 
 def not_handed_in(sheet: Sheet) -> list[str]:
     """The values that are asked for and not handed in; blank rows of a form are named elsewhere."""
-    lost = [each for item in sheet.points.items for each in item.lost] if sheet.points else []
+    lost = sheet.points.not_handed_in if sheet.points else []
     names = [each.what for each in lost if each.why == NOT_HANDED_IN]
     return [f"not handed in: {listed(names)}"] if names else []
 

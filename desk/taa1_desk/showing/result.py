@@ -9,7 +9,7 @@ from ..marking.counting import counts
 from ..names import both
 from ..points import Points, said
 from ..sheet import Explained, KeyMark, Sheet
-from ..words import listed
+from ..words import listed, plural
 from .phrases import UNTIL, reason
 
 WORDS = {1: "One", 2: "Two", 3: "Three", 4: "Four", 5: "Five"}
@@ -34,6 +34,8 @@ def result(sheet: Sheet) -> str:
     states = [mark.state for mark in sheet.keys.marks if mark.state != "idle"]
     bad = len(states) - states.count("right")
     keys = f"; {bad} of {len(states)} keys wrong" if bad else ""
+    absent = len(sheet.points.not_handed_in) if sheet.points else 0
+    keys += f"; {plural(absent, 'key')} not handed in" if absent else ""
     keys += "; the file of keys can't be read" if sheet.keys.unread else ""
     return f"{points}{', '.join(parts)}{own}{keys}.{_explained(sheet, wrong)}"
 
