@@ -343,7 +343,8 @@ class Schemes(unittest.TestCase):
         self.assertEqual(points(renamed, scheme).sum, checks)
         self.assertEqual(points(MODEL[:3] + [MODEL[2]] * 9, scheme).sum, 15)
         fewer = next(at for at, entry in enumerate(ENTRIES) if KINDS[entry.kind].checks == 3)
-        alone = points([*MODEL[:fewer], record, *MODEL[fewer + 1 :]], scheme)
+        unlike = DESK.call("seal_book", RING.data, wrong._replace(key=bytes(10), identity=1).data)["out"]
+        alone = points([*MODEL[:fewer], unlike, *MODEL[fewer + 1 :]], scheme)
         self.assertEqual(alone.sum, checks)  # of the five checks no more than the entry has
 
     def test_parts_of_scheme(self) -> None:
@@ -420,7 +421,8 @@ class Schemes(unittest.TestCase):
             sheet = replace(marks, points=made)
             self.assertEqual((sheet.right, sheet.perfect), (12, perfect))
             self.assertEqual(summary([sheet]).perfect, int(perfect))
-        no_d = score(parse_scheme("D = 0", "scheme"), book_sheet(MARKER, "book", b"".join(MODEL), KeyFile(lacks_d)), MARKER.asked)
+        marks = book_sheet(MARKER, "book", b"".join(MODEL), KeyFile(lacks_d))
+        no_d = score(parse_scheme("D = 0", "scheme"), marks, MARKER.asked)
         self.assertTrue(no_d.whole)  # it counts for nothing
 
 

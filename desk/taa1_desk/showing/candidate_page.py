@@ -44,7 +44,7 @@ section p { margin: 0 0 .2em; }
 @media screen and (max-width: 40em) {
   .keys td:nth-child(2)::before { content: none; }
   .slips td:nth-child(2) { width: auto; }
-  .entries td, .entries td.number { display: inline; padding-right: .5em; }
+  .entries td, .entries td.number, .points td:nth-child(n+2):not(:empty) { display: inline; padding-right: .5em; }
   .entries td:nth-last-child(-n+2)::before { content: none; }
 }
 """
