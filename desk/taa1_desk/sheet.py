@@ -8,6 +8,7 @@ from typing import Mapping, NamedTuple, Optional, Sequence, Union
 
 from taa1 import Refused
 
+from .argument import Argument, Total
 from .handed import LeftOut
 from .points import Points
 from .records import Entry, Ring
@@ -184,13 +185,30 @@ class Sheet(Marks):
     candidate: str = ""  # the name, from a list or from the file's
     points: Optional[Points] = None
     unlisted: bool = False  # there is a list of candidates, and this is none of it
+    argument: Optional[Argument] = None  # None: the examination has none
+    total: Optional[Total] = None  # None: it is the points, and nothing is said of passing
 
     @classmethod
     def of(
-        cls, marks: Marks, name: str, candidate: str = "", points: Optional[Points] = None, unlisted: bool = False
+        cls,
+        marks: Marks,
+        name: str,
+        candidate: str = "",
+        points: Optional[Points] = None,
+        unlisted: bool = False,
+        argument: Optional[Argument] = None,
+        total: Optional[Total] = None,
     ) -> Sheet:
         """The sheet of marks."""
-        return cls(**vars(marks), name=name, candidate=candidate, points=points, unlisted=unlisted)
+        return cls(
+            **vars(marks),
+            name=name,
+            candidate=candidate,
+            points=points,
+            unlisted=unlisted,
+            argument=argument,
+            total=total,
+        )
 
     @property
     def perfect(self) -> bool:
@@ -215,6 +233,14 @@ class Summary(NamedTuple):
     checks: tuple[tuple[int, int, int], ...]  # kind, check, entries that fail it
 
 
+class Argued(NamedTuple):
+    """A listed candidate of whom no hand-in is marked, and whose argument has its points."""
+
+    candidate: str
+    argument: Argument
+    total: Optional[Total]
+
+
 class Class(NamedTuple):
     """A class, marked."""
 
@@ -224,6 +250,7 @@ class Class(NamedTuple):
     absent: tuple[str, ...] = ()  # listed candidates who handed nothing in
     unmarked: tuple[LeftOut, ...] = ()  # listed candidates whose files were all left out
     left_out: tuple[LeftOut, ...] = ()  # every file that was left out and may be somebody's work
+    argued: tuple[Argued, ...] = ()  # of those without a hand-in that is marked, whose argument is
 
     @property
     def has_unread(self) -> bool:

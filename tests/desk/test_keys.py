@@ -262,7 +262,7 @@ class Schemes(unittest.TestCase):
     def test_bad_lines(self) -> None:
         for line, problem in (
             ("entry", "no line of the form NAME = POINTS, as in entry = 1"),
-            ("entries = 1", "no name 'entries': the names are " + ", ".join(SCHEME)),
+            ("entries = 1", "no name 'entries': the names are " + ", ".join((*SCHEME, "pass"))),
             ("entry = 0.5", "entry: '0.5' is no whole number nor a fraction, as 2, 1/2 or -1"),
             ("entry = 1/0", "entry: '1/0' is no whole number nor a fraction, as 2, 1/2 or -1"),
         ):
@@ -440,14 +440,14 @@ class Command(Case):
             f"{book}: 12 of 12 entries right; opens\n  O: 1 byte, not 16\n  right: D\n"
             "  not handed in: session key 1, session key 2, response 1, response 2, key 1, key 2 and G\n"
             "  points 9 of 20 (entries right: 4 of 4; session keys: 0 of 4; responses: 0 of 2; keys: 0 of 2; "
-            "D: 5 of 5; O: 0 of 2; G: 0 of 1)\n",
+            "D: 5 of 5; O: 0 of 2; G: 0 of 1)\n  argument not yet marked, of 10; total 9 of 30 so far\n",
         )
         (sheet,) = json.loads(self.accepted("mark", sitting, model, book, "--json"))["sheets"]
         self.assertEqual(sheet["points"]["sum"], "13")
         self.assertEqual([key["state"] for key in sheet["keys"]], ["right", "wrong"])
         pages = self.folder / "pages"
         self.accepted("mark", sitting, model, book, "--html", pages)
-        said = "13 of 24 points. All 12 entries right; 1 of 2 keys wrong; 7 keys not handed in."
+        said = "13 of 24 points for book and keys; argument not yet marked, of 10. Total 13 of 34 so far. All 12 entries right; 1 of 2 keys wrong; 7 keys not handed in."
         self.assertIn(said, (pages / "ann.book.html").read_text())
 
     def test_scheme(self) -> None:

@@ -225,6 +225,13 @@ def parser(says: str, runs: Mapping[str, Run]) -> Parser:
     )
     _common(papers, bytes="")
     arguing.add_argument("--html", metavar="FILE", help="write a page of HTML")
+    arguing.add_argument(
+        "--candidates", metavar="FILE", help="their names, as for mark: a sheet for each, to write the points on"
+    )
+    arguing.add_argument(
+        "--form", action="store_true", help="write the file of mark --arguments to fill in, a line for each name"
+    )
+    arguing.add_argument("--scheme", metavar="FILE", help="the points of the parts, as for mark")
     _common(arguing, bytes="")
     mark.add_argument(
         "candidate", nargs="+", metavar="CANDIDATE", help="a sealed book, a filled-in answer form, or a folder of such"
@@ -241,6 +248,11 @@ def parser(says: str, runs: Mapping[str, Run]) -> Parser:
     mark.add_argument("--html", metavar="FOLDER", help="write a page for each, and index.html")
     mark.add_argument(
         "--candidates", metavar="FILE", help="their names, a line FILE = Name for each hand-in"
+    )
+    mark.add_argument(
+        "--arguments",
+        metavar="FILE",
+        help="the arguments' points, a line NAME = POINTS for each candidate, or NAME = given 1, one entry half ..",
     )
     mark.add_argument("--csv", action="store_true", help="write a table, a row for each candidate")
     mark.add_argument("--clean", action="store_true", help="remove pages of earlier runs there")

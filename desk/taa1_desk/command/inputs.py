@@ -1,15 +1,16 @@
 # SPDX-License-Identifier: MIT
-"""Sittings, rings, books, schemes and lists of candidates in files."""
+"""Sittings, rings, books, schemes, lists of candidates and arguments' points in files."""
 
 from __future__ import annotations
 
-from typing import Callable, Optional
+from typing import Callable, Optional, Sequence
 
 from taa1 import Sitting
 
+from ..argument import Part
 from ..engine import Engine
 from ..problems import STANDARD, Problem, place
-from ..reading import candidates, schemes
+from ..reading import argument_points, candidates, schemes
 from ..reading.books import parse_plain, parse_sealed
 from ..reading.decoding import lines_text
 from ..reading.sittings import Heading, parse_ring, parse_sitting
@@ -68,3 +69,12 @@ def read_scheme(name: Optional[str], read: Read = read_file) -> schemes.Scheme:
 def read_list(name: Optional[str], read: Read = read_file) -> dict[str, str]:
     """The candidates' names in a list, by their files."""
     return candidates.parse_list(lines_text(read(name), place(name)), place(name)) if name else {}
+
+
+def read_arguments(name: Optional[str], parts: Sequence[Part], read: Read = read_file) -> list[argument_points.Line]:
+    """The points of arguments in a file, by the parts that the scheme has points for."""
+    if name is None:
+        return []
+    if not parts:
+        raise Problem(f"{place(name)}: the scheme has no points for an argument, so it takes no --arguments")
+    return argument_points.parse(lines_text(read(name), place(name)), place(name), parts)

@@ -18,7 +18,8 @@ from ..marker import Marker
 from ..marking.opened import OpenedMarker
 from ..marking.sealed import SealedMarker
 from ..problems import Problem, place, shown
-from ..reading import answerform, candidates, keyfile
+from ..reading import answerform, candidates, keyfile, schemes
+from ..reading.argument_points import whose
 from ..reading.decoding import decoded
 from ..reading.forms import BYTES
 from ..reading.handin import READ_AS
@@ -44,6 +45,7 @@ class Job(NamedTuple):
     bytes: bool = False  # book and hand-ins are bytes, also if they look like text
     forms: tuple[str, ...] = ()  # in which hand-ins are to be read: FORM, or FILE=FORM
     beside: tuple[str, ...] = ()  # more files that are no hand-ins, such as outputs
+    arguments: Optional[str] = None  # the points of the arguments
 
 
 class Outcome(NamedTuple):
@@ -73,11 +75,15 @@ def marked(job: Job, progress: Progress = files.progress) -> Outcome:
     """Reads the files and marks what was handed in. Raises Problem or RefusedFile where there is
     nothing to mark by; what is wrong with a hand-in is said on its sheet."""
     read = _Reader()
-    inputs.once(job.sitting, job.book, *job.hand_ins)
+    inputs.once(job.sitting, job.book, *job.hand_ins, job.arguments or "")
     listed = inputs.read_list(job.names, read)
     scheme = inputs.read_scheme(job.scheme, read)
+    if job.opened and job.arguments is None:  # an exercise, which has no argument unless it is given
+        scheme = schemes.without_argument(scheme)
+    lines = inputs.read_arguments(job.arguments, schemes.argument_parts(scheme), read)
     marker, heading, rows = _marker(job, read)
-    beside = [name for name in (job.sitting, job.book, job.scheme, job.names, *job.beside) if name]
+    named = (job.sitting, job.book, job.scheme, job.names, job.arguments, *job.beside)
+    beside = [name for name in named if name]
     found = folders.hand_ins(job.hand_ins, beside, _judge(marker, listed))
     forms = _forms(job, found.names)
     pages = folders.page_names(found.names, INDEX, found.folders)
@@ -85,7 +91,8 @@ def marked(job: Job, progress: Progress = files.progress) -> Outcome:
     who = candidates.named(found.names, pages, listed, [each.name for each in told], found.folders)
     theirs = {each.file: each.candidate for each in who.left_out}
     left_out = [LeftOut(theirs.get(place(each.name), ""), place(each.name), each.why) for each in told]
-    of = mark_class(marker, _hand_ins(found, forms, rows, read, progress), scheme, who, left_out)
+    given = whose(lines, place(job.arguments or ""), found.names, who, listed, found.folders)
+    of = mark_class(marker, _hand_ins(found, forms, rows, read, progress), scheme, who, left_out, given)
     progress(0, 0)
     return Outcome(of, heading, found, tuple(pages), bool(listed), read.digests)
 

@@ -7,6 +7,7 @@ import argparse
 from typing import Iterator
 
 from ..problems import STANDARD, Problem, place
+from ..showing.argued import alone_said, not_yet_marked
 from ..showing.exports import class_json, csv_text
 from ..showing.phrases import UNLISTED, reading, to_look_at
 from ..showing.sheet_text import sheet_text, summary_text
@@ -41,6 +42,7 @@ def job_of(args: argparse.Namespace) -> Job:
         args.bytes,
         tuple(args.as_ or ()),
         () if args.output == STANDARD else (args.output,),
+        args.arguments,
     )
 
 
@@ -71,6 +73,9 @@ def to_see_to(outcome: Outcome, dry: bool = False) -> Iterator[str]:
     yield from (f"{each.file}: {each.why}" for each in (() if dry else of.left_out))
     if of.absent:
         yield f"nothing was handed in by {', '.join(of.absent)}"
+    yield from (() if dry else map(alone_said, of.argued))
+    if not_yet_marked(of.sheets) and not dry:
+        yield f"argument not yet marked: {', '.join(not_yet_marked(of.sheets))}"
     unlisted = [sheet.candidate for sheet in of.sheets if sheet.unlisted]
     if unlisted:
         yield f"not on the list of candidates: {', '.join(unlisted)}"
@@ -84,7 +89,8 @@ def _write(args: argparse.Namespace, outcome: Outcome) -> None:
     of = outcome.of
     if args.html is not None:
         pages.write(args.html, pages.pages(outcome), args.clean)
-    end = summary_text(of.summary) + "".join(f"  {each.file}: {each.why}\n" for each in of.left_out)
+    end = summary_text(of.summary, of.sheets) + "".join(f"  {each.file}: {each.why}\n" for each in of.left_out)
+    end += "".join(f"  {alone_said(each)}\n" for each in of.argued)
     if args.json:
         emit_text(args, json_text(class_json(of, outcome.heading)))
     elif args.csv:
@@ -92,7 +98,7 @@ def _write(args: argparse.Namespace, outcome: Outcome) -> None:
     elif args.html is not None:
         emit_text(args, end)
     else:
-        end = end if len(of.sheets) > 1 or of.left_out else ""
+        end = end if len(of.sheets) > 1 or of.left_out or of.argued else ""
         emit_text(args, "".join(sheet_text(sheet, outcome.listed) for sheet in of.sheets) + end)
 
 

@@ -5,9 +5,11 @@ from __future__ import annotations
 
 import argparse
 import os
+from typing import Sequence
 
 from taa1 import Sitting
 
+from ..argument import Argument, Part
 from ..showing.argue import argument_sheet
 from ..engine import Engine
 from ..marking.model import model_answer
@@ -15,7 +17,7 @@ from ..marking.opening_slips import OPENING_SLIPS
 from ..marking.slips import EXCHANGES, SLIPS
 from ..marking.trials import tried_names
 from ..problems import STANDARD, Problem, place, shown
-from ..reading import books, schemes, sittings
+from ..reading import argument_points, books, schemes, sittings
 from ..setting import draw
 from ..showing import paper
 from ..showing.document import as_page, as_text
@@ -100,13 +102,34 @@ def run_argue(args: argparse.Namespace) -> int:
     """The marking aid for the argument: claims, true and false, with instances."""
     if args.html is not None and args.output != STANDARD:
         raise Problem("argue: --html writes the page into its file: no -o")
+    if args.form and (args.candidates is None or args.html is not None):
+        raise Problem("argue: --form writes a text with a line for each name, so it wants --candidates and no --html")
+    once(args.sitting, args.book, *filter(None, (args.scheme, args.candidates)))
+    parts = schemes.argument_parts(inputs.read_scheme(args.scheme))
+    listed = inputs.read_list(args.candidates)
+    if not parts:
+        raise Problem(f"{place(args.scheme)}: no points for the argument in it, so there is none to mark")
+    if args.candidates is not None and not listed:
+        raise Problem(f"{place(args.candidates)}: no line FILE = Name in it")
+    if args.form:
+        return _argument_form(args, listed, parts)
     engine, sitting, heading, plain = examination(args)
     ring = sittings.sitting_ring(engine, sitting, place(args.sitting))
-    sheet = argument_sheet(engine, sitting, ring, heading, plain)
+    sheet = argument_sheet(engine, sitting, ring, heading, plain, parts, listed)
     if args.html is not None:
         files.write_file(args.html, as_page(sheet).encode(), private=True)
     else:
         files.write(args.output, as_text(sheet).encode(), private=True)
+    return ACCEPTED
+
+
+def _argument_form(args: argparse.Namespace, listed: dict[str, str], parts: Sequence[Part]) -> int:
+    """Writes a file of arguments with every part blank, over none that may be filled in."""
+    if args.output != STANDARD and os.path.isfile(args.output):
+        raise Problem(f"{shown(args.output)}: it is there already, and may be filled in: give the form another name")
+    blank = Argument(tuple(parts))
+    text = argument_points.lines_text(((file, name, blank) for file, name in listed.items()), parts)
+    emit_text(args, text, new=True)
     return ACCEPTED
 
 

@@ -7,6 +7,8 @@ import re
 from fractions import Fraction
 from typing import Optional
 
+from ..argument import PARTS as RUBRIC
+from ..argument import Part
 from ..points import said
 from ..problems import Problem, quoted
 from .lines import named_values
@@ -34,6 +36,17 @@ order = 0             # each entry in another order than the model's
 
 # text and identity together are less than entry, or both 0. Beside another entry, text is half of
 # it where its line is left out, and identity a quarter. The sum is never below 0.
+
+# The argument, by the parts of its rubric (taa1 argue). All of them 0: the examination has none.
+given = 1
+one entry = 3
+one result = 1        # in the place of 'one entry', where that gets nothing
+properties = 2
+without it = 2
+was sealed = 2
+
+# What is needed to pass, points or a share of all; without such a line nothing is said of it.
+# pass = 60%
 """
 Scheme = dict[str, Fraction]
 COSTS = ("extra", "order")
@@ -42,6 +55,7 @@ ASKED = "keys asked"
 TEXT, IDENTITY = "text", "identity"
 PARTS = {TEXT: Fraction(1, 2), IDENTITY: Fraction(1, 4)}  # of an entry, where no line says it
 EXTRA = "extra records"
+PASS, PASS_SHARE = "pass", "pass in percent"  # a scheme has one of them, or none
 
 
 def parse(text: str, where: str) -> Scheme:
@@ -59,14 +73,33 @@ def parse(text: str, where: str) -> Scheme:
     return scheme
 
 
+def argument_parts(scheme: Scheme) -> tuple[Part, ...]:
+    """The parts of the argument that a scheme has points for; none: the examination has no argument."""
+    return tuple(Part(name, scheme[name]) for name in RUBRIC if scheme[name])
+
+
+def without_argument(scheme: Scheme) -> Scheme:
+    """The scheme of an examination that has no argument."""
+    return {**scheme, **dict.fromkeys(RUBRIC, Fraction(0))}
+
+
+def needed(scheme: Scheme, most: Fraction) -> Optional[Fraction]:
+    """What is needed to pass, of so many points in all; None: the scheme says nothing of it."""
+    if PASS_SHARE in scheme:
+        return most * scheme[PASS_SHARE] / 100
+    return scheme.get(PASS)
+
+
 def _read(text: str, where: str, known: Optional[Scheme]) -> tuple[Scheme, dict[str, int]]:
     """The points of each name, and its line; any name is taken where none is known."""
     scheme: Scheme = {}
     lines: dict[str, int] = {}
     wrong = []
-    names = None if known is None else {name: name for name in known}
+    names = None if known is None else {name: name for name in (*known, PASS)}
     for line in named_values(text, "NAME = POINTS, as in entry = 1", names):
         name, value, problem = line.name, line.value, line.problem or line.again
+        if name == PASS and value.endswith("%"):
+            name, value = PASS_SHARE, value[:-1].rstrip()
         if not problem and not re.fullmatch(r"[+-]?[0-9]{1,9}(\s*/\s*0*[1-9][0-9]{0,8})?", value):
             problem = f"{name}: {quoted(value)} is no whole number nor a fraction, as 2, 1/2 or -1"
         elif not problem:
@@ -89,4 +122,8 @@ def _beyond(name: str, points: Fraction) -> str:
         wanted, good = "0 to 1", 0 <= points <= 1
     elif name == ASKED:
         wanted, good = "0 or 1", points in (0, 1)
+    elif name == PASS:
+        wanted, good = "more than 0", points > 0
+    elif name == PASS_SHARE:
+        wanted, good = "more than 0 and 100 at most", 0 < points <= 100
     return "" if good else f"{name}: {said(points)}, where {wanted} is wanted"

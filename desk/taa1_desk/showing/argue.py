@@ -3,15 +3,24 @@
 
 from __future__ import annotations
 
+from fractions import Fraction
+from typing import Iterable, Mapping, Sequence
+
 from taa1 import Sitting
 
+from ..argument import Argument, Part
 from .claims import CLAIMS, PARTS, RULES, STEPS, Claim
 from ..engine import Engine
-from .document import Block, Boxes, Document, Fields, Head, Noted, Pairs, Table, Together, Words
+from .document import Block, Boxes, Document, Fields, Head, Lines, Noted, Pairs, Table, Together, Words
+from .html import Number
 from .instances import MARKS, Maker, instance_of
 from .paper import QUESTION
+from ..points import said
 from ..records import Ring
 from ..reading.sittings import Heading
+
+PROPOSED = tuple(Part(part.name, Fraction(part.points)) for part in PARTS)  # by the rubric itself
+LINES = 15  # to write on, on a candidate's sheet
 
 
 def _steps() -> list[Block]:
@@ -23,19 +32,36 @@ def _steps() -> list[Block]:
     return [Head("The model argument"), *steps]
 
 
-def _rubric() -> list[Block]:
-    """The parts, with what is worth their points, and the rules."""
+def _parts(weights: Mapping[str, Fraction], places: bool) -> Table:
+    """The parts that have points, with what is worth them, and places to write them."""
     rows = []
     for part in PARTS:
+        if part.name not in weights:
+            continue
         worth = [f"Full: {part.full}"]
         worth += [f"Half: {part.half}"] if part.half else []
         worth += [f"None: {part.none}"] if part.none else []
-        rows.append((part.name, Noted(part.asks, *worth), part.points, Boxes(1)))
-    return [
-        Head("The rubric"),
-        Table(("part", "what it asks, and what it is worth", "of", "points"), rows, "rubric"),
-        Together((Head("Rules", 3), *map(Words, RULES))),
-    ]
+        of = Number(said(weights[part.name]))
+        rows.append((part.name, Noted(part.asks, *worth), of, *[Boxes(1)] * places))
+    return Table(("part", "what it asks, and what it is worth", "of", *["points"] * places), rows, "rubric")
+
+
+def _rubric(weights: Mapping[str, Fraction], for_each: bool) -> list[Block]:
+    """The parts, with what is worth their points, and the rules."""
+    return [Head("The rubric"), _parts(weights, not for_each), Together((Head("Rules", 3), *map(Words, RULES)))]
+
+
+def _for_each(listed: Mapping[str, str], weights: Mapping[str, Fraction], most: Fraction) -> Iterable[Block]:
+    """A sheet for each candidate: the parts of the rubric, with places for the points, and for the
+    labels of sentences."""
+    of = {part.name: part for part in PARTS if part.name in weights}
+    rows = [(name, part.asks, Number(said(weights[name])), Boxes(1)) for name, part in of.items()]
+    for at, (file, name) in enumerate(listed.items(), 1):
+        yield Head(f"{name} ({file}), {at} of {len(listed)}", new_page=True)
+        yield Table(("part", "what it asks", "of", "points"), rows, "rubric")
+        yield Fields((f"Points in all, of {said(most)}", "Marker", "Date"))
+        yield Words("Sentences, by their labels, and remarks:")
+        yield Lines(LINES)
 
 
 def _table() -> list[Block]:
@@ -72,17 +98,25 @@ def _shown(made: Maker, claim: Claim) -> Block:
 
 
 def argument_sheet(
-    desk: Engine, sitting: Sitting, ring: Ring, heading: Heading, plain: bytes
+    desk: Engine,
+    sitting: Sitting,
+    ring: Ring,
+    heading: Heading,
+    plain: bytes,
+    parts: Sequence[Part] = PROPOSED,
+    listed: Mapping[str, str] = {},
 ) -> Document:
     """The question, the model argument, the rubric and the claims with room for marks, and
-    after them their instances."""
+    after them their instances. With a list of candidates the points are written on a sheet for
+    each, after all that they share."""
     made = Maker(desk, sitting, ring, plain)
+    weights, most = {part.name: part.of for part in parts}, Argument(tuple(parts)).most
     blocks: list[Block] = [
-        Fields(("Candidate", "Marker", "Date", "Points in all")),
+        *([] if listed else [Fields(("Candidate", "Marker", "Date", f"Points in all, of {said(most)}"))]),
         Head("The question"),
         Words(QUESTION),
         *_steps(),
-        *_rubric(),
+        *_rubric(weights, bool(listed)),
         *_table(),
         Together(
             (
@@ -93,4 +127,5 @@ def argument_sheet(
         ),
     ]
     blocks += [_shown(made, claim) for claim in CLAIMS]
+    blocks += _for_each(listed, weights, most)
     return Document("Marking aid for the argument", heading.line, blocks)

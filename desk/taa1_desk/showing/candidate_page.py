@@ -10,7 +10,7 @@ from ..names import both, sealing
 from ..points import Points, said as points_said
 from ..records import KINDS, Entry
 from ..sheet import Explained, Flags, KeySheet, Marked, Sheet, Wanted
-from . import comparison
+from . import argued, comparison
 from .comparison import Field, plain_fields, sealed_fields
 from .html import Html, Number, Row, breakable, fields, join, page, pairs, table, tag, text
 from .phrases import (
@@ -31,7 +31,7 @@ from .result import key_result, result
 RESULT = """
 .result { font-size: 1.15em; margin: 0 0 .8em; }
 """
-STYLE = RESULT + comparison.STYLE + """
+STYLE = RESULT + comparison.STYLE + argued.STYLE + """
 .entries tr:not(.right) td:last-child { font-weight: bold; }
 .points, .points .number { width: auto; }
 .points tr:last-child td { font-weight: bold; }
@@ -201,6 +201,7 @@ def sheet_page(sheet: Sheet, wanted: Wanted, heading: str) -> str:
         parts += [text("h2", "What went wrong, and at which step"), _slips(sheet)]
     if sheet.points and sheet.points.items:
         parts += [text("h2", "Points"), _points(sheet.points)]
+    parts += argued.section(sheet)
     if sheet.keys.marks or sheet.keys.problems:
         parts += [text("h2", "Keys of the first two generations"), *_keys(sheet.keys)]
     if sheet.entries:
@@ -211,6 +212,6 @@ def sheet_page(sheet: Sheet, wanted: Wanted, heading: str) -> str:
     if (sheet.missing or sheet.unread) and not sheet.problem:
         title = "What is missing, or was not read" if sheet.unread else "What is missing"
         parts += [text("h2", title), _missing(sheet, wanted)]
-    signature = fields(("Remarks", "Marked by", "Date", "Signature"))
+    signature = fields(("Remarks", *argued.to_write(sheet), "Marked by", "Date", "Signature"))
     parts.append(tag("div", signature, class_="sign"))
     return page(sheet.candidate, *parts, above=heading, style=STYLE, made_by=MADE_BY)

@@ -10,20 +10,25 @@ from __future__ import annotations
 import csv
 import io
 import re
-from typing import Any, Iterable
+from fractions import Fraction
+from typing import Any, Iterable, Optional
 
+from ..argument import Argument, Total
 from ..marking.counting import COUNTED, average, counts, wrong_by_entry
+from ..marking.totals import passing, totals
 from ..points import written
 from ..reading.sittings import Heading
-from ..sheet import Class, Marked, Sheet
+from ..sheet import Argued, Class, Marked, Sheet
+from .argued import yes_or_no
 from .phrases import to_look_at
 
 FORM, VERSION = "taa1 mark", 4
 HEADS = (
-    "candidate", "file", "entries", *COUNTED, "points", "of points", "opens", "slips", "read as",
-    "problem",
+    "candidate", "file", "entries", *COUNTED, "points", "of points", "argument", "of argument",
+    "total", "of total", "passed", "opens", "slips", "read as", "problem",
 )  # fmt: skip
 NOTHING = "nothing was handed in"
+NO_BOOK = "no hand-in is marked, so the book counts 0"
 # What begins a formula in a spreadsheet; full-width signs are taken for the plain ones.
 FORMULA = ("=", "+", "-", "@", "\t", "\r", "\n", "＝", "＋", "－", "＠")
 
@@ -48,14 +53,29 @@ def _row(sheet: Sheet) -> Iterable[Any]:
     slips = "; ".join(slip.name for slip in sheet.slips)
     read_as = "" if sheet.problem else sheet.read_as or "bytes"
     points = map(written, (sheet.points.sum, sheet.points.most)) if sheet.points else ("", "")
-    start = (sheet.candidate, sheet.name, sheet.size, *counts(sheet), *points)
+    argued = _argued(sheet.argument, sheet.total)
+    start = (sheet.candidate, sheet.name, sheet.size, *counts(sheet), *points, *argued)
     return map(_cell, (*start, opens, slips, read_as, "; ".join(to_look_at(sheet))))
+
+
+def _argued(argument: Optional[Argument], total: Optional[Total]) -> tuple[str, ...]:
+    """The argument, the total once the argument is marked, and whether it is passed."""
+    points = argument.points if argument else None
+    marked = total is not None and "argument" not in total.unmarked
+    return (
+        "" if points is None else written(points),
+        written(argument.most) if argument else "",
+        written(total.points) if total and marked else "",
+        written(total.most) if total else "",
+        yes_or_no(total),
+    )
 
 
 def class_json(of: Class, heading: Heading) -> dict[str, Any]:
     """The class for programs."""
     sheets, whole = of.sheets, of.summary
     wrong, points = wrong_by_entry(sheets), average(sheets)
+    whole_, passed = totals(sheets), passing(sheets)
     entries = sorted({entry for counted in wrong.values() for entry in counted})
     return {
         "form": FORM,
@@ -74,6 +94,20 @@ def class_json(of: Class, heading: Heading) -> dict[str, Any]:
                 "candidates": len(points.values),
                 "not_marked": points.unmarked,
             },
+            "arguments_not_marked": sum(bool(s.argument and s.argument.points is None) for s in sheets),
+            "totals": whole_
+            and {
+                "mean": str(whole_.mean),
+                "median": str(whole_.median),
+                "of": str(whole_.most),
+                "in_percent": whole_.shares,
+                "candidates": whole_.candidates,
+                "not_marked": whole_.unmarked,
+            },
+            "passing": passed and passed._asdict(),
+            "arguments_alone": [
+                {"name": each.candidate, **_argued_json(each.argument, each.total)} for each in of.argued
+            ],
             "slips": [{"slip": name, "candidates": count} for name, count in whole.slips],
             "checks": [
                 {"kind": kind, "check": check, "entries": count} for kind, check, count in whole.checks
@@ -94,6 +128,32 @@ def class_json(of: Class, heading: Heading) -> dict[str, Any]:
     }
 
 
+def _argued_json(argument: Optional[Argument], total: Optional[Total]) -> dict[str, Any]:
+    """The argument and the total for programs."""
+
+    def exact(points: Optional[Fraction]) -> Optional[str]:
+        return None if points is None else str(points)
+
+    return {
+        "argument": argument
+        and {
+            "points": exact(argument.points),
+            "of": str(argument.most),
+            "parts": [
+                {"part": part.name, "points": exact(part.points), "of": str(part.of)} for part in argument.parts
+            ],
+        },
+        "total": total
+        and {
+            "points": str(total.points),
+            "of": str(total.most),
+            "counts_0": list(total.unmarked),
+            "needed": exact(total.needed),
+            "passed": total.passed,
+        },
+    }
+
+
 def _key(name: str) -> str:
     return name.replace(" ", "_")
 
@@ -105,15 +165,24 @@ def _absent(name: str, file: str = "", why: str = NOTHING) -> Iterable[Any]:
     return map(_cell, cells.values())
 
 
+def _argued_row(of: Argued) -> Iterable[Any]:
+    """The row of a candidate without a hand-in that is marked, whose argument is."""
+    cells = dict(zip(HEADS, _absent(of.candidate, why=NO_BOOK)))
+    cells.update(zip(HEADS[HEADS.index("argument") :], _argued(of.argument, of.total)))
+    return cells.values()
+
+
 def csv_text(of: Class) -> str:
     """The class, a row for each candidate: first files that were left out and books that are not
     marked, since somebody has to see to them; who handed nothing in stands last."""
     text = io.StringIO()
+    argued = {each.candidate for each in of.argued}
     writer = csv.writer(text, lineterminator="\n")
     writer.writerow(HEADS)
     writer.writerows(_absent(*each) for each in of.left_out)
     writer.writerows(map(_row, sorted(of.sheets, key=lambda sheet: not sheet.problem)))
-    writer.writerows(map(_absent, of.absent))
+    writer.writerows(map(_absent, (name for name in of.absent if name not in argued)))
+    writer.writerows(map(_argued_row, of.argued))
     return text.getvalue()
 
 
@@ -143,6 +212,7 @@ def sheet_json(sheet: Sheet) -> dict[str, Any]:
                 for item in sheet.points.items
             ],
         },
+        **_argued_json(sheet.argument, sheet.total),
         "keys": [
             {
                 "name": mark.name,

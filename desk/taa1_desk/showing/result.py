@@ -10,6 +10,7 @@ from ..names import both
 from ..points import Points, said
 from ..sheet import Explained, KeyMark, Sheet
 from ..words import listed, plural
+from .argued import in_a_sentence
 from .phrases import UNTIL, reason
 
 WORDS = {1: "One", 2: "Two", 3: "Three", 4: "Four", 5: "Five"}
@@ -18,7 +19,7 @@ WORDS = {1: "One", 2: "Two", 3: "Three", 4: "Four", 5: "Five"}
 def result(sheet: Sheet) -> str:
     """A candidate's result in a sentence or two."""
     if sheet.problem:
-        points = f"{sum_of(sheet.points)}. " if sheet.points else ""
+        points = _points(sheet)
         return f"{points}{UNTIL[:1].upper()}{UNTIL[1:]}: {reason(sheet)}.{_explained(sheet, 0)}"
     of = counts(sheet)
     wrong = of.wrong + of.failing
@@ -30,7 +31,7 @@ def result(sheet: Sheet) -> str:
     ):  # fmt: skip
         parts += [f"{count} {what}"] if count else []
     own = f"; {sheet.following} of the wrong are right under own keys" if sheet.following else ""
-    points = f"{sum_of(sheet.points)}. " if sheet.points else ""
+    points = _points(sheet)
     states = [mark.state for mark in sheet.keys.marks if mark.state != "idle"]
     bad = len(states) - states.count("right")
     keys = f"; {bad} of {len(states)} keys wrong" if bad else ""
@@ -38,6 +39,11 @@ def result(sheet: Sheet) -> str:
     keys += f"; {plural(absent, 'key')} not handed in" if absent else ""
     keys += "; the file of keys can't be read" if sheet.keys.unread else ""
     return f"{points}{', '.join(parts)}{own}{keys}.{_explained(sheet, wrong)}"
+
+
+def _points(sheet: Sheet) -> str:
+    """The points, in all where there is a total, in a sentence."""
+    return in_a_sentence(sheet) or (f"{sum_of(sheet.points)}. " if sheet.points else "")
 
 
 def sum_of(points: Points) -> str:
