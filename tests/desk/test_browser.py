@@ -18,9 +18,10 @@ from taa1_desk.showing.pictures import FILLINGS, HEIGHT, STYLE, Part, bar, filli
 
 HEADING = "title = Key management, the winter paper\ndate = 3 December\n"
 BOOK = CLASS / "model.txt"
+ARGUMENTS = "ann = given 1, one entry half, properties 2, was sealed 1/2\nben = 7 1/2\ncho = given 1, properties _\n"
 # The pages, and the sheets of paper that each takes at most.
 PAGES = {
-    "paper": 2, "form": 3, "solution": 13, "model": 6, "argue": 25, "index": 3,
+    "paper": 2, "form": 3, "solution": 13, "model": 6, "argue": 25, "sheets": 26, "index": 3,
     "ann.book": 1, "ben.book": 2, "cho.book": 2, "dee.book": 2, "eve.book": 2, "fay.book": 2,
     "noise.book": 1, "all-wrong.book": 3, "many.book": 2, "gil.txt": 2,
     f"{'e' * 80}.book": 1,
@@ -59,12 +60,16 @@ def _make(folder: Path) -> None:
     sealed, opened = folder / "sealed", folder / "gil.txt"
     sealed.write_bytes(seal())
     opened.write_text(BOOK.read_text().replace("version 513", "version 258").replace("kind 3", "kind 6"))
+    (folder / "arguments").write_text(ARGUMENTS)
+    (folder / "scheme").write_text("pass = 60%\n")
+    argued = ("--arguments", folder / "arguments", "--scheme", folder / "scheme")
     for arguments in (
         ("mark", "--opened", sitting, sealed, opened, "--html", folder),
-        ("mark", sitting, BOOK, *hand_ins, "--candidates", folder / "names", "--html", folder),
+        ("mark", sitting, BOOK, *hand_ins, "--candidates", folder / "names", *argued, "--html", folder),
         ("paper", sitting, BOOK, "--html", folder),
         ("model", sitting, BOOK, "--html", "-o", folder / "model.html"),
         ("argue", sitting, BOOK, "--html", folder / "argue.html"),
+        ("argue", sitting, BOOK, "--candidates", folder / "names", "--html", folder / "sheets.html"),
     ):
         done = taa1(*arguments)
         assert done.status < 2, done.error
@@ -93,6 +98,15 @@ class Looking(unittest.TestCase):
         path.write_text(page("Other", *parts, style=style))
         self.browser.open(path, width)
         return path
+
+    def test_book_and_slips(self) -> None:
+        """On a phone a candidate's last cell has the whole width."""
+        self.browser.open(self.folder / "index.html", PHONE)
+        widths = "[...document.querySelectorAll('.candidates td:last-child')].map(cell => cell.clientWidth)"
+        answer = self.browser.order("Runtime.evaluate", expression=f"JSON.stringify({widths})")
+        found = json.loads(answer["result"]["value"])
+        self.assertGreater(len(found), 8)
+        self.assertGreater(min(found), 0.85 * PHONE)
 
     def test_every_page(self) -> None:
         """The pages that are looked at are those that there are."""

@@ -118,6 +118,16 @@ class Class(Case):
         self.assertGreater(len(keys), 50)
         self.assertEqual([key for key in sorted(keys) if f"`{key}`" not in described], [])
 
+    def test_unmarked_once(self) -> None:
+        """Hand-ins that are not marked for one reason share a row of the class's page."""
+        books = [self.file(f"x{at}.book", "not a book\n") for at in range(5)]
+        taa1("mark", *INPUTS, *books, self.books[0], "--html", self.folder / "pages")
+        page = (self.folder / "pages" / "index.html").read_text()
+        self.assertEqual(page.count("this looks like"), 1)
+        self.assertIn("<td data-head=\"candidate\">x0 (x0.book), x1 (x1.book), ", page)
+        self.assertEqual(page.count("counts 0 until somebody decides"), 1)
+        self.assertEqual(page.count('data-head="book and slips">not marked<'), 5)
+
     def test_bars(self) -> None:
         """Each part of a candidate's bar is as wide as it has entries."""
         taa1("mark", *INPUTS, *self.books, "--html", self.folder / "pages")
@@ -164,7 +174,7 @@ class Maxima(Case):
         out = taa1("mark", *INPUTS, *self.books, *options).out.decode()
         taa1("mark", *INPUTS, *self.books, *options, "--html", self.folder / "pages")
         page = (self.folder / "pages" / "index.html").read_text()
-        return re.findall(r"  (points .*)", out) + re.findall(r"Points.*?(?=\.<|<)", page)
+        return re.findall(r"  (points .*)", out) + re.findall(r"Points[:,].*?(?=\. |\.<|<)", page)
 
     def test_shares(self) -> None:
         """The class is compared by shares of what each could reach."""

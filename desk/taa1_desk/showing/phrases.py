@@ -24,6 +24,7 @@ UNLISTED = "not on the list of candidates"
 WRONG_MEANS = "wrong: not the model's record"
 FAILS_MEANS = "fails a check, or seals no key: not the model's, and who opens it gets a warning and no key"
 UNTIL = "the book is not marked, and counts 0 until somebody decides"
+COUNTS_0 = "Such a book counts 0 until somebody decides. Where nothing else is said, ask for it anew."
 
 
 def verdict(sheet: Sheet) -> str:
@@ -38,6 +39,12 @@ def verdict(sheet: Sheet) -> str:
 def reason(sheet: Sheet) -> str:
     """Why a hand-in is not marked, without the option that marks it all the same."""
     return (sheet.problem or "").partition("; --as ")[0]
+
+
+def why_unmarked(sheet: Sheet) -> str:
+    """Why a hand-in is not marked, and the option that marks it all the same, for any file."""
+    why, option, rest = (sheet.problem or "").partition("; --as ")
+    return f"{why}{option}FILE={rest.rpartition('=')[2]}" if option else why
 
 
 def unmarked_said(sheet: Sheet) -> str:
