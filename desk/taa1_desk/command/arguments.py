@@ -131,9 +131,13 @@ def parser(says: str, runs: Mapping[str, Run]) -> Parser:
         "--entries",
         type=entries,
         metavar="N",
-        help=f"so many entries, every kind among them; default: {draw.ENTRIES}",
+        help="so many entries, each kind as often as the others or once more; "
+        f"default: {draw.ENTRIES}",
     )
-    _common(drawing)
+    which.add_argument(
+        "--like", metavar="MODEL", help="of the kinds of this model book, in its order, all else drawn"
+    )
+    _common(drawing, bytes="")
 
     sitting = command("sitting")
     sitting.add_argument("--names", action="store_true", help="write names, not bytes")

@@ -18,6 +18,7 @@ from ..marking.slips import EXCHANGES, SLIPS
 from ..marking.trials import tried_names
 from ..problems import STANDARD, Problem, place, shown
 from ..reading import argument_points, books, schemes, sittings
+from ..records import PLAIN, Entry, split
 from ..setting import draw
 from ..showing import paper
 from ..showing.document import as_page, as_text
@@ -28,6 +29,7 @@ from .output import ACCEPTED, emit_text, json_text
 
 # What a model without entries means, to the commands that want some.
 NO_ENTRY = {
+    "draw": "there is nothing to draw",
     "paper": "there is nothing to ask for",
     "argue": "there is no instance of a claim",
 }
@@ -43,24 +45,32 @@ def examination(args: argparse.Namespace) -> tuple[Engine, Sitting, sittings.Hea
 
 def model_book(engine: Engine, args: argparse.Namespace) -> bytes:
     """The model, a plain book, with entries in it where the command wants some."""
+    name = args.like if args.command == "draw" else args.book
     if args.command in NO_ENTRY:
-        return inputs.read_model(engine, args.book, args.bytes, NO_ENTRY[args.command])
-    return inputs.read_plain(engine, args.book, args.bytes)
+        return inputs.read_model(engine, name, args.bytes, NO_ENTRY[args.command])
+    return inputs.read_plain(engine, name, args.bytes)
 
 
 def run_draw(args: argparse.Namespace) -> int:
     """A sitting, or a model book, from the system's randomness."""
     if args.output != STANDARD and os.path.isfile(args.output):
         raise Problem(f"{shown(args.output)}: {files.THERE}")
-    given = [name for name in ("sides", "title", "date", "kinds", "entries") if getattr(args, name)]
-    wrong = [name for name in given if (name in ("kinds", "entries")) is not args.book]
+    of_book = ("kinds", "entries", "like")
+    given = [name for name in ("sides", "title", "date", *of_book) if getattr(args, name)]
+    wrong = [name for name in given if (name in of_book) is not args.book]
     if wrong:
         what = "a sitting, and --book draws none" if args.book else "a book: draw --book"
         raise Problem(f"draw: --{wrong[0]} is for {what}")
+    if args.bytes and not args.like:
+        raise Problem("draw: --bytes is for --like, whose model it reads as bytes")
     if args.book:
-        kinds = args.kinds or draw.draw_kinds(args.entries or draw.ENTRIES)
-        plain = draw.draw_book(kinds)
-        Engine().call("check_plain", plain)
+        engine = Engine()
+        if args.like:
+            like = [Entry.of(record) for record in split(model_book(engine, args), PLAIN)]
+            plain = draw.draw_book([e.kind for e in like], {e.identity for e in like})
+        else:
+            plain = draw.draw_book(args.kinds or draw.draw_kinds(args.entries or draw.ENTRIES))
+        engine.call("check_plain", plain)
         emit_text(args, books.format_lines(plain), new=True)
     else:
         data = draw.draw_sitting(args.sides)

@@ -4,7 +4,7 @@
 from __future__ import annotations
 
 import secrets
-from typing import Optional, Sequence
+from typing import Collection, Optional, Sequence
 
 from ..names import KIND_NAMES
 from ..reading.sittings import SITTING
@@ -31,13 +31,18 @@ def draw_sitting(sides: Optional[int]) -> bytes:
 
 
 def draw_kinds(entries: int) -> list[int]:
-    """So many kinds in ascending order, each of the six at least once."""
-    return sorted([*KINDS, *RANDOM.choices(list(KINDS), k=entries - len(KINDS))])
+    """So many kinds in ascending order, each as often as the others or once more; which of them
+    once more is drawn."""
+    each, more = divmod(entries, len(KINDS))
+    return sorted([*KINDS] * each + RANDOM.sample([*KINDS], more))
 
 
-def draw_book(kinds: Sequence[int]) -> bytes:
-    """A plain book with an entry of each of these kinds; no two have the same identity."""
-    identities = RANDOM.sample(range(1 << 24), len(kinds))
+def draw_book(kinds: Sequence[int], without: Collection[int] = ()) -> bytes:
+    """A plain book with an entry of each of these kinds; no two have the same identity, and none
+    has one of those that are given."""
+    drawn = RANDOM.sample(range(1 << 24), len(kinds) + len(without))
+    taken = set(without)
+    identities = [identity for identity in drawn if identity not in taken]
     return b"".join(
         Entry(
             kind,
