@@ -66,13 +66,14 @@ def _make(folder: Path) -> None:
     for arguments in (
         ("mark", "--opened", sitting, sealed, opened, "--html", folder),
         ("mark", sitting, BOOK, *hand_ins, "--candidates", folder / "names", *argued, "--html", folder),
-        ("paper", sitting, BOOK, "--html", folder),
+        ("paper", sitting, BOOK, "--html", folder, "--solution", folder / "own"),
         ("model", sitting, BOOK, "--html", "-o", folder / "model.html"),
         ("argue", sitting, BOOK, "--html", folder / "argue.html"),
         ("argue", sitting, BOOK, "--candidates", folder / "names", "--html", folder / "sheets.html"),
     ):
         done = taa1(*arguments)
         assert done.status < 2, done.error
+    (folder / "own" / "solution.html").rename(folder / "solution.html")
 
 
 @unittest.skipIf(MISSING, MISSING)

@@ -191,16 +191,17 @@ class Paper(Case):
             self.assertFalse((self.folder / "pages").exists())
 
     def test_pages(self) -> None:
-        """Three pages; the solution is its owner's alone. Their text is the command's."""
+        """Two pages, and apart from them the solution, its owner's alone."""
         heading = Heading('<b> "Winter" & more', "3 December")
         sitting = self.file("sitting.txt", format_sitting(sitting_bytes(SITTING), heading))
-        pages = self.folder / "pages"
-        self.assertEqual(self.accepted("paper", sitting, INPUTS[1], "--html", pages), b"")
-        modes = {path.name: stat.S_IMODE(path.stat().st_mode) & 0o077 for path in pages.iterdir()}
-        self.assertEqual(set(modes), {"paper.html", "form.html", "solution.html"})
-        self.assertEqual(modes["solution.html"], 0)
-        self.assertTrue(modes["paper.html"])
-        for path in pages.iterdir():
+        pages, own = self.folder / "pages", self.folder / "own"
+        done = taa1("paper", sitting, INPUTS[1], "--html", pages, "--solution", own)
+        self.assertEqual((done.status, done.out, done.error), (0, b"", ""))
+        self.assertEqual({path.name for path in pages.iterdir()}, {"paper.html", "form.html"})
+        self.assertEqual({path.name for path in own.iterdir()}, {"solution.html"})
+        for path, private in ((pages, False), (pages / "paper.html", False), (own, True), (own / "solution.html", True)):
+            self.assertEqual(stat.S_IMODE(path.stat().st_mode) & 0o077 == 0, private, path.name)
+        for path in (*pages.iterdir(), *own.iterdir()):
             text = path.read_text()
             self.assertEqual(Page(path).links, [])
             self.assertIn("<p>&lt;b&gt; &quot;Winter&quot; &amp; more, 3 December</p>", text)
@@ -218,16 +219,47 @@ class Paper(Case):
 
     def test_all_or_none(self) -> None:
         """Where one page can't be written, the others are as they were."""
-        pages = self.folder / "pages"
-        self.accepted("paper", *INPUTS, "--html", pages)
-        (pages / "solution.html").unlink()
-        (pages / "solution.html").mkdir()
-        before = (pages / "form.html").read_bytes()
+        pages, own = self.folder / "pages", self.folder / "own"
+        folders = ("--html", pages, "--solution", own)
+        self.accepted("paper", *INPUTS, *folders)
         shorter = self.file("book.txt", "".join(LINES.splitlines(True)[:3]))
-        done = taa1("paper", INPUTS[0], shorter, "--html", pages)
-        self.assertEqual((done.status, done.error), (2, f"taa1: {pages}/solution.html: Is a directory\n"))
-        self.assertEqual((pages / "form.html").read_bytes(), before)
-        self.assertEqual(len(list(pages.iterdir())), 3)
+        for bad, kept in ((pages / "form.html", own / "solution.html"), (own / "solution.html", pages / "paper.html")):
+            before = {path: path.read_bytes() for path in (*pages.iterdir(), *own.iterdir()) if path != bad}
+            content = bad.read_bytes()
+            bad.unlink()
+            bad.mkdir()
+            done = taa1("paper", INPUTS[0], shorter, *folders)
+            self.assertEqual((done.status, done.error), (2, f"taa1: {bad}: Is a directory\n"))
+            self.assertIn(kept, before)
+            now = {path: path.read_bytes() for path in (*pages.iterdir(), *own.iterdir()) if path != bad}
+            self.assertEqual(now, before)
+            bad.rmdir()
+            bad.write_bytes(content)
+        new = self.folder / "new"
+        bad = self.file("file", "")
+        for folders in (("--html", new, "--solution", bad), ("--html", bad, "--solution", new)):
+            done = taa1("paper", *INPUTS, *folders)
+            self.assertEqual((done.status, done.out), (2, b""))
+            self.assertFalse(new.exists())
+
+    def test_solution_apart(self) -> None:
+        """No solution lies where candidates' pages do; one of an earlier run is named."""
+        apart = "the worked solution is kept apart from the paper: name another folder"
+        for inner in ("pages", "pages/own", "./pages/../pages", "link"):
+            (self.folder / "link").unlink(missing_ok=True)
+            (self.folder / "link").symlink_to("pages")
+            said = f"{inner}: {apart} than that of --html, and none in it"
+            self.fails(2, said, "paper", *INPUTS, "--html", "pages", "--solution", inner, cwd=self.folder)
+            self.assertFalse((self.folder / "pages").exists())
+        self.assertEqual(taa1("paper", *INPUTS, "--html", "pages", "--solution", "pages2", cwd=self.folder).error, "")
+        said = f"pages: {apart}, since paper.html lies there"
+        self.fails(2, said, "paper", *INPUTS, "--solution", "pages", cwd=self.folder)
+        self.accepted("paper", *INPUTS, "--solution", ".", cwd=self.folder)
+        self.assertEqual((self.folder / "solution.html").read_bytes(), (self.folder / "pages2/solution.html").read_bytes())
+        old = self.file("pages/solution.html", "old")
+        done = taa1("paper", *INPUTS, "--html", "pages", cwd=self.folder)
+        said = "taa1: pages/solution.html: a worked solution of an earlier run lies beside the paper: remove it\n"
+        self.assertEqual((done.status, done.error, old.read_text()), (0, said, "old"))
 
     def test_empty_and_long(self) -> None:
         """A book of no entries has no paper, and one of 1,024 has; a sealed one is called so."""
@@ -244,6 +276,7 @@ class Paper(Case):
         self.assertIn("\n   1023  __ ", said)
 
     def test_wrong_use(self) -> None:
-        said = "paper: --html writes all three pages into its folder: no --part, no -o"
-        for options in (("--part", "form"), ("-o", "f")):
-            self.fails(2, said, "paper", *INPUTS, "--html", "pages", *options, cwd=self.folder)
+        for folder in ("--html", "--solution"):
+            said = f"paper: {folder} writes pages into its folder: no --part, no -o"
+            for options in (("--part", "form"), ("-o", "f")):
+                self.fails(2, said, "paper", *INPUTS, folder, "pages", *options, cwd=self.folder)

@@ -225,7 +225,12 @@ def parser(says: str, runs: Mapping[str, Run]) -> Parser:
     _common(model, bytes="", json="")
     papers.add_argument("--part", choices=tuple(PARTS), help="one of the three; default: all")
     papers.add_argument(
-        "--html", metavar="FOLDER", help="write paper.html, form.html and solution.html"
+        "--html", metavar="FOLDER", help="write paper.html and form.html, the candidates' pages"
+    )
+    papers.add_argument(
+        "--solution",
+        metavar="FOLDER",
+        help="write solution.html, for you alone, into a folder of its own",
     )
     _common(papers, bytes="")
     arguing.add_argument("--html", metavar="FILE", help="write a page of HTML")

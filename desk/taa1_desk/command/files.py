@@ -9,9 +9,9 @@ import stat
 import sys
 import tempfile
 import time
-from contextlib import contextmanager
+from contextlib import ExitStack, contextmanager
 from pathlib import Path
-from typing import Container, Iterable, Iterator
+from typing import Callable, Container, Iterable, Iterator, NamedTuple
 
 from ..problems import STANDARD, Problem, place, shown
 from ..reading.decoding import MOST_BYTES, hex_or_bytes
@@ -158,36 +158,68 @@ def _link(made: str, path: Path) -> None:
         raise Problem(f"{shown(str(path))}: {THERE}") from None
 
 
+class Folder(NamedTuple):
+    """Files for a folder, which ones are private, and what is to be removed there. A folder that
+    has to be made may be private, too."""
+
+    name: str
+    content: dict[str, bytes]
+    private: Container[str] = ()
+    unwanted: Iterable[str] = ()
+    secret: bool = False
+
+
 def write_folder(
     folder: str,
     content: dict[str, bytes],
     private: Container[str] = (),
     unwanted: Iterable[str] = (),
 ) -> None:
-    """Writes files into a folder, which is made where it is missing, and removes the
+    """Writes files into a folder, as write_folders does."""
+    write_folders(Folder(folder, content, private, unwanted))
+
+
+def write_folders(*wanted: Folder) -> None:
+    """Writes files into folders, which are made where they are missing, and removes the
     unwanted: all of it is done, or nothing. A file that was read is not written over."""
-    for name in content:
-        keep(os.path.join(folder, name))
-    with _problems(folder), held() as interrupted:
+    for each in wanted:
+        for name in each.content:
+            keep(os.path.join(each.name, name))
+    with ExitStack() as stack:
+        interrupted = stack.enter_context(held())
+        for each in wanted:
+            stack.enter_context(_written(each, interrupted))
+
+
+@contextmanager
+def _written(wanted: Folder, interrupted: Callable[[], None]) -> Iterator[None]:
+    """Has a folder's files written; where what is done within fails, they are as they were."""
+    folder, content = wanted.name, wanted.content
+    with _problems(folder):
         made = not os.path.isdir(folder)
-        os.makedirs(folder, exist_ok=True)
+        os.makedirs(folder, 0o700 if wanted.secret else 0o777, exist_ok=True)
         try:
             with tempfile.TemporaryDirectory(dir=folder, prefix=".taa1.") as room:
                 (Path(room) / "new").mkdir()
                 for name, data in content.items():
                     interrupted()
                     with _problems(os.path.join(folder, name)):
-                        mode = _mode(Path(folder) / name, name in private)
+                        mode = _mode(Path(folder) / name, name in wanted.private)
                         _fill(Path(room) / "new" / name, data, mode)
-                _exchange(Path(folder), Path(room), content, unwanted)
+                with _exchanged(Path(folder), Path(room), content, wanted.unwanted):
+                    yield
         except BaseException:
             if made:
                 os.rmdir(folder)
             raise
 
 
-def _exchange(folder: Path, room: Path, content: Iterable[str], unwanted: Iterable[str]) -> None:
-    """Puts the room's new files in the places of those in a folder, which wait in the room."""
+@contextmanager
+def _exchanged(
+    folder: Path, room: Path, content: Iterable[str], unwanted: Iterable[str]
+) -> Iterator[None]:
+    """Puts the room's new files in the places of those in a folder, which wait in the room, and
+    back if what is done within fails."""
     old, new = room / "old", room / "new"
     old.mkdir()
     names = [*content, *unwanted]
@@ -200,6 +232,7 @@ def _exchange(folder: Path, room: Path, content: Iterable[str], unwanted: Iterab
                     os.rename(folder / name, old / name)
                 if (new / name).exists():
                     os.rename(new / name, folder / name)
+        yield
     except BaseException:
         for name in names:
             if (old / name).exists():

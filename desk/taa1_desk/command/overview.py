@@ -10,7 +10,7 @@ DAY: dict[str, str] = {
     "draw": "taa1 draw -o sitting.txt",
     "book": "taa1 book model.txt -o model.bin",
     "model": "taa1 model sitting.txt model.txt",
-    "paper": "taa1 paper sitting.txt model.txt --html paper",
+    "paper": "taa1 paper sitting.txt model.txt --html paper --solution solution",
     "seal": "taa1 seal sitting.txt model.txt -o sealed.book",
     "mark": "taa1 mark sitting.txt model.txt class --html pages",
     "argue": "taa1 argue sitting.txt model.txt --html argue.html",

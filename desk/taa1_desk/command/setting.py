@@ -5,7 +5,7 @@ from __future__ import annotations
 
 import argparse
 import os
-from typing import Sequence
+from typing import Iterable, Optional, Sequence
 
 from taa1 import Sitting
 
@@ -93,19 +93,50 @@ def run_model(args: argparse.Namespace) -> int:
 
 def run_paper(args: argparse.Namespace) -> int:
     """The question paper, the blank answer form and the worked solution."""
-    if args.html is not None and (args.part or args.output != STANDARD):
-        raise Problem("paper: --html writes all three pages into its folder: no --part, no -o")
+    folders = {"--html": args.html, "--solution": args.solution}
+    given = [name for name, folder in folders.items() if folder is not None]
+    if given and (args.part or args.output != STANDARD):
+        raise Problem(f"paper: {given[0]} writes pages into its folder: no --part, no -o")
+    _keep_apart(args.html, args.solution)
     engine, sitting, heading, plain = examination(args)
     of = paper.examination(engine, sitting, heading, plain, place(args.sitting))
-    parts = [args.part] if args.part else list(paper.PARTS)
-    documents = {part: paper.PARTS[part](of) for part in parts}
-    if args.html is not None:
-        content = {f"{part}.html": as_page(made).encode() for part, made in documents.items()}
-        files.write_folder(args.html, content, private={"solution.html"})
-    else:
-        text = "\n\n".join(map(as_text, documents.values()))
+    if not given:
+        parts = [args.part] if args.part else list(paper.PARTS)
+        text = "\n\n".join(as_text(paper.PARTS[part](of)) for part in parts)
         files.write(args.output, text.encode(), private="solution" in parts)
+        return ACCEPTED
+    wanted = []
+    if args.html is not None:
+        wanted.append(files.Folder(args.html, _pages(of, paper.CANDIDATES)))
+    if args.solution is not None:
+        pages = _pages(of, [paper.SOLUTION])
+        wanted.append(files.Folder(args.solution, pages, private=pages, secret=True))
+    files.write_folders(*wanted)
+    beside = os.path.join(args.html or "", f"{paper.SOLUTION}.html")
+    if args.html is not None and os.path.exists(beside):
+        files.say(f"{shown(beside)}: a worked solution of an earlier run lies beside the paper: remove it")
     return ACCEPTED
+
+
+def _pages(of: paper.Examination, parts: Iterable[str]) -> dict[str, bytes]:
+    """Parts of an examination as files of HTML."""
+    return {f"{part}.html": as_page(paper.PARTS[part](of)).encode() for part in parts}
+
+
+def _keep_apart(pages: Optional[str], solution: Optional[str]) -> None:
+    """Refuses a folder for the solution that candidates may get: the paper's, or one in it."""
+    if solution is None:
+        return
+    said = f"{shown(solution)}: the worked solution is kept apart from the paper: name another folder"
+    inner = os.path.realpath(solution)
+    if pages is not None:
+        outer = os.path.realpath(pages)
+        if os.path.commonpath((inner, outer)) == outer:
+            raise Problem(f"{said} than that of --html, and none in it")
+    there = [f"{part}.html" for part in paper.CANDIDATES]
+    found = [name for name in there if os.path.exists(os.path.join(solution, name))]
+    if found:
+        raise Problem(f"{said}, since {found[0]} lies there")
 
 
 def run_argue(args: argparse.Namespace) -> int:

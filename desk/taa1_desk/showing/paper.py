@@ -319,8 +319,10 @@ def solution(of: Examination) -> Document:
     return Document("Worked solution", of.heading.line, blocks)
 
 
+SOLUTION = "solution"
 PARTS: dict[str, Callable[[Examination], Document]] = {
     "paper": question_paper,
     "form": answer_form,
-    "solution": solution,
+    SOLUTION: solution,
 }
+CANDIDATES = tuple(part for part in PARTS if part != SOLUTION)  # what they get
