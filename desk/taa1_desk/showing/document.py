@@ -81,11 +81,13 @@ class Noted:
 
 
 class Document(NamedTuple):
-    """A title, what stands over it, and the blocks."""
+    """A title, what stands over it, the blocks, and names of places to write on at the head of
+    every printed sheet."""
 
     title: str
     above: str
     blocks: Sequence[Block]
+    head: Sequence[str] = ()
 
 
 # ---- as text
@@ -145,6 +147,7 @@ def as_text(document: Document) -> str:
     """The document as lines of text."""
     lines = [f"{document.title}, {document.above}" if document.above else document.title]
     lines += ["=" * len(lines[0]), ""]
+    lines += [line for line in _lines(Fields(document.head)) if line]
     for block in document.blocks:
         lines += _lines(block)
     return "\n".join(lines).rstrip("\n") + "\n"
@@ -165,6 +168,11 @@ STYLE = """
 .marked th, .marked td { line-height: 1.3; padding-bottom: .12em; padding-top: .12em; }
 .whose { color: #444; white-space: nowrap; width: 1%; }
 .claims .boxes i:not(.tick) { height: 5.5mm; }
+.sheets, .sheets > thead > tr, .sheets > tbody > tr { break-inside: auto; margin: 0; }
+.sheets > thead > tr > td, .sheets > tbody > tr > td { border: 0; padding: 0; }
+.sheets > thead .fields { margin: 0 0 .8em; }
+.sheets > thead .fields p:first-child { flex: 3 1 14em; }
+.boxed tr:nth-last-child(-n+5), .rounds tr:nth-last-child(-n+9) { break-before: avoid; }
 @media print, (min-width: 40em) {
   .steps { font-size: .9em; line-height: 1.25; }
   .steps td { border-color: #ccc; padding-bottom: .12em; padding-top: .12em; }
@@ -173,6 +181,9 @@ STYLE = """
   .steps td:nth-child(3) { width: 4em; }
   .rows th:nth-child(2), .asked th:nth-child(2) { width: 12em; }
   .claims th:nth-child(n+3), .claims td:nth-child(n+3) { width: 1%; padding-right: .5em; }
+}
+@media screen {
+  .sheets, .sheets > *, .sheets > * > tr, .sheets > * > tr > td { display: block; }
 }
 @media screen and (max-width: 40em) {
   .steps td:nth-child(-n+3), .rows td:nth-child(-n+2) { display: inline; padding-right: .8em; }
@@ -222,5 +233,14 @@ def _html(block: Block) -> Html:
 
 def as_page(document: Document) -> str:
     """The document as a page."""
-    blocks = map(_html, document.blocks)
+    blocks: Iterable[Html] = map(_html, document.blocks)
+    if document.head:
+        blocks = [_headed(document.head, blocks)]
     return html.page(document.title, *blocks, above=document.above, style=STYLE)
+
+
+def _headed(names: Sequence[str], blocks: Iterable[Html]) -> Html:
+    """Blocks in the body of a table, since browsers repeat a table's head on each sheet."""
+    head = tag("thead", tag("tr", tag("td", html.fields(names))))
+    body = tag("tbody", tag("tr", tag("td", join(blocks, "\n"))))
+    return tag("table", head + body, class_="sheets", role="presentation")

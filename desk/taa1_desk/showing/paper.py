@@ -25,6 +25,7 @@ from .html import Code, Row
 from .model import sitting_values
 from .trace import solution_blocks
 
+WHOSE = ("Name", "Candidate's number")  # at the head of each sheet of the form
 ARGUMENT_LINES = 24
 QUESTION = (
     "Why can a sealed text open to one entry only? Say what must be fixed for that, which property "
@@ -189,7 +190,7 @@ def question_paper(of: Examination) -> Document:
 def answer_form(of: Examination) -> Document:
     """Boxes for what is asked."""
     blocks: list[Block] = [
-        Fields(("Name", "Candidate's number", "Date")),
+        Fields(("Date",)),
         Words("A box is a byte, two hexadecimal digits; the leftmost byte comes first."),
     ]
     for title, values in asked(of.sitting.sides):
@@ -200,9 +201,9 @@ def answer_form(of: Examination) -> Document:
     rows_ = [
         (index, *(Boxes(number) for _, number in RECORD)) for index in range(len(of.entries))
     ]
-    blocks += [Head(THIRD), Table(heads, rows_, "form")]
+    blocks += [Head(THIRD), Table(heads, rows_, "form boxed")]
     blocks += [Head(ARGUMENT, new_page=True), Lines(ARGUMENT_LINES)]
-    return Document("Answer form", of.heading.line, blocks)
+    return Document("Answer form", of.heading.line, blocks, WHOSE)
 
 
 # ---- the solution

@@ -119,7 +119,7 @@ def solution_blocks(engine: Engine, key: bytes, block: bytes) -> list[Block]:
     return [
         Words(words),
         Pairs([("key", key), ("block", block), ("output, R then L", trace.output)]),
-        Table(("round", "what", "clause", "value"), rows),
+        Table(("round", "what", "clause", "value"), rows, "rounds"),
     ]
 
 
