@@ -29,6 +29,7 @@ SCREEN, PHONE = 1280, 390  # widths of a window
 HIGH = {SCREEN: 900, PHONE: 844}
 POINTS = {"A4": (595.3, 841.9), "letter": (612.0, 792.0)}
 MARGIN = 15 / 25.4 * 72  # of a printed page's sides, in points
+FOOT = 18 / 25.4 * 72  # the margin at its foot
 DPI = 96  # of a sheet's picture: a letter's strokes are then as dark as they are
 
 # What is wrong with a page: text beyond the edges, over other text, or with a word broken in
@@ -256,6 +257,17 @@ def printed(browser: Browser, page: Path, paper: str) -> Printed:
     if not all(map(_grey, shots)):
         wrong.append("colours")
     return Printed(sheets, wrong)
+
+
+def full(pdf: bytes, paper: str) -> list[float]:
+    """How far down each sheet of a PDF is printed on, of its height between the margins."""
+    top, bottom = (round(at / 72 * DPI) for at in (MARGIN, POINTS[paper][1] - FOOT))
+    made = []
+    for shot in pictures(poppler("pdftoppm", pdf, "-gray", "-r", str(DPI))):
+        rows = (shot.points[at * shot.wide : (at + 1) * shot.wide] for at in range(top, bottom))
+        lowest = max((at for at, row in enumerate(rows, 1) if min(row) < 200), default=0)
+        made.append(lowest / (bottom - top))
+    return made
 
 
 class Picture(NamedTuple):

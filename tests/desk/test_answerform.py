@@ -13,7 +13,7 @@ from taa1_desk.handed import KeyFile
 from taa1_desk.marking.opened import OpenedMarker
 from taa1_desk.marking.sealed import SealedMarker
 from taa1_desk.marking.working import Steps
-from taa1_desk.reading import answerform
+from taa1_desk.reading import answerform, schemes
 from taa1_desk.reading.sittings import Heading
 from taa1_desk.records import SEALED, split
 from taa1_desk.sheet import Sheet
@@ -28,16 +28,19 @@ READER = SealedMarker(DESK, SITTING, RING, PLAIN_BOOK)
 RECORDS = split(seal(), SEALED)
 KEYS = {name: value for name, value in Steps(DESK).keys(SITTING).items() if value and name != "C"}
 FORM = as_text(paper.answer_form(paper.examination(DESK, SITTING, HEADING, PLAIN_BOOK, "f")))
+SCHEME = schemes.parse("session key = 27/2\nO = 2/3\n", "f")
+PRICED = as_text(paper.answer_form(paper.examination(DESK, SITTING, HEADING, PLAIN_BOOK, "f", SCHEME)))
 
 
 def filled(
     records: Iterable[Optional[bytes]] = RECORDS,
     keys: Mapping[str, bytes] = KEYS,
     written: Callable[[int], str] = "{:02x}".format,
+    form: str = FORM,
 ) -> str:
     """The form as a candidate fills it in, box by box; what is None stays blank."""
     lines, rows = [], iter(records)
-    for line in FORM.splitlines():
+    for line in form.splitlines():
         name = re.match(r" +\d+  (.*?) \(", line)
         values = keys.get(name[1]) if name else None
         if re.match(r" +\d+  __ ", line):
@@ -54,6 +57,30 @@ def mark(text: str, keys: Optional[KeyFile] = None) -> Sheet:
 
 class Forms(unittest.TestCase):
     """What is read of a form."""
+
+    def test_points(self) -> None:
+        """The points that a form prints are none of what is filled in."""
+        for words in ("of 13 1/2\n", "of 2/3\n", "of 1\n", "the sealed book, 12 points\n", "bytes   "):
+            self.assertIn(words, PRICED)
+        text = filled(form=PRICED)
+        wanted = answerform.read(filled(), answerform.asked_rows(3))
+        for name, given in (
+            ("as printed", text),
+            ("set to the left", re.sub(r"(?m)^ +", "", text)),
+            ("tabs", re.sub(" {2,}", "\t", text)),
+            ("bars", re.sub(" {2,}", " | ", text)),
+            ("broken lines", re.sub(r" +of ", "\nof ", text)),
+            ("capitals", text.upper()),
+        ):
+            with self.subTest(name):
+                read = answerform.read(given, answerform.asked_rows(3))
+                self.assertEqual(read, wanted)
+                self.assertTrue(mark(given).perfect)
+        blank = answerform.read(PRICED, answerform.asked_rows(3))
+        self.assertEqual((len(blank.blank), blank.is_blank), (9 + len(RECORDS), True))
+        text = text.replace(f"{KEYS['O'][-1]:02x}  of 2/3", "__  of 2/3")
+        said = [problem.split(": ", 1)[1] for problem in answerform.read(text, answerform.asked_rows(3)).keys.problems]
+        self.assertEqual(said, ["15 of 16 boxes are filled in"])
 
     def test_whole(self) -> None:
         """Every box filled in, in any writing."""
@@ -239,7 +266,9 @@ class Command(Case):
     def test_command(self) -> None:
         """The printed form, filled in, has the marks of its book and keys."""
         printed = here("paper", *INPUTS, "--part", "form", cwd=self.folder).out.decode()
-        self.assertEqual(printed.splitlines()[3:], FORM.splitlines()[3:])
+        of = paper.examination(DESK, SITTING, HEADING, PLAIN_BOOK, "f", schemes.parse("", "f"))
+        wanted = as_text(paper.answer_form(of))
+        self.assertEqual(printed.splitlines()[3:], wanted.splitlines()[3:])
         self.file("ann.form", filled())
         done = here("mark", *INPUTS, "ann.form", cwd=self.folder)
         self.assertEqual((done.status, done.error), (0, ""))

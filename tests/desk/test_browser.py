@@ -3,13 +3,14 @@
 from __future__ import annotations
 
 import json
+import re
 import tempfile
 import unittest
 from itertools import combinations
 from pathlib import Path
 from typing import ClassVar
 
-from browser import DPI, MARGIN, MISSING, PHONE, POINTS, SCREEN, Browser, pictures, poppler, printed
+from browser import DPI, MARGIN, MISSING, PHONE, POINTS, SCREEN, Browser, full, pictures, poppler, printed
 from common import CLASS, DESK, RING, SITTING, seal, taa1
 from taa1_desk.marking.working import Steps, xor
 from taa1_desk.records import SEALED, split
@@ -144,6 +145,38 @@ class Looking(unittest.TestCase):
                     self.assertEqual(wrong, [])
                     self.assertLessEqual(len(sheets), most)
 
+    def test_sheets(self) -> None:
+        """Of books of any length, no sheet of paper, form and solution is printed on less than a
+        fifth of it; each sheet of the form has name and number at its head."""
+        sitting, made = self.folder / "sitting.txt", self.folder / "sheets"
+        words = self.folder / "words"
+        words.write_text("Time: 90 minutes.\n\nAids: none, but for TS 104 053-3.\n")
+        for entries in (1, 6, 12, 24, 40, 100):
+            book = self.folder / f"{entries}.txt"
+            book.write_bytes(taa1("draw", "--book", "--kinds", ",".join("123456"[at % 6] for at in range(entries))).out)
+            own = () if entries % 12 else ("--words", words)
+            done = taa1("paper", sitting, book, "--html", made, "--solution", self.folder / "own", *own)
+            self.assertEqual((done.status, done.error), (0, ""))
+            for path in (made / "paper.html", made / "form.html", self.folder / "own" / "solution.html"):
+                self.browser.open(path)
+                for paper in POINTS:
+                    with self.subTest(path.stem, entries=entries, paper=paper):
+                        pdf = self.browser.print(paper)
+                        self.assertGreater(min(full(pdf, paper)), 1 / 5)
+                        if path.stem == "form":
+                            self.assertGreater(self.heads(pdf), 1)
+
+    def heads(self, pdf: bytes) -> int:
+        """How many sheets there are, each with a form's fields within its first sixth."""
+        sheets = poppler("pdftotext", pdf, "-bbox").decode().split("<page ")[1:]
+        for sheet in sheets:
+            high = re.search(r'height="([\d.]+)"', sheet)
+            found = re.findall(r'yMax="([\d.]+)">(?:Name|Candidate.*s|number)<', sheet)
+            self.assertEqual(len(found), 3)
+            assert high
+            self.assertLess(max(map(float, found)), float(high[1]) / 6)
+        return len(sheets)
+
     def test_fillings(self) -> None:
         """In grey, and in black and white, each series of a picture differs from the others."""
         bars = [bar([Part(name, 1)], 1) for name in FILLINGS]
@@ -185,5 +218,9 @@ class Looking(unittest.TestCase):
         for style in ("color: #c00", "border: 1px solid #eef"):
             path = self.show(text("p", "some words", style=style))
             self.assertEqual(printed(self.browser, path, "A4").wrong, ["colours"])
+        self.show(text("p", "high", style="height: 200mm; border: 1px solid"), text("p", "far", style="break-before: page"))
+        most, least = full(self.browser.print("A4"), "A4")
+        self.assertGreater(most, 0.75)
+        self.assertLess(least, 0.05)
         path = self.show(text("p", "high", style="height: 260mm"), text("p", "pale", style="opacity: 0.2"))
         self.assertEqual(printed(self.browser, path, "A4").wrong, ["sheet 2 shows nothing"])

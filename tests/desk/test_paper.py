@@ -2,26 +2,47 @@
 
 from __future__ import annotations
 
+import json
 import re
 import stat
+from fractions import Fraction as F
 from html import unescape
 from unittest import mock
 
 from common import CLASS, DESK, ENTRIES, LINES, PLAIN_BOOK, SITTING, Case, here, seal, taa1
+from reference import SCHEDULE_D
 from taa1 import Sitting
 from taa1_desk.asked import asked
+from taa1_desk.command import files
 from taa1_desk.marking.model import model_answer
 from taa1_desk.marking.working import Steps
 from taa1_desk.names import both
+from taa1_desk.points import said as said_points
+from taa1_desk.reading import schemes
 from taa1_desk.reading.books import format_lines
+from taa1_desk.reading.own_words import paragraphs
 from taa1_desk.reading.sittings import Heading, format_sitting, sitting_bytes
-from taa1_desk.records import PLAIN, SEALED, split
+from taa1_desk.records import KINDS, PLAIN, SEALED, split
 from taa1_desk.showing import paper
+from taa1_desk.showing.claims import PARTS
 from taa1_desk.showing.document import Document, as_page, as_text
 from taa1_desk.showing.html import grouped
+from taa1_desk.showing.worth import Worth
 from test_pages import Page
 
 INPUTS = (CLASS / "sitting.txt", CLASS / "model.txt")
+SCHEME = """entry = 2
+redundancy byte = 1/8
+session key = 7/2
+D = 2
+O = 4
+G = 0
+keys asked = 1
+follow-through = 1/3
+extra = -2
+order = -1/4
+"""
+KEYS = [value.name for _, values in asked(3) for value in values]
 _ROOT, *_TENS = (bytes(range(at, at + 16 if at == 60 else at + 10)) for at in (60, 90, 120, 150, 180, 210))
 OTHER = Sitting(_ROOT, *_TENS, bytes(range(30, 42)), 3, 0x000F, 0x3FF0)  # type: ignore[call-arg, arg-type]
 
@@ -42,6 +63,12 @@ def asked_for(of: paper.Examination) -> list[bytes]:
     records = split(of.model["sealed"], SEALED)
     parts = [part for record in records for part in (record, record[1:4], record[6:])]
     return [key["value"] for key in keys] + parts
+
+
+def sums(said: str) -> list[F]:
+    """The row of points under the paper's last heading."""
+    row = said[said.index("\nPoints\n") :].split("\n")[5]
+    return [sum(map(F, each.split())) for each in re.split(r"\s{2,}", row.strip())]
 
 
 def digits(text: str) -> str:
@@ -274,6 +301,123 @@ class Paper(Case):
         self.file("long.txt", format_lines(PLAIN_BOOK * 85 + PLAIN_BOOK[:72]))
         said = self.accepted("paper", INPUTS[0], "long.txt", "--part", "form", cwd=self.folder).decode()
         self.assertIn("\n   1023  __ ", said)
+
+    def test_misprint(self) -> None:
+        """The byte that 000 misprints is the one that the paper names."""
+        said = " ".join(as_text(paper.question_paper(examined(SITTING))).split())
+        self.assertIn("in clause 6.5 its twelfth byte, D4, is “le”, with a letter l. Read 1e.", said)
+        self.assertEqual((SCHEDULE_D[12 - 1], SCHEDULE_D[15 - 4]), (0x1E, 0x1E))
+
+    def test_points(self) -> None:
+        """The points on the paper are those of the scheme, and their sum is what marking counts."""
+        scheme = self.file("scheme.txt", SCHEME)
+        said = self.accepted("paper", *INPUTS, "--part", "paper", "--scheme", scheme).decode()
+        values = said[said.index("First generation:") : said.index("Third generation:")]
+        rows = re.findall(r"(?m)^ +(\d+)  .*?  +(\d[\d/ ]*)$", values)
+        self.assertEqual([(row, each.strip()) for row, each in rows],
+                         [*zip("123456789", ("3 1/2", "3 1/2", "1", "1", "1", "1", "2", "4", "0"))])  # fmt: skip
+        first, second, book, *_ = sums(said)
+        checks = sum(KINDS[entry.kind].checks for entry in ENTRIES)
+        self.assertEqual((first, second, book), (7, 10, 2 * len(ENTRIES) + F(1, 8) * checks))
+        form = self.accepted("paper", *INPUTS, "--part", "form", "--scheme", scheme).decode()
+        self.assertIn(f"the sealed book, {said_points(book)} points\n", form)
+        self.assertEqual(re.findall(r"of ([\d/ ]+)\n", form), [each.strip() for _, each in rows])
+        keys = {name: value for name, value in Steps(DESK).keys(SITTING).items() if value and name != "C"}
+        self.file("ann.keys", "".join(f"{name} = {value.hex()}\n" for name, value in keys.items()))
+        self.file("ann.book", seal())
+        marked = here("mark", *INPUTS, "ann.book", "--scheme", scheme, "--json", cwd=self.folder)
+        points = json.loads(marked.out)["sheets"][0]["points"]
+        self.assertEqual((F(points["of"]), F(points["sum"])), (first + second + book,) * 2)
+        words = " ".join(said.split())
+        for rule in (
+            "An entry has 2 points if its record is right in every byte.",
+            "Each redundancy byte that is right has 1/8 point, also in a wrong entry.",
+            "What is wrong, but right by your own earlier values, has 1/3 of its points.",
+            "A row that is left blank has none.",
+            "Each record beyond 12 costs 2 points, and each entry out of the order of this paper costs "
+            "1/4 point; the sum is never below 0.",
+        ):
+            self.assertIn(rule, words)
+        plain = self.file("plain.txt", "keys asked = 0\nfollow-through = 0\nextra = 0\n")
+        words = " ".join(self.accepted("paper", *INPUTS, "--part", "paper", "--scheme", plain).decode().split())
+        self.assertIn("A row that is left blank costs nothing: its points are not in what can be reached.", words)
+        for rule in ("own earlier", "beyond", "never below", "redundancy"):
+            self.assertNotIn(rule, words)
+        bad = self.file("bad.txt", "entry = much\n")
+        done = taa1("paper", *INPUTS, "--scheme", bad, "--html", self.folder / "none")
+        self.assertEqual((done.status, (self.folder / "none").exists()), (2, False))
+        self.assertIn("bad.txt, line 1: entry: 'much'", done.error)
+
+    def test_points_of_the_argument(self) -> None:
+        """Its parts in the order of the question, the sum of all, and what is needed to pass."""
+        parts = {part.name: F(part.points) for part in PARTS}
+        scheme: dict[str, F] = {**schemes.parse("", "f"), **parts}
+        for more, needed, name in (
+            ({}, None, ""),
+            ({"pass": F(20)}, F(20), "needed to pass"),
+            ({"pass in percent": F(60)}, F(102, 5), "needed to pass (60%)"),
+        ):
+            of = examined(SITTING)._replace(worth=Worth({**scheme, **more}, KEYS, [e.kind for e in ENTRIES]))
+            said = as_text(paper.question_paper(of))
+            asked_ = said[said.index("asked  ") : said.index("Points\n")]
+            rows = [tuple(re.split(r"\s{2,}", row.strip())) for row in asked_.strip().splitlines()[1:]]
+            others = [(part.asks, str(part.points)) for part in PARTS if part.name not in ("one entry", "one result")]
+            self.assertEqual(rows, [("Why can a sealed text open to one entry only?", "3"), *others])
+            first, second, book, argument, in_all, *last = sums(said)
+            self.assertEqual((first, second, book, argument, in_all), (4, 8, 12, 10, 34))
+            self.assertEqual(last, [] if needed is None else [needed])
+            self.assertEqual("needed to pass" in said, needed is not None)
+            self.assertIn(name, said)
+            self.assertIn("The argument, 10 points\n", as_text(paper.answer_form(of)))
+        none = Worth({**scheme, **dict.fromkeys(parts, F(0))}, KEYS, [e.kind for e in ENTRIES])
+        for document in candidates(examined(SITTING)._replace(worth=none)):
+            for shown in (as_text(document), as_page(document)):
+                self.assertNotIn("argument", shown.lower())
+
+    def test_parts_of_an_entry(self) -> None:
+        """What a wrong record may win, as far as the scheme has it."""
+        for text, identity, wanted in (
+            (F(1, 2), F(1, 4), "A record that is wrong has 1/2 point if kind, version and sealed text are those "
+             "of an entry, and 1/4 point if its ESI is that of an entry."),
+            (F(1, 2), F(0), "A record that is wrong has 1/2 point if kind, version and sealed text are those of an entry."),
+            (F(0), F(1, 4), "A record that is wrong has 1/4 point if its ESI is that of an entry."),
+            (F(0), F(0), ""),
+        ):  # fmt: skip
+            scheme = {**schemes.parse("", "f"), "text": text, "identity": identity}
+            of = examined(SITTING)._replace(worth=Worth(scheme, KEYS, [1]))
+            words = " ".join(as_text(paper.question_paper(of)).split())
+            self.assertIn(wanted, words)
+            self.assertEqual("A record that is wrong" in words, bool(wanted))
+            self.assertIn("Each record beyond the first costs 1 point; the sum", words)
+
+    def test_words(self) -> None:
+        """The setter's words, in their paragraphs, as text; on the paper alone."""
+        given = "Time: <b>90</b> minutes,\nby the clock.\n\n \nAids: none & <script>nothing</script>.  # but this\n"
+        shown = ["Time: <b>90</b> minutes, by the clock.", "Aids: none & <script>nothing</script>. # but this"]
+        for code in ("utf-8", "utf-8-sig", "utf-16"):
+            words = self.file("words.txt", given.encode(code))
+            said = self.accepted("paper", *INPUTS, "--words", words, "--part", "paper").decode()
+            self.assertEqual(said.split("\n\n")[1:3], shown)
+        for part in ("form", "solution"):
+            self.assertNotIn("90", self.accepted("paper", *INPUTS, "--words", words, "--part", part).decode().split("\n\n")[1])
+        self.accepted("paper", *INPUTS, "--words", words, "--html", self.folder / "pages")
+        page = (self.folder / "pages" / "paper.html").read_text()
+        self.assertIn("<p>Time: &lt;b&gt;90&lt;/b&gt; minutes, by the clock.</p>", page)
+        self.assertNotIn("<script", page)
+        for name, content, why in (
+            ("empty", b" \n\n", ": no words in it"),
+            ("long", b"word " * 801, ": 4,004 letters, where the paper has room for 4,000"),
+            ("bell", b"Time\nup\x07\n", ", line 2: '\\x07' can't be printed: take it out"),
+            ("latin", "Zeit f\xfcr\n".encode("latin-1"), ", line 1: not UTF-8"),
+        ):
+            with self.subTest(name):
+                self.file(name, content)
+                self.fails(2, f"{name}{why}", "paper", *INPUTS, "--words", name, "--html", "none", cwd=self.folder)
+        self.assertFalse((self.folder / "none").exists())
+        self.assertEqual(len(paragraphs("word " * 800, "f")[0]), 3999)
+        said = "standard input: it can stand for one file only"
+        self.fails(2, said, "paper", *INPUTS, "--words", "-", "--scheme", "-")
+        self.fails(2, f"{words}: {files.READ}", "paper", *INPUTS, "--words", words, "--part", "paper", "-o", words)
 
     def test_wrong_use(self) -> None:
         for folder in ("--html", "--solution"):

@@ -225,6 +225,12 @@ def parser(says: str, runs: Mapping[str, Run]) -> Parser:
     _common(model, bytes="", json="")
     papers.add_argument("--part", choices=tuple(PARTS), help="one of the three; default: all")
     papers.add_argument(
+        "--scheme", metavar="FILE", help="the points to print; default: those that taa1 scheme prints"
+    )
+    papers.add_argument(
+        "--words", metavar="FILE", help="your own words for the paper: time, aids, how to hand in"
+    )
+    papers.add_argument(
         "--html", metavar="FOLDER", help="write paper.html and form.html, the candidates' pages"
     )
     papers.add_argument(

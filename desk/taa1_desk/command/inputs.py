@@ -13,6 +13,7 @@ from ..problems import STANDARD, Problem, place
 from ..reading import argument_points, candidates, schemes
 from ..reading.books import parse_plain, parse_sealed
 from ..reading.decoding import lines_text
+from ..reading.own_words import paragraphs
 from ..reading.sittings import Heading, parse_ring, parse_sitting
 from ..records import Ring
 from .files import read as read_file
@@ -78,3 +79,8 @@ def read_arguments(name: Optional[str], parts: Sequence[Part], read: Read = read
     if not parts:
         raise Problem(f"{place(name)}: the scheme has no points for an argument, so it takes no --arguments")
     return argument_points.parse(lines_text(read(name), place(name)), place(name), parts)
+
+
+def read_words(name: Optional[str], read: Read = read_file) -> tuple[str, ...]:
+    """A setter's own words for the paper, in paragraphs."""
+    return paragraphs(lines_text(read(name), place(name)), place(name)) if name else ()

@@ -79,7 +79,7 @@ def lengths(refused: Refused, call: Call, labels: Sequence[str], given: Sequence
     )
 
 
-INPUTS = ("sitting", "book", "ring", "file", "scheme", "candidates", "arguments")  # options with a file's name
+INPUTS = ("sitting", "book", "ring", "file", "scheme", "candidates", "arguments", "words")  # options with a file's name
 
 
 def keep_inputs(args: argparse.Namespace) -> None:

@@ -98,8 +98,10 @@ def run_paper(args: argparse.Namespace) -> int:
     if given and (args.part or args.output != STANDARD):
         raise Problem(f"paper: {given[0]} writes pages into its folder: no --part, no -o")
     _keep_apart(args.html, args.solution)
+    once(*filter(None, (args.sitting, args.book, args.scheme, args.words)))
     engine, sitting, heading, plain = examination(args)
-    of = paper.examination(engine, sitting, heading, plain, place(args.sitting))
+    scheme, words = inputs.read_scheme(args.scheme), inputs.read_words(args.words)
+    of = paper.examination(engine, sitting, heading, plain, place(args.sitting), scheme, words)
     if not given:
         parts = [args.part] if args.part else list(paper.PARTS)
         text = "\n\n".join(as_text(paper.PARTS[part](of)) for part in parts)

@@ -107,15 +107,18 @@ class _Row(NamedTuple):
         return f"line {self.line}, {self.name}: {said}"
 
 
-def _head(*words: str) -> re.Pattern[str]:
-    """A table's head, however its words are set apart."""
-    return re.compile(r"\W*" + r"\W+".join(re.escape(word) for word in words) + r"\W*$", re.I)
+def _head(*words: str, more: str = "") -> re.Pattern[str]:
+    """A table's head, however its words are set apart; one more word may stand after them."""
+    last = rf"(?:\W+{more})?" if more else ""
+    return re.compile(r"\W*" + r"\W+".join(map(re.escape, words)) + last + r"\W*$", re.I)
 
 
-_KEYS = _head(*ROW)
+_KEYS = _head(*ROW, more="points")
 _BOOK = _head("entry", *(word for name, _ in RECORD for word in name.split()))
 _END = _head(*ARGUMENT.split())
 _TITLES = {short(title) for title in (THIRD, *(title for title, _ in GENERATIONS))}
+# Points that the form prints, after a title and at the end of a row.
+_WORTH = re.compile(r"(?:, [\d/ ]{1,24}points?|\bof [\d/ ]{1,24})\W{0,4}$", re.I)
 _RULE = frozenset("-=_*~+| \t")  # what lines are drawn of
 _NUMBER = "#.:)(*-"  # what may stand around a row's number
 MOST_ROWS = 9  # digits of a row's number
@@ -184,7 +187,8 @@ def _rows(text: str, rows_asked: Sequence[str]) -> list[_Row]:
     """The rows of both tables; one that was broken in two is joined again."""
     table: Optional[re.Pattern[str]] = None
     rows: list[_Row] = []
-    for number, line in enumerate(text.splitlines(), 1):
+    for number, whole in enumerate(text.splitlines(), 1):
+        line = _WORTH.sub("", whole)
         head = next((each for each in (_KEYS, _BOOK, _END) if each.match(line)), None)
         if head:
             table = head

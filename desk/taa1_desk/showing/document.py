@@ -193,7 +193,10 @@ STYLE = """
   .pairs .whose { white-space: normal; }
   .boxes i { width: 5.2mm; }
 }
-@media print { .new { break-before: page; margin-top: 0; } }
+@media print {
+  h2 { margin-top: 1.2em; }
+  .new { break-before: page; margin-top: 0; }
+}
 """
 
 

@@ -7,7 +7,7 @@ things are called. The solution is the working, step by step, with the engine's 
 
 from __future__ import annotations
 
-from typing import Any, Callable, Iterator, NamedTuple, Sequence
+from typing import Any, Callable, Iterator, NamedTuple, Optional, Sequence
 
 from taa1 import Sitting
 
@@ -17,16 +17,23 @@ from ..marking.clauses import STEPS as WORKED
 from ..marking.model import model_answer
 from ..marking.working import Step, Steps, ring_of
 from ..names import IN_SITTING, KIND_NAMES, both, sealing
+from ..points import said
 from ..problems import Problem
+from ..reading.schemes import Scheme
 from ..reading.sittings import Heading
 from ..records import KINDS, PLAIN, Entry, split
 from .document import Block, Boxes, Document, Fields, Head, Lines, Pairs, Table, Together, Words
-from .html import Code, Row
+from .html import Code, Number, Row
 from .model import sitting_values
 from .trace import solution_blocks
+from .worth import Worth, argument_table, points, summary
 
 WHOSE = ("Name", "Candidate's number")  # at the head of each sheet of the form
 ARGUMENT_LINES = 24
+MISPRINT = (
+    "TS 104 053-3 V1.1.1 misprints the key schedule's constant D, which is not the key D: in clause "
+    "6.5 its twelfth byte, D4, is “le”, with a letter l. Read 1e."
+)
 QUESTION = (
     "Why can a sealed text open to one entry only? Say what must be fixed for that, which property "
     "of each step of the sealing your argument uses, and what is no longer so without it. Then say "
@@ -45,10 +52,23 @@ class Examination(NamedTuple):
     strings: list[Step]  # that of TA61's strings
     records: list[list[Step]]  # and that of each entry
     cipher: list[Block]  # the trace of one block
+    worth: Optional[Worth] = None  # the points, if they are printed
+    words: Sequence[str] = ()  # the setter's own, in paragraphs
+
+    @property
+    def argued(self) -> bool:
+        """Whether an argument is asked for."""
+        return self.worth is None or not self.worth.no_argument
 
 
 def examination(
-    engine: Engine, sitting: Sitting, heading: Heading, plain: bytes, where: str
+    engine: Engine,
+    sitting: Sitting,
+    heading: Heading,
+    plain: bytes,
+    where: str,
+    scheme: Optional[Scheme] = None,
+    words: Sequence[str] = (),
 ) -> Examination:
     """Works a sitting, by the engine's calls and step by step; both must agree."""
     model = model_answer(engine, sitting, plain, where)
@@ -69,7 +89,13 @@ def examination(
         raise Problem("the working, step by step, is not what the engine answers: no page is made")
     bc = next(step.inputs for step in of_strings if step.method == "bc")
     cipher = solution_blocks(engine, bc["key"], bc["block"])
-    return Examination(heading, sitting, entries, model, keys, of_strings, records, cipher)
+    worth = None
+    if scheme is not None:
+        values = [value.name for _, each in asked(sitting.sides) for value in each]
+        worth = Worth(scheme, values, [entry.kind for entry in entries])
+    return Examination(
+        heading, sitting, entries, model, keys, of_strings, records, cipher, worth, words
+    )
 
 
 def chosen(mask: int) -> str:
@@ -130,13 +156,26 @@ def _decimals(kinds: Sequence[int]) -> str:
     )
 
 
+def _points(of: Examination) -> list[str]:
+    """The head of a column of points, if they are printed."""
+    return ["points"] if of.worth else []
+
+
+def _worth(of: Examination, name: str) -> list[Number]:
+    """A value's points, if they are printed."""
+    return [Number(said(of.worth.value(name)))] if of.worth else []
+
+
 def question_paper(of: Examination) -> Document:
     """What is given, and what is asked."""
     kinds = sorted({entry.kind for entry in of.entries})
     generations: list[Block] = []
     for title, values in asked(of.sitting.sides):
-        rows = [(value.row, both(value.name), value.length, value.how) for value in values]
-        table = Table((*ROW, "made by"), rows, "asked")
+        rows = [
+            (value.row, both(value.name), value.length, value.how, *_worth(of, value.name))
+            for value in values
+        ]
+        table = Table((*ROW, "made by", *_points(of)), rows, "asked")
         generations.append(Together((Head(title, 3), table)))
     sealed = "; ".join(f"{name} ({count})" for name, count in RECORD)
     kind_rows = [
@@ -160,15 +199,21 @@ def question_paper(of: Examination) -> Document:
     if kinds:
         heads = ("kind", "seals", "by", "version", "number", "sealed text")
         third.append(Table(heads, kind_rows))
+    last: list[Block] = [Head(ARGUMENT, 3), Words(QUESTION)] if of.argued else third
+    if of.worth:
+        last += [*argument_table(of.worth), *summary(of.worth)]
+    argument = ", and the argument after them" if of.argued else ""
     return Document(
         "Question paper",
         of.heading.line,
         [
+            *map(Words, of.words),
             Words(
                 "Bytes are in hexadecimal, the leftmost first; the one at the right end of a "
                 f"string is B0. {_decimals(kinds)} "
-                "Write the answers on the form, and the argument after them."
+                f"Write the answers on the form{argument}."
             ),
+            Words(MISPRINT),
             Head("What is given"),
             _given(of.sitting),
             Head("The plain entries"),
@@ -176,13 +221,8 @@ def question_paper(of: Examination) -> Document:
             Head("What is asked"),
             *generations,
             *_idle(of.sitting.sides),
-            Together(third),
-            Together(
-                (
-                    Head(ARGUMENT, 3),
-                    Words(QUESTION),
-                )
-            ),
+            *([Together(third)] if of.argued else []),
+            Together(last),
         ],
     )
 
@@ -194,15 +234,23 @@ def answer_form(of: Examination) -> Document:
         Words("A box is a byte, two hexadecimal digits; the leftmost byte comes first."),
     ]
     for title, values in asked(of.sitting.sides):
-        rows = [(value.row, both(value.name), Boxes(value.length)) for value in values]
-        table = Table(ROW, rows, "form rows")
+        rows = [
+            (value.row, both(value.name), Boxes(value.length), *(f"of {n}" for n in _worth(of, value.name)))
+            for value in values
+        ]
+        table = Table((*ROW, *_points(of)), rows, "form rows")
         blocks.append(Together((Head(title), table)))
     heads = ("entry", *(name for name, _ in RECORD))
     rows_ = [
         (index, *(Boxes(number) for _, number in RECORD)) for index in range(len(of.entries))
     ]
-    blocks += [Head(THIRD), Table(heads, rows_, "form boxed")]
-    blocks += [Head(ARGUMENT, new_page=True), Lines(ARGUMENT_LINES)]
+    worth = of.worth.parts if of.worth else {}
+    third, argument = (
+        f"{title}, {points(worth[title])}" if title in worth else title for title in (THIRD, ARGUMENT)
+    )
+    blocks += [Head(third), Table(heads, rows_, "form boxed")]
+    if of.argued:
+        blocks += [Head(argument, new_page=True), Lines(ARGUMENT_LINES)]
     return Document("Answer form", of.heading.line, blocks, WHOSE)
 
 
