@@ -67,14 +67,15 @@ def _make(folder: Path) -> None:
     for arguments in (
         ("mark", "--opened", sitting, sealed, opened, "--html", folder),
         ("mark", sitting, BOOK, *hand_ins, "--candidates", folder / "names", *argued, "--html", folder),
-        ("paper", sitting, BOOK, "--html", folder, "--solution", folder / "own"),
+        ("paper", sitting, BOOK, "--html", folder / "set", "--solution", folder / "own"),
         ("model", sitting, BOOK, "--html", "-o", folder / "model.html"),
         ("argue", sitting, BOOK, "--html", folder / "argue.html"),
         ("argue", sitting, BOOK, "--candidates", folder / "names", "--html", folder / "sheets.html"),
     ):
         done = taa1(*arguments)
         assert done.status < 2, done.error
-    (folder / "own" / "solution.html").rename(folder / "solution.html")
+    for path in (*folder.glob("set/*"), *folder.glob("own/*")):
+        path.rename(folder / path.name)
 
 
 @unittest.skipIf(MISSING, MISSING)

@@ -7,6 +7,7 @@ import re
 import stat
 from fractions import Fraction as F
 from html import unescape
+from typing import Optional
 from unittest import mock
 
 from common import CLASS, DESK, ENTRIES, LINES, PLAIN_BOOK, SITTING, Case, here, seal, taa1
@@ -68,7 +69,7 @@ def asked_for(of: paper.Examination) -> list[bytes]:
 def sums(said: str) -> list[F]:
     """The row of points under the paper's last heading."""
     row = said[said.index("\nPoints\n") :].split("\n")[5]
-    return [sum(map(F, each.split())) for each in re.split(r"\s{2,}", row.strip())]
+    return [sum(map(F, each.split()), F(0)) for each in re.split(r"\s{2,}", row.strip())]
 
 
 def digits(text: str) -> str:
@@ -352,11 +353,12 @@ class Paper(Case):
         """Its parts in the order of the question, the sum of all, and what is needed to pass."""
         parts = {part.name: F(part.points) for part in PARTS}
         scheme: dict[str, F] = {**schemes.parse("", "f"), **parts}
-        for more, needed, name in (
+        wanted: tuple[tuple[dict[str, F], Optional[F], str], ...] = (
             ({}, None, ""),
             ({"pass": F(20)}, F(20), "needed to pass"),
             ({"pass in percent": F(60)}, F(102, 5), "needed to pass (60%)"),
-        ):
+        )
+        for more, needed, name in wanted:
             of = examined(SITTING)._replace(worth=Worth({**scheme, **more}, KEYS, [e.kind for e in ENTRIES]))
             said = as_text(paper.question_paper(of))
             asked_ = said[said.index("asked  ") : said.index("Points\n")]
