@@ -379,17 +379,17 @@ class Paper(Case):
     def test_parts_of_an_entry(self) -> None:
         """What a wrong record may win, as far as the scheme has it."""
         for text, identity, wanted in (
-            (F(1, 2), F(1, 4), "A record that is wrong has 1/2 point if kind, version and sealed text are those "
-             "of an entry, and 1/4 point if its ESI is that of an entry."),
-            (F(1, 2), F(0), "A record that is wrong has 1/2 point if kind, version and sealed text are those of an entry."),
-            (F(0), F(1, 4), "A record that is wrong has 1/4 point if its ESI is that of an entry."),
+            (F(1, 2), F(1, 4), "A wrong record has 1/2 point for kind, version and sealed text, and 1/4 point for the ESI "
+             "of an entry without a right one."),
+            (F(1, 2), F(0), "A wrong record has 1/2 point for kind, version and sealed text of an entry without a right one."),
+            (F(0), F(1, 4), "A wrong record has 1/4 point for the ESI of an entry without a right one."),
             (F(0), F(0), ""),
         ):  # fmt: skip
             scheme = {**schemes.parse("", "f"), "text": text, "identity": identity}
             of = examined(SITTING)._replace(worth=Worth(scheme, KEYS, [1]))
             words = " ".join(as_text(paper.question_paper(of)).split())
             self.assertIn(wanted, words)
-            self.assertEqual("A record that is wrong" in words, bool(wanted))
+            self.assertEqual("A wrong record" in words, bool(wanted))
             self.assertIn("Each record beyond the first costs 1 point; the sum", words)
 
     def test_words(self) -> None:

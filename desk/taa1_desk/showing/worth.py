@@ -8,7 +8,7 @@ from typing import NamedTuple, Optional, Sequence
 
 from ..asked import ARGUMENT, GENERATIONS, THIRD
 from ..points import said
-from ..reading.schemes import ASKED, SHARE, Scheme
+from ..reading.schemes import ASKED, IDENTITY, SHARE, TEXT, Scheme
 from ..records import KINDS
 from .claims import PARTS
 from .document import Block, Head, Table, Words
@@ -92,11 +92,10 @@ def _of_entries(worth: Worth) -> list[str]:
     """What entries win that are right, in part, or wrong."""
     scheme = worth.scheme
     rules = [f"An entry has {points(scheme['entry'])} if its record is right in every byte."]
-    text, identity = (scheme.get(name, NONE) for name in ("text", "identity"))
-    won = [f"{points(text)} if kind, version and sealed text are those of an entry"] if text else []
-    won += [f"{points(identity)} if its ESI is that of an entry"] if identity else []
+    has = ((TEXT, "kind, version and sealed text"), (IDENTITY, "the ESI"))
+    won = [f"{points(scheme[part])} for {what}" for part, what in has if scheme[part]]
     if won:
-        rules.append(f"A record that is wrong has {', and '.join(won)}.")
+        rules.append(f"A wrong record has {', and '.join(won)} of an entry without a right one.")
     check = scheme["redundancy byte"]
     if check:
         rules.append(f"Each redundancy byte that is right has {points(check)}, also in a wrong entry.")
