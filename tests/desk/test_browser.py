@@ -22,7 +22,7 @@ BOOK = CLASS / "model.txt"
 ARGUMENTS = "ann = given 1, one entry half, properties 2, was sealed 1/2\nben = 7 1/2\ncho = given 1, properties _\n"
 # The pages, and the sheets of paper that each takes at most.
 PAGES = {
-    "paper": 2, "form": 3, "solution": 13, "model": 6, "argue": 25, "sheets": 26, "index": 3,
+    "paper": 3, "form": 3, "solution": 13, "model": 6, "argue": 25, "sheets": 26, "index": 3,
     "ann.book": 1, "ben.book": 2, "cho.book": 2, "dee.book": 2, "eve.book": 2, "fay.book": 2,
     "noise.book": 1, "all-wrong.book": 3, "many.book": 2, "gil.txt": 2,
     f"{'e' * 80}.book": 1,
