@@ -34,6 +34,7 @@ RESULT = """
 STYLE = RESULT + comparison.STYLE + argued.STYLE + """
 .entries tr:not(.right) td:last-child { font-weight: bold; }
 .points, .points .number { width: auto; }
+.points td { padding-bottom: .05em; padding-top: .05em; }
 .points tr:last-child td { font-weight: bold; }
 .keys td { padding-right: 1.2em; }
 .slips td:nth-child(2) { width: 36%; }
