@@ -609,7 +609,9 @@ class Command(Case):
         self.file("ben.hex", BOOK.hex())
         words = "12 of 12 entries right; opens; read as hexadecimal"
         alone = ("--scheme", self.file("scheme.txt", "keys asked = 0\n"))
-        self.assertEqual(self.mark("ben.hex", *alone).out.decode(), f"ben.hex: {words}\n  points 12 of 12\n")
+        argument = "argument not yet marked, of 10; total 12 of 22 so far"
+        said = f"ben.hex: {words}\n  points 12 of 12\n  {argument}\n"
+        self.assertEqual(self.mark("ben.hex", *alone).out.decode(), said)
         sheet = json.loads(self.mark("ben.hex", "--json").out)["sheets"][0]
         self.assertEqual(sheet["read_as"], "hexadecimal")
         self.mark("ben.hex", "--html", "pages")

@@ -129,8 +129,8 @@ class Pages(Case):
                 "fay · Key management, 3 December",
                 "Key management, 3 December",
                 "fay",
-                "20 1/2 of 24 points. 10 of 12 entries right, 2 wrong; 2 keys not handed in. One slip explains 1 of "
-                "the 2 wrong entries: bytes of the version exchanged.",
+                "20 1/2 of 24 points for book and keys; argument not yet marked, of 10. Total 20 1/2 of 34 so far. "
+                "10 of 12 entries right, 2 wrong; 2 keys not handed in. One slip explains 1 of the 2 wrong entries: bytes of the version exchanged.",
             ],
         )
         for words in (
@@ -304,7 +304,7 @@ class Pages(Case):
         empty = self.file("empty.book", b"")
         pages = self.mark(self.folder / "missing.book", empty, status=1)
         said = "\n".join(Page(pages / "index.html").texts)
-        self.assertIn("not marked: No such file or directory", said)
+        self.assertIn("\nmissing (missing.book)\nNo such file or directory\n", said)
         Page(pages / "missing.book.html")
         Page(pages / "empty.book.html")
 
