@@ -272,7 +272,7 @@ class Command(Case):
         self.file("ann.form", filled())
         done = here("mark", *INPUTS, "ann.form", cwd=self.folder)
         self.assertEqual((done.status, done.error), (0, ""))
-        first, right, points = done.out.decode().splitlines()
+        first, right, points, *_ = done.out.decode().splitlines()
         self.assertEqual(first, "ann.form: 12 of 12 entries right; opens; read as an answer form")
         self.assertEqual(points.split(" (")[0], "  points 24 of 24")
         out = here("mark", *INPUTS, "ann.form", "--json", cwd=self.folder).out

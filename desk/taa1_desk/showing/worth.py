@@ -6,9 +6,10 @@ from __future__ import annotations
 from fractions import Fraction
 from typing import NamedTuple, Optional, Sequence
 
+from ..argument import IN_ITS_PLACE, ONE_ENTRY
 from ..asked import ARGUMENT, GENERATIONS, THIRD
 from ..points import said
-from ..reading.schemes import ASKED, IDENTITY, SHARE, TEXT, Scheme
+from ..reading.schemes import ASKED, IDENTITY, PASS_SHARE, SHARE, TEXT, Scheme, needed
 from ..records import KINDS
 from .claims import PARTS
 from .document import Block, Head, Table, Words
@@ -21,7 +22,6 @@ SHORT = {
     THIRD: "sealed book",
     ARGUMENT: "argument",
 }
-ONE_ENTRY, IN_ITS_PLACE = "one entry", "one result"  # the second counts where the first gets nothing
 
 
 def points(number: Fraction) -> str:
@@ -49,7 +49,7 @@ class Worth(NamedTuple):
     @property
     def argument(self) -> list[tuple[str, Fraction]]:
         """The questions of the argument with their points, in the order in which they are asked."""
-        worth = {part.name: self.scheme.get(part.name, NONE) for part in PARTS}
+        worth = {part.name: self.scheme[part.name] for part in PARTS}
         worth[ONE_ENTRY] = max(worth[ONE_ENTRY], worth.pop(IN_ITS_PLACE))
         asks = {part.name: part.asks for part in PARTS}
         names = sorted(worth, key=lambda name: name != ONE_ENTRY)
@@ -58,7 +58,7 @@ class Worth(NamedTuple):
     @property
     def no_argument(self) -> bool:
         """Whether the scheme says that there is none: all of its parts are worth nothing."""
-        return ONE_ENTRY in self.scheme and not self.argument
+        return not self.argument
 
     @property
     def parts(self) -> dict[str, Fraction]:
@@ -75,11 +75,9 @@ class Worth(NamedTuple):
     @property
     def needed(self) -> Optional[tuple[str, Fraction]]:
         """What is needed to pass, and how that is called, if the scheme says it."""
-        share = self.scheme.get("pass in percent")
-        if share is not None:
-            return f"needed to pass ({said(share)}%)", share / 100 * sum(self.parts.values())
-        least = self.scheme.get("pass")
-        return None if least is None else ("needed to pass", least)
+        least = needed(self.scheme, sum(self.parts.values(), NONE))
+        share = f" ({said(self.scheme[PASS_SHARE])}%)" if PASS_SHARE in self.scheme else ""
+        return None if least is None else (f"needed to pass{share}", least)
 
 
 def argument_table(worth: Worth) -> list[Block]:
