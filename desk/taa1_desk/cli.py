@@ -13,7 +13,7 @@ from typing import Optional, Sequence
 
 from taa1 import LibraryError, Refused
 
-from .command import calls, files, interrupts, mark, setting
+from .command import calls, files, interrupts, mark, setting, verify
 from .command.arguments import Parser
 from .command.arguments import parser as arguments
 from .command.output import ACCEPTED, REFUSED, WRONG_USE, keep_inputs
@@ -32,7 +32,7 @@ def run_help(args: argparse.Namespace) -> int:
 
 def parser() -> Parser:
     """All commands and their options."""
-    runs = {**setting.RUNS, **mark.RUNS, **calls.RUNS, "help": run_help}
+    runs = {**setting.RUNS, **mark.RUNS, **verify.RUNS, **calls.RUNS, "help": run_help}
     return arguments(__doc__ or "", runs)
 
 

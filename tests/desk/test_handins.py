@@ -942,7 +942,7 @@ class Folders(Case):
             (["-"], ["standard input.html"]),
             (["n" * 250], ["n" * 200 + ".html"]),
         ):
-            self.assertEqual(page_names(names, "index.html"), wanted)
+            self.assertEqual(page_names(names, ["index.html"]), wanted)
 
     def test_links(self) -> None:
         """The class's page leads to each candidate's, whatever the file is called."""

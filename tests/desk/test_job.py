@@ -3,9 +3,11 @@
 from __future__ import annotations
 
 import multiprocessing
+import os
 import pickle
 import unittest
 from hashlib import sha256
+from unittest import mock
 
 from common import CLASS, Case
 from taa1 import Refused
@@ -28,13 +30,15 @@ def silent(done: int, of: int) -> None:
 
 
 class Sent(Case):
+    @mock.patch.dict(os.environ, SOURCE_DATE_EPOCH="1500000000")
     def test_outcome_of_another_process(self) -> None:
         own = marked(sample(), silent)
         with multiprocessing.get_context("spawn").Pool(1) as pool:
             sent = pool.apply(marked, (sample(), silent))
         self.assertEqual(pages(sent), pages(own))
         self.assertEqual(list(to_see_to(sent)), list(to_see_to(own)))
-        self.assertEqual((sent.digests, sent.found), (own.digests, own.found))
+        self.assertEqual((sent.digests, sent.found, sent.origin), (own.digests, own.found, own.origin))
+        self.assertEqual(own.origin.made, "2017-07-14T02:40:00Z")
 
     def test_problems(self) -> None:
         for problem in (

@@ -25,7 +25,7 @@ CANDIDATES = ("ann", "ben", "cho", "dee", "eve", "fay")
 VOID = {"meta", "rect", "path", "line", "br", "wbr"}
 ALLOWED = {
     "html", "head", "meta", "title", "style", "body", "h1", "h2", "h3", "p", "ul", "li", "a", "b", "u",
-    "i", "header", "section", "div", "span", "table", "thead", "tbody", "tr", "th", "td",
+    "i", "header", "footer", "section", "div", "span", "table", "thead", "tbody", "tr", "th", "td",
     "wbr", "svg", "defs", "pattern", "path", "rect", "line", "text",
 }  # fmt: skip
 ATTRIBUTES = {

@@ -17,7 +17,7 @@ from ..setting import draw
 from ..showing.paper import PARTS
 from ..values import IDENTITY, MASK
 from . import files
-from .options import bytes_of, damages, digits, entries, kinds, number, words
+from .options import bytes_of, damages, digits, entries, kinds, number, sentence, words
 from .overview import EXAMPLES, overview
 
 Run = Callable[[argparse.Namespace], int]
@@ -269,6 +269,11 @@ def parser(says: str, runs: Mapping[str, Run]) -> Parser:
         metavar="FILE",
         help="the arguments' points, a line NAME = POINTS for each candidate, or NAME = given 1, one entry half ..",
     )
+    mark.add_argument(
+        "--record", metavar="FILE", help="keep a record: digests of every file, every mark, what ran and when"
+    )
+    mark.add_argument("--against", metavar="RECORD", help="say what changed since a record; wants --reason")
+    mark.add_argument("--reason", type=sentence, metavar="WORDS", help="why it is marked again")
     mark.add_argument("--csv", action="store_true", help="write a table, a row for each candidate")
     mark.add_argument("--clean", action="store_true", help="remove pages of earlier runs there")
     mark.add_argument("--dry", action="store_true", help="say how each would be read, no more")
@@ -280,6 +285,11 @@ def parser(says: str, runs: Mapping[str, Run]) -> Parser:
         help=f"read it so, whatever it looks like: {', '.join(READ_AS)}",
     )
     _common(mark, bytes="", json="")
+
+    verify = command("verify")
+    verify.add_argument("record", metavar="RECORD", help="what mark --record wrote")
+    verify.add_argument("folder", nargs="+", metavar="FOLDER", help="where its files are, or below it")
+    _common(verify)
 
     _common(command("scheme", private=False))
     _common(command("slips", private=False))

@@ -117,11 +117,11 @@ def write_out(data: bytes) -> None:
         raise Problem(f"standard output: {reason(error)}") from None
 
 
-def write_file(name: str, data: bytes, private: bool = False, new: bool = False) -> None:
+def write_file(name: str, data: bytes, private: bool = False, new: str = "") -> None:
     """Writes a file whole, or leaves what was there: a temporary one takes its name.
 
     A private file is readable by its owner alone; a new one takes the name only if no
-    file has it. A file that was read is not written over. What is no regular file, such as a
+    file has it, and what is said else is given. A file that was read is not written over. What is no regular file, such as a
     pipe, is written to as it is.
     """
     path = Path(os.path.realpath(name))
@@ -137,14 +137,14 @@ def write_file(name: str, data: bytes, private: bool = False, new: bool = False)
             try:
                 _fill(Path(made), data, _mode(path, private))
                 if new:
-                    _link(made, path)
+                    _link(made, path, new)
                 else:
                     os.replace(made, path)
             finally:
                 Path(made).unlink(missing_ok=True)
 
 
-def _link(made: str, path: Path) -> None:
+def _link(made: str, path: Path, else_: str) -> None:
     """Gives a file a name that no other has."""
     try:
         try:
@@ -155,7 +155,7 @@ def _link(made: str, path: Path) -> None:
             os.close(os.open(path, os.O_WRONLY | os.O_CREAT | os.O_EXCL, 0o600))
             os.replace(made, path)
     except FileExistsError:
-        raise Problem(f"{shown(str(path))}: {THERE}") from None
+        raise Problem(f"{shown(str(path))}: {else_}") from None
 
 
 class Folder(NamedTuple):
@@ -269,7 +269,7 @@ def _problems(name: str) -> Iterator[None]:
         raise Problem(f"{shown(name)}: {said}") from None
 
 
-def write(name: str, data: bytes, private: bool = False, new: bool = False) -> None:
+def write(name: str, data: bytes, private: bool = False, new: str = "") -> None:
     """Writes to a file, or to standard output."""
     if name == STANDARD:
         write_out(data)

@@ -12,6 +12,7 @@ from ..problems import STANDARD, Problem, place, shown
 from ..reading.answerform import is_form
 from ..reading.decoding import FILES, decoded
 from ..reading.keyfile import is_keys
+from ..reading.recorded import is_record
 from ..showing.candidate_page import MADE_BY
 from ..showing.html import is_made_by
 from .files import read, reason
@@ -20,6 +21,7 @@ MOST_NAME = 200  # bytes of a page's name
 KEYS = ".keys"
 LINK = "left out: a link, which may lead to another's file (ask for the file itself)"
 PAGE = "left out: a page that the desk made"
+RECORD = "left out: a record of marking that the desk made"
 NO_HAND_IN = "no hand-in in this folder"
 NO_BOOK = f"left out: no hand-in beside it whose keys they are (NAME{KEYS} belongs to NAME.book)"
 
@@ -228,18 +230,23 @@ def _left_out(
     if name.lower().endswith(".txt"):
         why = judge(name, folder)
         return Skipped(name, f"left out: {why} (named by itself, it is marked)", True) if why else None
-    if name.endswith(".html") and _is_page(name):
-        return Skipped(name, PAGE)
-    return None
+    start = _start(name)
+    if is_record(start):
+        return Skipped(name, RECORD)
+    return Skipped(name, PAGE) if name.endswith(".html") and is_page(start) else None
 
 
-def _is_page(name: str) -> bool:
-    """Whether a file is a page of the desk's."""
+def _start(name: str) -> bytes:
+    """How a file begins."""
     try:
         with open(name, "rb") as file:
-            start = file.read(1024)
+            return file.read(1024)
     except OSError:  # it is said where it is read
-        return False
+        return b""
+
+
+def is_page(start: bytes) -> bool:
+    """Whether a file that begins so is a page of the desk's."""
     return any(is_made_by(start, by) for by in ("taa1", MADE_BY))
 
 
@@ -251,8 +258,9 @@ def _keys_said(left: Skipped, keys: Mapping[str, str]) -> Skipped:
     return Skipped(left.name, f"read as the keys of {place(of)}")
 
 
-def page_names(names: Sequence[str], index: str, folders: Mapping[str, str] = {}) -> list[str]:
-    """A page's name for each hand-in, after its file, so that a late one renames nobody.
+def page_names(names: Sequence[str], others: Sequence[str], folders: Mapping[str, str] = {}) -> list[str]:
+    """A page's name for each hand-in, after its file, so that a late one renames nobody; other pages
+    have theirs.
 
     A candidate's folder has its name in front. Equal names get their folder's in front, and a
     number if they are equal still.
@@ -262,7 +270,7 @@ def page_names(names: Sequence[str], index: str, folders: Mapping[str, str] = {}
         f"{folders[name]}-{base}" if name in folders and base != folders[name] else base
         for name, base in zip(names, bases)
     ]
-    often = Counter(f"{base}.html".casefold() for base in (*bases, index.removesuffix(".html")))
+    often = Counter(f"{base}.html".casefold() for base in (*bases, *(other.removesuffix(".html") for other in others)))
     taken: set[str] = set()
     made = []
     for name, base in zip(names, bases):

@@ -8,8 +8,11 @@ call: the commands, and a window that goes on while a process of its own marks.
 from __future__ import annotations
 
 import os
+import time
 from hashlib import sha256
 from typing import Callable, Iterator, NamedTuple, Optional, Sequence
+
+from taa1 import __version__
 
 from ..application import mark_class
 from ..engine import Engine
@@ -17,6 +20,7 @@ from ..handed import HandIn, KeyFile, LeftOut
 from ..marker import Marker
 from ..marking.opened import OpenedMarker
 from ..marking.sealed import SealedMarker
+from ..origin import Origin
 from ..problems import Problem, place, shown
 from ..reading import answerform, candidates, keyfile, schemes
 from ..reading.argument_points import whose
@@ -27,7 +31,7 @@ from ..reading.sittings import Heading, sitting_ring
 from ..sheet import Class
 from . import files, folders, inputs
 
-INDEX = "index.html"  # the class's page
+INDEX, APPEAL = "index.html", "appeal.html"  # the class's page, and what changed since a record
 
 # How far the work is: hand-ins that are done, of how many. 0 of 0 is the end.
 Progress = Callable[[int, int], None]
@@ -57,6 +61,7 @@ class Outcome(NamedTuple):
     pages: tuple[str, ...]  # the names of the candidates' pages
     listed: bool  # whether there is a list of candidates
     digests: dict[str, str]  # SHA-256 of what was read, by the file's name
+    origin: Origin
 
 
 class _Reader:
@@ -81,12 +86,14 @@ def marked(job: Job, progress: Progress = files.progress) -> Outcome:
     if job.opened and job.arguments is None:  # an exercise, which has no argument unless it is given
         scheme = schemes.without_argument(scheme)
     lines = inputs.read_arguments(job.arguments, schemes.argument_parts(scheme), read)
-    marker, heading, rows = _marker(job, read)
+    engine = Engine()
+    marker, heading, rows = _marker(engine, job, read)
+    origin = _origin(engine, job, read)
     named = (job.sitting, job.book, job.scheme, job.names, job.arguments, *job.beside)
     beside = [name for name in named if name]
     found = folders.hand_ins(job.hand_ins, beside, _judge(marker, listed))
     forms = _forms(job, found.names)
-    pages = folders.page_names(found.names, INDEX, found.folders)
+    pages = folders.page_names(found.names, (INDEX, APPEAL), found.folders)
     told = [each for each in found.left_out if each.told]
     who = candidates.named(found.names, pages, listed, [each.name for each in told], found.folders)
     theirs = {each.file: each.candidate for each in who.left_out}
@@ -94,13 +101,29 @@ def marked(job: Job, progress: Progress = files.progress) -> Outcome:
     given = whose(lines, place(job.arguments or ""), found.names, who, listed, found.folders)
     of = mark_class(marker, _hand_ins(found, forms, rows, read, progress), scheme, who, left_out, given)
     progress(0, 0)
-    return Outcome(of, heading, found, tuple(pages), bool(listed), read.digests)
+    return Outcome(of, heading, found, tuple(pages), bool(listed), read.digests, origin)
 
 
-def _marker(job: Job, read: inputs.Read) -> tuple[Marker, Heading, list[str]]:
+def _origin(engine: Engine, job: Job, read: _Reader) -> Origin:
+    """What this marking comes from."""
+    release = ".".join(map(str, engine.host.release()))
+    with open(engine.host.path, "rb") as file:
+        library = sha256(file.read()).hexdigest()
+    scheme = sha256(schemes.DEFAULT.encode()).hexdigest() if job.scheme is None else read.digests[job.scheme]
+    return Origin(release, library, __version__, _moment(), read.digests[job.book], scheme)
+
+
+def _moment() -> str:
+    """Now, in UTC; SOURCE_DATE_EPOCH has another moment where one is wanted, as reproducible
+    builds have it."""
+    given = os.environ.get("SOURCE_DATE_EPOCH", "")
+    seconds = int(given) if given.isascii() and given.isdecimal() and len(given) < 12 else time.time()
+    return time.strftime("%Y-%m-%dT%H:%M:%SZ", time.gmtime(seconds))
+
+
+def _marker(engine: Engine, job: Job, read: inputs.Read) -> tuple[Marker, Heading, list[str]]:
     """What reads hand-ins and marks them: sealed books beside the model, or what was opened
     beside the sealed book that was handed out; the sitting's heading, and the answer form's rows."""
-    engine = Engine()
     sitting, heading = inputs.read_headed(job.sitting, read)
     ring, rows = sitting_ring(engine, sitting, place(job.sitting)), answerform.asked_rows(sitting.sides)
     if job.opened:

@@ -4,15 +4,21 @@
 from __future__ import annotations
 
 import argparse
-from typing import Iterator
+import os
+from hashlib import sha256
+from typing import Iterator, NamedTuple, Optional
 
 from ..problems import STANDARD, Problem, place
+from ..reading.recorded import Recorded, parse
+from ..showing.appeal import Appeal, appeal_page, appeal_text
 from ..showing.argued import alone_said, not_yet_marked
+from ..showing.changes import compare
 from ..showing.exports import class_json, csv_text
+from ..showing.foot import foot
 from ..showing.phrases import UNLISTED, reading, to_look_at
 from ..showing.sheet_text import sheet_text, summary_text
-from . import files, pages
-from .job import Job, Outcome, marked
+from . import files, pages, record
+from .job import APPEAL, INDEX, Job, Outcome, marked
 from .output import ACCEPTED, REFUSED, emit_text, json_text, keep_hand_ins
 
 
@@ -20,13 +26,20 @@ def run_mark(args: argparse.Namespace) -> int:
     """The mark sheets of candidates' books."""
     _check(args)
     keep_hand_ins(args)
-    outcome = marked(job_of(args))
+    job = job_of(args)
+    record.check(job, args.record, args.against)
+    earlier = parse(files.read(args.against), place(args.against)) if args.against else None
+    named = (earlier.digest, earlier.before) if earlier else ()
+    if args.html is not None and not args.clean:
+        pages.keep_recorded(args.html, (INDEX, APPEAL) if earlier else (INDEX,), named)
+    outcome = marked(job)
     files.say(*to_see_to(outcome, args.dry))
     if args.dry:
         passed = [f"{each}\n" for each in outcome.found.left_out]
         emit_text(args, "".join([f"{reading(sheet)}\n" for sheet in outcome.of.sheets] + passed))
     else:
-        _write(args, outcome)
+        keep = kept(job, outcome, earlier, args.reason or "") if args.record or earlier else None
+        _write(args, outcome, keep, named)
     return REFUSED if outcome.of.has_unread else ACCEPTED
 
 
@@ -41,7 +54,7 @@ def job_of(args: argparse.Namespace) -> Job:
         args.opened,
         args.bytes,
         tuple(args.as_ or ()),
-        () if args.output == STANDARD else (args.output,),
+        tuple(name for name in (args.output, args.record, args.against) if name not in (None, STANDARD)),
         args.arguments,
     )
 
@@ -55,6 +68,20 @@ def _check(args: argparse.Namespace) -> None:
     if args.dry and (args.html is not None or args.csv or args.json):
         given = "--html" if args.html is not None else "--csv" if args.csv else "--json"
         raise Problem(f"mark: --dry says how hand-ins are read and marks none, so it takes no {given}")
+    if args.dry and (args.record is not None or args.against is not None):
+        given = "--record" if args.record is not None else "--against"
+        raise Problem(f"mark: --dry says how hand-ins are read and marks none, so it takes no {given}")
+    if args.record is not None and os.path.realpath(args.record) == os.path.realpath(args.output):
+        raise Problem("mark: --record and -o want two files")
+    if args.record is not None and args.html is not None and args.record.endswith(".html"):
+        raise Problem(f"mark: {place(args.record)}: a record is no page: give it a name without .html")
+    if args.against is not None and args.reason is None:
+        raise Problem("mark: --against RECORD wants --reason WORDS: why it is marked again")
+    if args.reason is not None and args.against is None:
+        raise Problem("mark: --reason is that of an appeal, so it wants --against RECORD")
+    if args.against is not None and (args.csv or args.json) and args.html is None:
+        said = "what changed as text or on a page"
+        raise Problem(f"mark: --against says {said}: with --csv or --json it wants --html")
 
 
 def to_see_to(outcome: Outcome, dry: bool = False) -> Iterator[str]:
@@ -84,11 +111,48 @@ def to_see_to(outcome: Outcome, dry: bool = False) -> Iterator[str]:
         yield f"nothing was marked of what was handed in by {', '.join(held)}"
 
 
-def _write(args: argparse.Namespace, outcome: Outcome) -> None:
+class Kept(NamedTuple):
+    """The record of a marking, the digest of its text, and what changed since an earlier one."""
+
+    text: bytes
+    digest: str
+    appeal: Optional[Appeal]
+
+
+def kept(job: Job, outcome: Outcome, earlier: Optional[Recorded] = None, reason: str = "") -> Kept:
+    """The record of a marking, beside the one that it answers."""
+    against = record.Against(earlier.digest, earlier.made, reason) if earlier else None
+    made = record.record(job, outcome, against)
+    text = record.text(made)
+    appeal = Appeal(earlier.digest, earlier.made, reason, compare(earlier.data, made)) if earlier else None
+    return Kept(text, sha256(text).hexdigest(), appeal)
+
+
+def _write(args: argparse.Namespace, outcome: Outcome, keep: Optional[Kept], named: tuple[str, ...]) -> None:
+    """Writes the record, then what belongs to it; if that fails, there is no record either."""
+    if args.record is None or keep is None:
+        return _write_marks(args, outcome, keep, named)
+    record.write(args.record, keep.text)
+    try:
+        _write_marks(args, outcome, keep, named)
+    except BaseException:
+        os.unlink(args.record)
+        raise
+
+
+def _write_marks(args: argparse.Namespace, outcome: Outcome, keep: Optional[Kept], named: tuple[str, ...]) -> None:
     """Writes the pages, and the class as text, JSON or a table."""
     of = outcome.of
     if args.html is not None:
-        pages.write(args.html, pages.pages(outcome), args.clean)
+        content = pages.pages(outcome, keep.digest if keep and args.record else "")
+        if keep and keep.appeal:
+            of_record = keep.digest if args.record else ""
+            at_foot = foot(outcome.origin, {"earlier record": keep.appeal.record}, of_record)
+            content[APPEAL] = appeal_page(keep.appeal, outcome.heading.line, at_foot, of_record).encode()
+        if not args.clean:
+            pages.keep_recorded(args.html, content, named)
+        pages.write(args.html, content, args.clean)
+    changes = appeal_text(keep.appeal) if keep and keep.appeal else ""
     end = summary_text(of.summary, of.sheets) + "".join(f"  {each.file}: {each.why}\n" for each in of.left_out)
     end += "".join(f"  {alone_said(each)}\n" for each in of.argued)
     if args.json:
@@ -96,10 +160,10 @@ def _write(args: argparse.Namespace, outcome: Outcome) -> None:
     elif args.csv:
         emit_text(args, csv_text(of))
     elif args.html is not None:
-        emit_text(args, end)
+        emit_text(args, end + changes)
     else:
         end = end if len(of.sheets) > 1 or of.left_out or of.argued else ""
-        emit_text(args, "".join(sheet_text(sheet, outcome.listed) for sheet in of.sheets) + end)
+        emit_text(args, "".join(sheet_text(sheet, outcome.listed) for sheet in of.sheets) + end + changes)
 
 
 RUNS = {"mark": run_mark}

@@ -57,6 +57,13 @@ def words(text: str) -> str:
     raise argparse.ArgumentTypeError(f"{shown(text)!r} is no line of words without #")
 
 
+def sentence(text: str) -> str:
+    """Words in a line."""
+    if text.strip() and text.isprintable():
+        return text.strip()
+    raise argparse.ArgumentTypeError(f"{shown(text)!r} is no line of words")
+
+
 def kinds(text: str) -> list[int]:
     """A list of kinds."""
     words = text.split(",")

@@ -30,7 +30,8 @@ def emit(args: argparse.Namespace, data: bytes) -> None:
 
 
 def emit_text(args: argparse.Namespace, text: str, new: bool = False) -> None:
-    files.write(args.output, text.encode("utf-8", "backslashreplace"), args.private, new)
+    there = files.THERE if new else ""
+    files.write(args.output, text.encode("utf-8", "backslashreplace"), args.private, there)
 
 
 def _jsonable(value: Any) -> Any:
@@ -79,7 +80,7 @@ def lengths(refused: Refused, call: Call, labels: Sequence[str], given: Sequence
     )
 
 
-INPUTS = ("sitting", "book", "ring", "file", "scheme", "candidates", "arguments", "words")  # options with a file's name
+INPUTS = ("sitting", "book", "ring", "file", "scheme", "candidates", "arguments", "against", "record", "words")  # options with a file's name
 
 
 def keep_inputs(args: argparse.Namespace) -> None:

@@ -13,6 +13,7 @@ DAY: dict[str, str] = {
     "paper": "taa1 paper sitting.txt model.txt --html paper --solution solution",
     "seal": "taa1 seal sitting.txt model.txt -o sealed.book",
     "mark": "taa1 mark sitting.txt model.txt class --html pages",
+    "verify": "taa1 verify record.json day",
     "argue": "taa1 argue sitting.txt model.txt --html argue.html",
     "scheme": "taa1 scheme -o scheme.txt",
     "slips": "taa1 slips",

@@ -188,9 +188,9 @@ def _missing(sheet: Sheet, wanted: Wanted) -> Html:
     return table(("entry", "kind", both(heads[0]), "version", heads[1]), rows)
 
 
-def sheet_page(sheet: Sheet, wanted: Wanted, heading: str) -> str:
-    """A candidate's page: the result, what explains it, each entry, and where to sign. It is
-    handed to the candidate, so nothing leads from it to the class."""
+def sheet_page(sheet: Sheet, wanted: Wanted, heading: str, foot: str = "", record: str = "") -> str:
+    """A candidate's page: the result, what explains it, each entry, where to sign, and what it
+    was made by and of. It is handed to the candidate, so nothing leads from it to the class."""
     file = os.path.basename(sheet.name)
     hand_in = file if sheet.problem else f"{file}, {was_read(sheet)}"
     facts: list[tuple[str, Any]] = [("hand-in", breakable(hand_in))]
@@ -215,4 +215,4 @@ def sheet_page(sheet: Sheet, wanted: Wanted, heading: str) -> str:
         parts += [text("h2", title), _missing(sheet, wanted)]
     signature = fields(("Remarks", *argued.to_write(sheet), "Marked by", "Date", "Signature"))
     parts.append(tag("div", signature, class_="sign"))
-    return page(sheet.candidate, *parts, above=heading, style=STYLE, made_by=MADE_BY)
+    return page(sheet.candidate, *parts, above=heading, style=STYLE, made_by=MADE_BY, foot=foot, record=record)

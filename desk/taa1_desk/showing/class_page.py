@@ -195,7 +195,7 @@ def _totals(of: Class) -> str:
     return said + "".join(f" N{alone_said(each)[1:]}." for each in of.argued)
 
 
-def class_page(of: Class, links: Sequence[str], heading: str) -> str:
+def class_page(of: Class, links: Sequence[str], heading: str, foot: str = "", record: str = "") -> str:
     """The class, with the links to the candidates' pages."""
     sheets, absent = of.sheets, of.absent
     numbers = f"{plural(of.summary.candidates, 'candidate')}: {class_numbers(of.summary)}."
@@ -238,4 +238,6 @@ def class_page(of: Class, links: Sequence[str], heading: str) -> str:
         *([] if of.summary.unopened is None else [text("h2", CHECKS), _checks(of.summary)]),
         above=heading,
         style=RESULT + STYLE + PLACES,
+        foot=foot,
+        record=record,
     )

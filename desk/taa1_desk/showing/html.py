@@ -44,6 +44,8 @@ td.hex, .keys td:first-child { white-space: nowrap; }
 .fields p:first-child { flex-basis: 100%; }
 .fields span { flex: 1; border-bottom: 1px solid #000; margin-left: .5em; min-height: 1.8em; }
 section { break-inside: avoid; }
+footer { border-top: 1px solid #999; break-before: avoid; break-inside: avoid; font-size: .75em;
+  margin-top: 1.5em; padding-top: .3em; }
 a { color: inherit; }
 @media screen and (max-width: 40em) {
   .wide thead, .wide tbody, .wide th.title { display: block; }
@@ -202,11 +204,24 @@ def is_made_by(start: bytes, command: str) -> bool:
     return _made_by(command).encode() in start
 
 
-def page(title: str, *parts: str, above: str = "", style: str = "", made_by: str = "taa1") -> str:
-    """A page of these parts; `above` stands over its title, and at the foot in print, and
-    `made_by` says to programs which command made it."""
+def _of_record(record: str) -> str:
+    return f'<meta name="taa1-record" content="{escape(record)}">'
+
+
+def record_of(start: bytes) -> str:
+    """The digest of the record that a page which begins so belongs to; nothing, if to none."""
+    found = re.search(_of_record("([0-9a-f]{64})").encode(), start)
+    return found[1].decode() if found else ""
+
+
+def page(
+    title: str, *parts: str, above: str = "", style: str = "", made_by: str = "taa1", foot: str = "", record: str = ""
+) -> str:
+    """A page of these parts; `above` stands over its title, and at the foot in print, `foot` at its
+    end; `made_by` and `record` say to programs which command made it, and to which record of
+    marking, given by its digest, it belongs."""
     named = f"{title} · {above}" if above else title
-    foot = FOOT % _in_css(named if len(named) <= MOST_FOOT else named[: MOST_FOOT - 1] + "…")
+    margin = FOOT % _in_css(named if len(named) <= MOST_FOOT else named[: MOST_FOOT - 1] + "…")
     return "\n".join(
         [
             "<!DOCTYPE html>",
@@ -214,11 +229,13 @@ def page(title: str, *parts: str, above: str = "", style: str = "", made_by: str
             '<head><meta charset="utf-8">',
             '<meta name="viewport" content="width=device-width, initial-scale=1">',
             _made_by(made_by),
+            *([_of_record(record)] if record else []),
             text("title", named),
-            f"<style>{STYLE}{style}{foot}</style></head>",
+            f"<style>{STYLE}{style}{margin}</style></head>",
             "<body>",
             tag("header", (text("p", above) if above else Html()) + text("h1", title)),
             *parts,
+            *([text("footer", foot)] if foot else []),
             "</body>",
             "</html>\n",
         ]

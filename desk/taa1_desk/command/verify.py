@@ -1,0 +1,241 @@
+# SPDX-License-Identifier: MIT
+"""The command that marks again what a record says, from the files in folders."""
+
+from __future__ import annotations
+
+import argparse
+import os
+import tempfile
+from hashlib import sha256
+from typing import Any, Iterator, NamedTuple, Optional
+
+from ..origin import brief
+from ..problems import STANDARD, Problem, place, shown
+from ..reading.recorded import ROLES, Recorded, is_record, parse
+from ..showing.changes import Change, compare
+from ..showing.exports import is_marks
+from ..words import plural
+from . import files, folders
+from .job import Job, Progress, marked
+from .output import ACCEPTED, REFUSED, emit_text
+from .record import record
+
+START = 1024  # bytes of a file, by which the desk knows its own
+
+
+class Found(NamedTuple):
+    """The files in folders: their paths, and their digests where they can be read."""
+
+    paths: dict[str, Optional[str]]
+    by_digest: dict[str, list[str]]
+
+
+class Laid(NamedTuple):
+    """A record's files, laid out as they were: what each is now called, and which are missing."""
+
+    paths: dict[str, str]  # of the files in the folders, by their names in the record
+    missing: list[str]
+    job: Optional[Job]  # to be marked again, if what marking goes by is there
+    absent: frozenset[str]  # hand-ins that are missing
+
+
+def run_verify(args: argparse.Namespace) -> int:
+    """Whether every file and every mark is as a record has it: it marks again."""
+    if STANDARD in (args.record, *args.folder):
+        raise Problem("verify: standard input is no file that a record could name")
+    recorded = parse(files.read(args.record), place(args.record))
+    differences = list(verified(recorded, args.folder))
+    emit_text(args, text(recorded, differences))
+    return REFUSED if differences else ACCEPTED
+
+
+def text(recorded: Recorded, differences: list[str]) -> str:
+    """What came of it."""
+    data = recorded.data
+    whose = plural(len(data["hand_ins"]), "hand-in")
+    lines = [f"record {brief(recorded.digest)} of {recorded.made}, {whose}"]
+    if data["against"]:
+        lines.append(f"  it answers the record {brief(recorded.before)}: {data['against']['reason']}")
+    lines += [f"  {line}" for line in differences]
+    engine = f"engine {data['engine']['release']}"
+    same = f"as it was: {engine}, desk {data['desk']}, every file and every mark"
+    lines.append(plural(len(differences), "difference") if differences else same)
+    return "\n".join(lines) + "\n"
+
+
+def verified(recorded: Recorded, where: list[str], progress: Progress = files.progress) -> Iterator[str]:
+    """Each difference between a record and what the files in folders give now."""
+    found = _find(where, progress)
+    data = recorded.data
+    with tempfile.TemporaryDirectory(prefix="taa1.") as room:
+        laid = _lay_out(data, found, room)
+        yield from (f"{name}: missing: no file in {_said(where)} has its digest or its name" for name in laid.missing)
+        if laid.job is None:
+            yield "nothing could be marked again, since marking goes by what is missing"
+        else:
+            now = record(laid.job, marked(laid.job, progress))
+            yield from _differences(data, now, laid)
+    yield from (f"{shown(name)}: new: it is not in the record" for name in _new(data, found, laid))
+
+
+def _differences(was: dict[str, Any], now: dict[str, Any], laid: Laid) -> Iterator[str]:
+    """What differs in the records. Of a hand-in that is missing nothing is compared, nor then the
+    class."""
+    rows = list(zip(was["hand_ins"], was["marks"]["sheets"]))
+    kept = [row for row in rows if row[0]["file"] not in laid.absent]
+    there = {row[0]["file"] for row in kept}
+    old = {**was, "hand_ins": [row[0] for row in kept], "marks": {**was["marks"], "sheets": [row[1] for row in kept]}}
+    again = [row for row in zip(now["hand_ins"], now["marks"]["sheets"]) if row[0]["file"] in there]
+    new = {**now, "hand_ins": [row[0] for row in again], "marks": {**now["marks"], "sheets": [row[1] for row in again]}}
+    compared = compare(old, new)
+    yield from map(str, compared.frame)
+    for name, changes in compared.candidates:
+        yield from (f"{name}: {change}" for change in changes)
+    yield from (f"{name}: not marked again" for name in compared.gone)
+    if not laid.missing:
+        yield from (f"the class: {change}" for change in compared.whole)
+
+
+def _said(where: list[str]) -> str:
+    return ", ".join(map(place, where))
+
+
+def _find(where: list[str], progress: Progress) -> Found:
+    """Every file in folders, and below them, but for links."""
+    paths = []
+    for folder in where:
+        if not os.path.isdir(folder):
+            raise Problem(f"{place(folder)}: no folder")
+        for at, inside, names in os.walk(folder, onerror=_unreadable):
+            inside.sort()
+            paths += [os.path.join(at, name) for name in sorted(names)]
+    made = Found({}, {})
+    for done, path in enumerate(paths):
+        progress(done, len(paths))
+        digest = None
+        if os.path.isfile(path) and not os.path.islink(path):
+            try:
+                digest = sha256(files.read(path)).hexdigest()
+            except Problem:  # too long, or not to be read: no file of the record, unless by its name
+                pass
+            if digest:
+                made.by_digest.setdefault(digest, []).append(path)
+        made.paths[path] = digest
+    progress(0, 0)
+    return made
+
+
+def _unreadable(error: OSError) -> None:
+    raise Problem(f"{shown(str(error.filename))}: {files.reason(error)}")
+
+
+def _path(name: str, digest: Optional[str], found: Found) -> Optional[str]:
+    """Where a file of the record is: the one with its digest, by its name if there are several;
+    else the one with its name, which was altered."""
+    same = found.by_digest.get(digest or "", [])
+    named = [path for path in same or found.paths if f"/{path}".endswith(f"/{name}")]
+    if not same:
+        named = [path for path in named if found.paths[path]]
+    return next(iter(named or same), None)
+
+
+def _lay_out(data: dict[str, Any], found: Found, room: str) -> Laid:
+    """Copies a record's files to where their names in the record hold."""
+    base = os.path.join(room, "hand-ins", data["options"]["folder"] or "class")
+    paths: dict[str, str] = {}
+    missing: list[str] = []
+    given: dict[str, Optional[str]] = {}
+    os.makedirs(base)
+    for role in ROLES:
+        of = data["files"][role]
+        given[role] = None
+        if of and of["file"] is not None:
+            given[role] = os.path.join(room, role, of["file"])
+            os.mkdir(os.path.join(room, role))
+            _lay(of, given[role] or "", found, paths, missing)
+    complete = not missing
+    absent = []
+    for row in data["hand_ins"]:
+        before = len(missing)
+        for each in (row, *row["beside"]):
+            _lay(each, os.path.join(base, each["file"]), found, paths, missing)
+        absent += [row["file"]] if len(missing) > before or row["type"] == "file" and not row["sha256"] else []
+    for each in data["left_out"]:
+        _lay(each, os.path.join(base, each["file"]), found, paths, missing)
+    forms = (
+        f"{os.path.normpath(os.path.join(base, each['file']))}={each['form']}" if each["file"] else each["form"]
+        for each in data["options"]["as"]
+        if each["file"] not in absent
+    )
+    hand_ins = tuple(os.path.normpath(os.path.join(base, name)) for name in data["options"]["hand_ins"])
+    job = Job(
+        given["sitting"] or "",
+        given["book"] or "",
+        hand_ins,
+        given["scheme"],
+        given["names"],
+        data["options"]["opened"],
+        data["options"]["bytes"],
+        tuple(forms),
+        arguments=given["arguments"],
+    )
+    return Laid(paths, missing, job if complete else None, frozenset(absent))
+
+
+def _lay(of: dict[str, Any], path: str, found: Found, paths: dict[str, str], missing: list[str]) -> None:
+    """Puts a file of the record in its place, or what it was instead of a file."""
+    try:
+        os.makedirs(os.path.dirname(path), exist_ok=True)
+        what = of.get("type", "file")
+        if what == "folder":
+            os.makedirs(path, exist_ok=True)
+        elif what == "link":
+            os.symlink("nowhere", path)
+        elif what == "other":
+            os.mkfifo(path)
+        elif of["sha256"]:
+            there = _path(of["file"], of["sha256"], found)
+            if there is None:
+                missing.append(of["file"])
+            else:
+                paths[of["file"]] = there
+                files.write_file(path, files.read(there), private=True)
+    except (OSError, ValueError) as error:  # a name that this system can't have
+        said = files.reason(error) if isinstance(error, OSError) else str(error)
+        raise Problem(f"{shown(of['file'])}: a file of the record can't be laid out under its name: {said}") from None
+
+
+def _new(data: dict[str, Any], found: Found, laid: Laid) -> list[str]:
+    """Files that lie in a folder that was marked whole, where it is now, and are not in the record."""
+    rows = [row["file"] for row in data["hand_ins"]]
+    left_out = {each["file"] for each in data["left_out"]}
+    roots = {}  # the folders that were marked, by where they are now
+    for folder in data["options"]["hand_ins"]:
+        start = "" if folder == "." else f"{folder}/"
+        for row in rows if folder not in rows else ():
+            path, inside = laid.paths.get(row), row[len(start) :]
+            if path and row.startswith(start) and f"/{path}".endswith(f"/{inside}"):
+                roots[path[: -len(inside)]] = start
+    used = set(laid.paths.values())
+    return [
+        path
+        for path in found.paths
+        if path not in used and not _own(path)
+        for root, start in roots.items()
+        if path.startswith(root) and start + path[len(root) :] not in left_out
+    ]
+
+
+def _own(path: str) -> bool:
+    """Whether a file is hidden, or what the desk itself wrote."""
+    if os.path.basename(path).startswith("."):
+        return True
+    try:
+        with open(path, "rb") as file:
+            start = file.read(START)
+    except OSError:
+        return False
+    return is_record(start) or is_marks(start) or folders.is_page(start)
+
+
+RUNS = {"verify": run_verify}
