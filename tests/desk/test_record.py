@@ -79,7 +79,7 @@ class Day(Case):
         """All is as it was."""
         done = taa1("verify", self.day / record, *where, **options)
         self.assertEqual((done.status, done.error), (0, ""), done.out.decode())
-        self.assertRegex(done.out.decode(), "as it was: engine .*, every file and every mark\n$")
+        self.assertRegex(done.out.decode(), "\nas it was: every file, every mark, the engine and the desk\n$")
 
     def differs(self, *lines: str, where: str = ".") -> None:
         """These differences and no others."""
@@ -243,7 +243,7 @@ class Verified(Day):
             "eve.book: missing: no file in . has its digest or its name",
             f"Dee Darling: file dee.book, SHA-256: {now}, was {old['dee.book']}",
             "Dee Darling: right: 12, was 6",
-            "Dee Darling: points, sum: 12, was 6",
+            "Dee Darling: points for entries right: 12, was 6",
             "Dee Darling: opens: yes, was no",
             "Dee Darling: slip RS for RSO: -, was explains entries 2 to 7",
             "./class/late.book: new: it is not in the record",
@@ -336,14 +336,15 @@ class Appeals(Day):
             f"against the record {before[:12]} of {MOMENT}: {reason}",
             "  1 of 6 candidates changed.",
             "  Dee Darling",
-            "    points, sum: 12, was 6",
+            "    points for entries right: 12, was 6",
             "  as they were: Ann Archer, Ben Baker, Cho Min-jun, Eve Ekström, Fay Fisher",
         ):
             self.assertIn(f"{line}\n", said)
         self.assertEqual(self.record("second.json")["against"], {"record": before, "made": MOMENT, "reason": reason})
         page = (self.day / "pages" / "appeal.html").read_text()
         self.assertIn("Dee&#x27;s file was &lt;another&#x27;s&gt;", page)
-        self.assertIn('<td data-head="what">points, sum</td><td data-head="was">6</td><td data-head="is">12</td>', page)
+        row = '<td data-head="what">points for entries right</td><td data-head="was">6</td><td data-head="is">12</td>'
+        self.assertIn(row, page)
         self.assertEqual(stat.S_IMODE((self.day / "pages" / "appeal.html").stat().st_mode), 0o600)
         self.same(self.day, record="second.json")
 

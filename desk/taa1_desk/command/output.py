@@ -80,7 +80,8 @@ def lengths(refused: Refused, call: Call, labels: Sequence[str], given: Sequence
     )
 
 
-INPUTS = ("sitting", "book", "ring", "file", "scheme", "candidates", "arguments", "against", "record", "words")  # options with a file's name
+# Options with the name of a file that is read; what mark --record names is written, and never over another.
+INPUTS = ("sitting", "book", "ring", "file", "scheme", "candidates", "arguments", "words", "against", "record")
 
 
 def keep_inputs(args: argparse.Namespace) -> None:

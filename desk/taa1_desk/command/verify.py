@@ -11,8 +11,8 @@ from typing import Any, Iterator, NamedTuple, Optional
 
 from ..origin import brief
 from ..problems import STANDARD, Problem, place, shown
-from ..reading.recorded import ROLES, Recorded, is_record, parse
-from ..showing.changes import Change, compare
+from ..reading.recorded import Recorded, is_record, parse
+from ..showing.changes import compare
 from ..showing.exports import is_marks
 from ..words import plural
 from . import files, folders
@@ -33,7 +33,8 @@ class Found(NamedTuple):
 class Laid(NamedTuple):
     """A record's files, laid out as they were: what each is now called, and which are missing."""
 
-    paths: dict[str, str]  # of the files in the folders, by their names in the record
+    paths: dict[str, str]  # of hand-ins and what lies beside them, by their names in the record
+    used: frozenset[str]  # every file of the folders that stands for one of the record's
     missing: list[str]
     job: Optional[Job]  # to be marked again, if what marking goes by is there
     absent: frozenset[str]  # hand-ins that are missing
@@ -52,13 +53,13 @@ def run_verify(args: argparse.Namespace) -> int:
 def text(recorded: Recorded, differences: list[str]) -> str:
     """What came of it."""
     data = recorded.data
+    by = f"engine {data['engine']['release']} and desk {data['desk']}"
     whose = plural(len(data["hand_ins"]), "hand-in")
-    lines = [f"record {brief(recorded.digest)} of {recorded.made}, {whose}"]
+    lines = [f"record {brief(recorded.digest)} of {recorded.made}, by {by}: {whose}"]
     if data["against"]:
         lines.append(f"  it answers the record {brief(recorded.before)}: {data['against']['reason']}")
     lines += [f"  {line}" for line in differences]
-    engine = f"engine {data['engine']['release']}"
-    same = f"as it was: {engine}, desk {data['desk']}, every file and every mark"
+    same = "as it was: every file, every mark, the engine and the desk"
     lines.append(plural(len(differences), "difference") if differences else same)
     return "\n".join(lines) + "\n"
 
@@ -69,7 +70,8 @@ def verified(recorded: Recorded, where: list[str], progress: Progress = files.pr
     data = recorded.data
     with tempfile.TemporaryDirectory(prefix="taa1.") as room:
         laid = _lay_out(data, found, room)
-        yield from (f"{name}: missing: no file in {_said(where)} has its digest or its name" for name in laid.missing)
+        said = f"missing: no file in {', '.join(map(place, where))} has its digest or its name"
+        yield from (f"{shown(name)}: {said}" for name in laid.missing)
         if laid.job is None:
             yield "nothing could be marked again, since marking goes by what is missing"
         else:
@@ -94,10 +96,6 @@ def _differences(was: dict[str, Any], now: dict[str, Any], laid: Laid) -> Iterat
     yield from (f"{name}: not marked again" for name in compared.gone)
     if not laid.missing:
         yield from (f"the class: {change}" for change in compared.whole)
-
-
-def _said(where: list[str]) -> str:
-    return ", ".join(map(place, where))
 
 
 def _find(where: list[str], progress: Progress) -> Found:
@@ -129,78 +127,88 @@ def _unreadable(error: OSError) -> None:
     raise Problem(f"{shown(str(error.filename))}: {files.reason(error)}")
 
 
-def _path(name: str, digest: Optional[str], found: Found) -> Optional[str]:
-    """Where a file of the record is: the one with its digest, by its name if there are several;
-    else the one with its name, which was altered."""
-    same = found.by_digest.get(digest or "", [])
-    named = [path for path in same or found.paths if f"/{path}".endswith(f"/{name}")]
-    if not same:
-        named = [path for path in named if found.paths[path]]
-    return next(iter(named or same), None)
+def _files(data: dict[str, Any]) -> Iterator[tuple[str, dict[str, Any]]]:
+    """A record's files that were read, by where they are laid out: each has a folder of its own
+    that marking goes by, and hand-ins have theirs."""
+    yield from ((f"{role}/{of['file']}", of) for role, of in data["files"].items() if of and of["file"] is not None)
+    base = f"hand-ins/{data['options']['folder'] or 'class'}"
+    rows = [each for row in data["hand_ins"] for each in (row, *row["beside"])]
+    yield from ((f"{base}/{each['file']}", each) for each in (*rows, *data["left_out"]))
+
+
+def _assigned(data: dict[str, Any], found: Found) -> dict[str, str]:
+    """Where a record's files are, by where they are laid out. A file stands for one of the record:
+    for that with its digest and its name, else with its digest, else with its name."""
+    made: dict[str, str] = {}
+    free = dict(found.paths)
+    for by_digest, by_name in ((True, True), (True, False), (False, True)):
+        for at, of in _files(data):
+            same = found.by_digest.get(of["sha256"] or "", ()) if by_digest else found.paths
+            there = (
+                path
+                for path in same
+                if free.get(path) and (not by_name or f"/{path}".endswith(f"/{of['file']}"))
+            )
+            path = next(there, None) if of["sha256"] and at not in made else None
+            if path:
+                made[at] = path
+                del free[path]
+    return made
 
 
 def _lay_out(data: dict[str, Any], found: Found, room: str) -> Laid:
     """Copies a record's files to where their names in the record hold."""
-    base = os.path.join(room, "hand-ins", data["options"]["folder"] or "class")
-    paths: dict[str, str] = {}
-    missing: list[str] = []
-    given: dict[str, Optional[str]] = {}
-    os.makedirs(base)
-    for role in ROLES:
-        of = data["files"][role]
-        given[role] = None
-        if of and of["file"] is not None:
-            given[role] = os.path.join(room, role, of["file"])
-            os.mkdir(os.path.join(room, role))
-            _lay(of, given[role] or "", found, paths, missing)
-    complete = not missing
-    absent = []
-    for row in data["hand_ins"]:
-        before = len(missing)
-        for each in (row, *row["beside"]):
-            _lay(each, os.path.join(base, each["file"]), found, paths, missing)
-        absent += [row["file"]] if len(missing) > before or row["type"] == "file" and not row["sha256"] else []
-    for each in data["left_out"]:
-        _lay(each, os.path.join(base, each["file"]), found, paths, missing)
-    forms = (
-        f"{os.path.normpath(os.path.join(base, each['file']))}={each['form']}" if each["file"] else each["form"]
-        for each in data["options"]["as"]
-        if each["file"] not in absent
+    there = _assigned(data, found)
+    missing = []
+    for at, of in _files(data):
+        _lay(of, os.path.join(room, at), there.get(at))
+        missing += [at] if of["sha256"] and at not in there else []
+    options = data["options"]
+    base = f"hand-ins/{options['folder'] or 'class'}/"
+    lost = {at[len(base) :] for at in missing if at.startswith(base)}
+    absent = frozenset(
+        row["file"]
+        for row in data["hand_ins"]
+        if lost & {each["file"] for each in (row, *row["beside"])} or row["type"] == "file" and not row["sha256"]
     )
-    hand_ins = tuple(os.path.normpath(os.path.join(base, name)) for name in data["options"]["hand_ins"])
+    given = {
+        role: os.path.join(room, role, of["file"]) if of and of["file"] is not None else None
+        for role, of in data["files"].items()
+    }
     job = Job(
         given["sitting"] or "",
         given["book"] or "",
-        hand_ins,
+        tuple(os.path.normpath(os.path.join(room, base, name)) for name in options["hand_ins"]),
         given["scheme"],
         given["names"],
-        data["options"]["opened"],
-        data["options"]["bytes"],
-        tuple(forms),
+        options["opened"],
+        options["bytes"],
+        tuple(
+            "=".join(filter(None, (each["file"] and os.path.join(room, base + each["file"]), each["form"])))
+            for each in options["as"]
+            if each["file"] not in absent
+        ),
         arguments=given["arguments"],
     )
-    return Laid(paths, missing, job if complete else None, frozenset(absent))
+    complete = all(at.startswith(base) for at in missing)
+    paths = {at[len(base) :]: path for at, path in there.items() if at.startswith(base)}
+    names = [at.partition("/")[2] if not at.startswith(base) else at[len(base) :] for at in missing]
+    return Laid(paths, frozenset(there.values()), names, job if complete else None, absent)
 
 
-def _lay(of: dict[str, Any], path: str, found: Found, paths: dict[str, str], missing: list[str]) -> None:
+def _lay(of: dict[str, Any], to: str, path: Optional[str]) -> None:
     """Puts a file of the record in its place, or what it was instead of a file."""
+    what = of.get("type", "file")
     try:
-        os.makedirs(os.path.dirname(path), exist_ok=True)
-        what = of.get("type", "file")
-        if what == "folder":
-            os.makedirs(path, exist_ok=True)
-        elif what == "link":
-            os.symlink("nowhere", path)
+        os.makedirs(to if what == "folder" else os.path.dirname(to), exist_ok=True)
+        if what == "link":
+            os.symlink("nowhere", to)
         elif what == "other":
-            os.mkfifo(path)
-        elif of["sha256"]:
-            there = _path(of["file"], of["sha256"], found)
-            if there is None:
-                missing.append(of["file"])
-            else:
-                paths[of["file"]] = there
-                files.write_file(path, files.read(there), private=True)
-    except (OSError, ValueError) as error:  # a name that this system can't have
+            os.mkfifo(to)
+        elif path is not None:
+            with open(to, "xb") as file:
+                file.write(files.read(path))
+    except (OSError, ValueError) as error:  # a name that this system can't have, or two alike
         said = files.reason(error) if isinstance(error, OSError) else str(error)
         raise Problem(f"{shown(of['file'])}: a file of the record can't be laid out under its name: {said}") from None
 
@@ -216,11 +224,10 @@ def _new(data: dict[str, Any], found: Found, laid: Laid) -> list[str]:
             path, inside = laid.paths.get(row), row[len(start) :]
             if path and row.startswith(start) and f"/{path}".endswith(f"/{inside}"):
                 roots[path[: -len(inside)]] = start
-    used = set(laid.paths.values())
     return [
         path
         for path in found.paths
-        if path not in used and not _own(path)
+        if path not in laid.used and not _own(path)
         for root, start in roots.items()
         if path.startswith(root) and start + path[len(root) :] not in left_out
     ]

@@ -14,6 +14,9 @@ from .html import Html, breakable, page, pairs, table, text
 STYLE = RESULT + """
 .changes td:first-child { width: 34%; }
 .changes td { width: 33%; }
+@media screen and (max-width: 40em) {
+  .changes td, .changes td:first-child { width: auto; }
+}
 """
 
 

@@ -9,7 +9,7 @@ from __future__ import annotations
 import json
 from collections import Counter
 from fractions import Fraction
-from typing import Any, Callable, Iterable, Iterator, Mapping, NamedTuple
+from typing import Any, Callable, Container, Iterable, Iterator, Mapping, NamedTuple
 
 from ..origin import brief
 from ..points import said as points_said
@@ -91,6 +91,8 @@ _LISTS = {
     "wrong_entries": _List("who got entry", "entry", _wrong),
     "left_out": _List("left out:", "file", lambda of: str(of["why"])),
 }
+_FIRST = ("total", "points, sum", "points, of", "argument")  # of a candidate's changes
+_DERIVED = ("slips", "checks", "wrong_entries")  # counts of the class that follow from candidates' changes
 _POINTS = ("sum", "of", "points", "mean", "median")
 
 
@@ -211,7 +213,7 @@ def compare(was: Mapping[str, Any], now: Mapping[str, Any]) -> Compared:
         if name in old:
             (file, sheet), (file_now, sheet_now) = old[name], new[name]
             found = list(_files([file, *file["beside"]], [file_now, *file_now["beside"]], "file"))
-            found += changed(sheet, sheet_now)
+            found += sorted(changed(sheet, sheet_now), key=lambda each: not each.what.startswith(_FIRST))
             if found:
                 candidates.append((sheet_now["name"], found))
             else:
@@ -219,7 +221,14 @@ def compare(was: Mapping[str, Any], now: Mapping[str, Any]) -> Compared:
     gone = [sheet["name"] for name, (_, sheet) in old.items() if name not in new]
     added = [sheet["name"] for name, (_, sheet) in new.items() if name not in old]
     frame = [*_frame(was, now), *changed(_head(was), _head(now))]
-    return Compared(frame, candidates, same, gone, added, list(changed(was["marks"]["class"], now["marks"]["class"])))
+    without = _DERIVED if candidates or gone or added else ()
+    whole = changed(_class(was, without), _class(now, without))
+    return Compared(frame, candidates, same, gone, added, list(whole))
+
+
+def _class(of: Mapping[str, Any], without: Container[str]) -> dict[str, Any]:
+    """What the class comes to."""
+    return {key: value for key, value in of["marks"]["class"].items() if key not in without}
 
 
 def _head(of: Mapping[str, Any]) -> dict[str, Any]:
