@@ -23,7 +23,7 @@ ARGUMENTS = "ann = given 1, one entry half, properties 2, was sealed 1/2\nben = 
 # The pages, and the sheets of paper that each takes at most.
 PAGES = {
     "paper": 3, "form": 3, "solution": 13, "model": 6, "argue": 25, "sheets": 26, "index": 3,
-    "ann.book": 1, "ben.book": 2, "cho.book": 2, "dee.book": 3, "eve.book": 2, "fay.book": 2,
+    "ann.book": 1, "ben.book": 2, "cho.book": 2, "dee.book": 2, "eve.book": 2, "fay.book": 2,
     "noise.book": 1, "all-wrong.book": 4, "many.book": 2, "gil.txt": 2,
     f"{'e' * 80}.book": 1,
 }  # fmt: skip

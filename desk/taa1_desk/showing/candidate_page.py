@@ -48,6 +48,18 @@ section p { margin: 0 0 .2em; }
   .entries td, .entries td.number, .points td:nth-child(n+2):not(:empty) { display: inline; padding-right: .5em; }
   .entries td:nth-last-child(-n+2)::before { content: none; }
 }
+@media print {
+  body { font-size: 9pt; line-height: 1.25; }
+  h2 { margin: .8em 0 .2em; }
+  .result { margin: 0 0 .4em; }
+  table { margin: .1em 0 .2em; }
+  th, td { padding-bottom: .08em; padding-top: .08em; }
+  .hex, .code { line-height: 1.25; }
+  .sign { margin-top: .6em; }
+  .fields { gap: .2em 1.5em; margin: .3em 0; }
+  .fields span { min-height: 1.6em; }
+  footer { margin-top: .4em; }
+}
 """
 MADE_BY = "taa1 mark"  # a candidate's page
 
