@@ -60,7 +60,7 @@ class Sent(Case):
 
     def test_digests(self) -> None:
         read = marked(sample(), silent).digests
-        names = ("sitting.txt", "model.txt", "names.txt", "ann.book", "ben.book", "ben.keys")
+        names = ("sitting.txt", "model.txt", "names.txt", "ann.book", "ann.keys", "ben.book", "ben.keys")
         self.assertEqual(
             read, {str(CLASS / name): sha256((CLASS / name).read_bytes()).hexdigest() for name in names}
         )
