@@ -8,9 +8,11 @@ from __future__ import annotations
 
 from typing import Iterator
 
-from .cipher_slips import CIPHER_SLIPS, D4, CipherSlip, expanded_as, reading, rotated_by, with_d
+from .cipher_slips import CIPHER_SLIPS, CipherSlip
+from .f_slips import expanded_as, reading
 from .hurdle import A, D, E
 from .miscopied import miscopied
+from .schedule_slips import D4, rotated_by, with_d
 from .working import S
 
 
@@ -19,7 +21,8 @@ def _said(table: str, place: str, has: str, wants: str) -> str:
 
 
 def copied_wrongly() -> Iterator[CipherSlip]:
-    """D, a, E and S with one digit wrong, or two neighbours exchanged."""
+    """D, a, E and S with one digit wrong, or two neighbours exchanged; D without one of its
+    bytes, and S with two rows exchanged."""
     for place, byte in enumerate(D):
         for other in range(256):
             one_digit = byte >> 4 == other >> 4 or byte & 15 == other & 15
@@ -33,6 +36,12 @@ def copied_wrongly() -> Iterator[CipherSlip]:
         made[exchange : exchange + 2] = made[exchange : exchange + 2][::-1]
         name = f"D{15 - exchange} and D{14 - exchange} exchanged"
         yield CipherSlip(name, with_d(bytes(made)))
+    for place, byte in enumerate(D):
+        short = D[:place] + D[place + 1 :]
+        if place != D4:
+            for made, where in ((b"\0" + short, "in front"), (short + b"\0", "at the end")):
+                name = f"D without its byte {15 - place} ({byte:02x}), a zero byte {where}"
+                yield CipherSlip(name, with_d(made))
     for place, by in enumerate(A):
         for other in range(0, 16):
             if other != by:
@@ -60,6 +69,11 @@ def copied_wrongly() -> Iterator[CipherSlip]:
     for place in range(255):
         table = S[:place] + S[place + 1 : place + 2] + S[place : place + 1] + S[place + 2 :]
         name = f"S[{place:02x}] and S[{place + 1:02x}] exchanged"
+        yield CipherSlip(name, reading(table), table)
+    rows = [S[at : at + 16] for at in range(0, 256, 16)]
+    for at in range(15):
+        table = b"".join((*rows[:at], rows[at + 1], rows[at], *rows[at + 2 :]))
+        name = f"rows {at:x}0 and {at + 1:x}0 of S exchanged"
         yield CipherSlip(name, reading(table), table)
 
 
