@@ -11,9 +11,16 @@ from typing import Any, Callable, Dict, Iterator, Optional, Tuple
 from exams import RIGHT, SEALED, Exam, exam
 from planted_keys import values_of
 from reference import Entry, Keys, Ring, Sitting, Working, plain_record, records, xor
-from wrong_ciphers import MISCOPIED, MISCOPIED_S, WRONG, s_working, working
+from wrong_ciphers import MISCOPIED, MISCOPIED_S, WRONG, WRONG_BACK, s_working, working
+from wrong_steps import IN_P, WRONG_STEPS
 
 Values = Dict[str, bytes]
+# Slips that are others in one algorithm: encryption with the round keys of decryption is decryption.
+SAME_IN_TA61 = {
+    "bytes of the input block numbered from the left": "TA61's input reversed",
+    "bytes of the output block numbered from the left": "TA61's strings of bytes numbered from the left",
+}
+SAME_IN_OPENING = {"encryption's round keys for decryption's": "encryption for decryption in BL2"}
 
 
 @dataclass(frozen=True)
@@ -70,7 +77,17 @@ def ciphers(of: Exam) -> Iterator[Named]:
             continue
         in_ta61 = _InTa61(work).sealed_book(of.ring, of.entries)
         where = f"{name}, in TA61 alone"
-        yield Named("cipher, in TA61 alone", where, of, in_ta61, (where,))
+        group = "steps" if name in SAME_IN_TA61 else "cipher, in TA61 alone"
+        yield Named(group, where, of, in_ta61, (SAME_IN_TA61.get(name, where),))
+    for name, steps in WRONG_BACK.items():
+        back = b"".join(_plain(working(steps), of.ring, record) for record in records(of.sealed, SEALED))
+        yield Named("opening", f"{name}, in opening", of, b"", (SAME_IN_OPENING.get(name, name),), opened=back)
+    back_keys = working({"encrypt": Working.decrypt, "decrypt": Working.encrypt})
+    where = "decryption's round keys for encryption's"
+    slip = "decryption for encryption everywhere, in TA61 too"
+    yield Named("steps", where, of, _worked(back_keys, of)[1], (slip,))
+    in_ta61 = _InTa61(back_keys).sealed_book(of.ring, of.entries)
+    yield Named("steps", f"{where}, in TA61 alone", of, in_ta61, ("decryption for encryption in TA61",))
     for name in ("halves not exchanged at the end", "D's 1e read as 10", "rotation to the right"):
         work = working(WRONG[name])
         keys, book = _worked(work, of)
@@ -183,6 +200,12 @@ def _with(of: Exam, place: int, record: bytes) -> bytes:
     return b"".join(book)
 
 
+def steps(of: Exam) -> Iterator[Named]:
+    """Other steps than the cipher's misread."""
+    for slip, altered in {**WRONG_STEPS, **IN_P}.items():
+        yield Named("steps", slip, of, _worked(working(altered), of)[1], (slip,))
+
+
 def versions(of: Exam) -> Iterator[Named]:
     """Another entry's version."""
     for place, owner in ((3, 7), (0, 15), (14, 2)):
@@ -231,6 +254,9 @@ def keys(of: Exam) -> Iterator[Named]:
     ):
         yield Named("keys", f"TB4 as {name}", of, under(d), (f"TB4 as {name}",))
 
+    reversed_d = {**model, "D": of.ring.d[::-1]}
+    yield Named("keys", "D reversed, both keys right on the sheet", of, under(of.ring.d[::-1]), ("D reversed",), reversed_d)
+
     def bl1(work: Working, key: bytes, data: bytes) -> bytes:
         left = work.encrypt(key, data[:8])
         return left + xor(work.encrypt(key, data[8:]), left)
@@ -274,7 +300,7 @@ def pen(of: Exam) -> Iterator[Named]:
 def named() -> Iterator[Named]:
     """All of them."""
     of = exam("both")
-    for make in (ciphers, given, identities, versions, keys, pen):
+    for make in (ciphers, given, identities, steps, versions, keys, pen):
         yield from make(of)
     for name, at in MISCOPIED_S.items():
         for one in (exam("both"), exam("network"), exam("radio")):

@@ -222,6 +222,81 @@ def _whole_ts(chain: Sequence[int]) -> bytes:
     return bytes(chain[::-1][:4])
 
 
+def _held(*pairs: Tuple[int, int]) -> List[int]:
+    return [a + b if a + b < 256 else 255 for a, b in pairs]
+
+
+def _stepwise(step: Callable[[int, int, int], int]) -> Cipher:
+    """f whose T is made of E, its byte of the round key, and the T before it."""
+
+    def f(work: Working, half: bytes, round_key: bytes) -> bytes:
+        x, k, last, made = half[::-1], round_key[::-1], 0, []
+        for j in range(12):
+            last = step(x[int(ORDER[11 - j])], k[j], last)
+            made.append(last)
+        return work.choose_bits(made[4:])
+
+    return {"f": f}
+
+
+def _of_sums(chain: Callable[[List[int]], List[int]]) -> Cipher:
+    """f whose T's are made of the twelve sums at once."""
+
+    def f(work: Working, half: bytes, round_key: bytes) -> bytes:
+        x, k = half[::-1], round_key[::-1]
+        return work.choose_bits(chain([(x[int(ORDER[11 - j])] + k[j]) % 256 for j in range(12)])[4:])
+
+    return {"f": f}
+
+
+def _without_first_s(sums: List[int]) -> List[int]:
+    made = [sums[0]]
+    for value in sums[1:]:
+        made.append(S[value ^ made[-1]])
+    return made
+
+
+def _anew(sums: List[int]) -> List[int]:
+    made: List[int] = []
+    for j, value in enumerate(sums):
+        made.append(S[value] if j in (0, 4, 8) else S[value ^ made[-1]])
+    return made
+
+
+def _mirror_byte(byte: int) -> int:
+    return int(f"{byte:08b}"[::-1], 2)
+
+
+def _words(data: bytes, size: int) -> bytes:
+    """Words that were loaded with the wrong byte first."""
+    made = b""
+    for at in range(0, len(data), size):
+        made += int.from_bytes(data[at : at + size], "little").to_bytes(size, "big")
+    return made
+
+
+def _in_words(d: bytes) -> Cipher:
+    """Key and block loaded as words of four bytes with the wrong byte first."""
+    inner = working(_constant(d))
+
+    def run(name: str) -> Callable[..., bytes]:
+        return lambda work, key, block: _words(getattr(inner, name)(_words(key, 4), _words(block, 4)), 4)
+
+    return {"encrypt": run("encrypt"), "decrypt": run("decrypt")}
+
+
+def _blocks(given: bool, made: bool) -> Cipher:
+    """The block's bytes numbered from the left where it goes in, or where it comes out."""
+
+    def turned(block: bytes, turn: bool) -> bytes:
+        return block[::-1] if turn else block
+
+    return {
+        "encrypt": lambda w, k, b: turned(RIGHT.encrypt(k, turned(b, given)), made),
+        "decrypt": lambda w, k, b: turned(RIGHT.decrypt(k, turned(b, given)), made),
+    }
+
+
 _D15 = SCHEDULE_D[:11] + SCHEDULE_D[12:]  # without the 1e
 _REVERSED_NIBBLE = [int(f"{n:04b}"[::-1], 2) for n in range(16)]
 INVERSE = [S.index(byte) for byte in range(256)]
@@ -306,6 +381,7 @@ WRONG: Dict[str, Cipher] = {
     "D without its 1e, a zero byte in front": _constant(b"\0" + _D15),
     "D without its 1e, a zero byte at the end": _constant(_D15 + b"\0"),
     **{f"D's 1e read as {b:02x}": _le(b) for b in (0, 0x10, 0x0E, 0xE1, 0x1F, 0x01, 0x11, 0x1C)},
+    **{f"D's 1e read as {b:02x}": _le(b) for b in (0x16, 0x7E, 0xFE, 0x4E, 0xCE)},
     "bytes 15 to 4 of the register for the round key": WINDOW,
     "bytes 14 to 3 of the register for the round key": _window(1),
     "bytes 13 to 2 of the register for the round key": _window(2),
@@ -344,7 +420,86 @@ WRONG: Dict[str, Cipher] = {
     "all bytes numbered from the left, registers rotated to the left all the same": _mirrored(
         SCHEDULE_D, True
     ),
+    "all bytes numbered from the left, registers rotated to the left all the same, D as it is printed": (
+        _mirrored(SCHEDULE_D[::-1], True)
+    ),
+    "bytes in f and in the register numbered from the left, rotation to the right": {
+        **_f(x_from_left=True, y_from_left=True, k_from_left=True),
+        **WINDOW, **_turning(lambda q, n: q[-n:] + q[:-n]),
+    },
+    "bytes of f's input and the register numbered from the left": {**_f(x_from_left=True), **WINDOW},
+    "bytes of f's output and the register numbered from the left": {**_f(y_from_left=True), **WINDOW},
+    "bytes of f's output and the round key numbered from the left": _f(
+        y_from_left=True, k_from_left=True
+    ),
+    "bytes of f's input, f's output and the register numbered from the left": {
+        **_f(x_from_left=True, y_from_left=True), **WINDOW
+    },
+    "bytes of f's input, the round key and the register numbered from the left": {
+        **_f(x_from_left=True, k_from_left=True), **WINDOW
+    },
+    "bytes of f's output, the round key and the register numbered from the left": {
+        **_f(y_from_left=True, k_from_left=True), **WINDOW
+    },
+    "other twelve bytes of the register: the last four and the first eight": {
+        "round_keys": lambda w, key: [(q + q)[12:24] for q in w.registers(key)[:16]]
+    },
+    "fourteen rounds": _kept(*range(1, 15)),
+    "twelve rounds": _kept(*range(1, 13)),
+    "thirty-two rounds, Q1 to Q16 twice": _kept(*range(1, 17), *range(1, 17)),
+    "sums of E and the round key held at 255": _f(join=lambda e, k, j: _held((e, k))[0]),
+    "sums of E and the round key modulo 255": _f(join=lambda e, k, j: (e + k) % 255),
+    "T0's byte of the round key joined by ⊕": _f(
+        join=lambda e, k, j: (e + k) % 256 if j else e ^ k
+    ),
+    "round key joined by ⊕, and the chain by sums": _f(
+        join=lambda e, k, j: e ^ k, chain=lambda s, t, v: s[(v + t) % 256]
+    ),
+    "chain's sum after S": _f(chain=lambda s, t, v: (s[v] + t) % 256),
+    "chain's ⊕ with the round key, before E's sum": _stepwise(lambda e, k, t: S[(e + (k ^ t)) % 256]),
+    "round key added after S": _stepwise(lambda e, k, t: (S[e ^ t] + k) % 256),
+    "T0 without S": _of_sums(_without_first_s),
+    "chained with the sum before, not with its T": _of_sums(
+        lambda v: [S[v[0]], *(S[v[j] ^ v[j - 1]] for j in range(1, 12))]
+    ),
+    "chained with S of the sum before, not with its T": _of_sums(
+        lambda v: [S[v[0]], *(S[v[j] ^ S[v[j - 1]]] for j in range(1, 12))]
+    ),
+    "chain begun anew at T4 and T8": _of_sums(_anew),
+    "T11 to T4 for T4 to T11, bytes of f's output numbered from the left": _f(
+        bits=lambda c: RIGHT.choose_bits(c[::-1])[::-1]
+    ),
+    "bits of T counted from the left": _f(
+        bits=lambda c: RIGHT.choose_bits([_mirror_byte(t) for t in c])
+    ),
+    "bits of T and of f's output counted from the left": _f(
+        bits=lambda c: RIGHT.choose_bits([_mirror_byte(t) for t in c[::-1]])
+    ),
+    "whole T4 to T7 for f's result": _f(chosen=slice(4, 8), bits=_whole_ts),
+    "whole T0 to T3 for f's result": _f(chosen=slice(0, 4), bits=_whole_ts),
+    "rotation by a(i-2), not by a(i-1)": _by([SCHEDULE_A[n - 1] for n in range(16)]),
+    "registers shifted, zeros from the right": _turning(lambda q, n: (q + bytes(n))[n:]),
+    "each byte rotated by bits, not the register": _turning(
+        lambda q, n: bytes(int((f"{byte:08b}" * 2)[n : n + 8], 2) for byte in q)
+    ),
+    "key's bytes in the other order in each word of four": _under(lambda key: _words(key, 4)),
+    "key's bytes in the other order in each word of eight": _under(lambda key: _words(key, 8)),
+    "D's bytes in the other order in each word of four": _constant(_words(SCHEDULE_D, 4)),
+    "bytes of the input block numbered from the left": _blocks(True, False),
+    "bytes of the output block numbered from the left": _blocks(False, True),
+    "bytes of key and block in the other order in each word of four": _in_words(SCHEDULE_D),
+    "bytes of key and block in the other order in each word of four, D's too": _in_words(
+        _words(SCHEDULE_D, 4)
+    ),
 }  # fmt: skip
+
+# Round keys of decryption, which nothing but opening takes.
+WRONG_BACK: Dict[str, Cipher] = {
+    "encryption's round keys for decryption's": {"decrypt": Working.encrypt},
+    "decryption's round keys of Q17 to Q2": {
+        "decrypt": lambda w, key, block: w.rounds(block, [q[4:] for q in w.registers(key)[:0:-1]])
+    },
+}
 
 
 def _s_with(place: int, byte: int) -> List[int]:
@@ -362,6 +517,10 @@ MISCOPIED: Dict[str, Cipher] = {
     "a4 and a5 exchanged": _by([5, 5, 5, 3, 5, *SCHEDULE_A[5:]]),
     "E0 copied as X1, not X0": _f(order=ORDER[:11] + "1"),
     "E11 and E10 exchanged": _f(order="31" + ORDER[2:]),
+    "D without its byte 6 (0a), a zero byte in front": _constant(
+        b"\0" + SCHEDULE_D.replace(b"\x0a", b"")
+    ),
+    "D without its byte 15 (3c), a zero byte at the end": _constant(SCHEDULE_D[1:] + b"\0"),
 }
 MISCOPIED_S: Dict[str, Tuple[int, int]] = {
     "S[48] copied as 1c, not 1e": (0x48, 0x1C),

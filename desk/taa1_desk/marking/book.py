@@ -144,6 +144,10 @@ class BookMarker:
         missing = sorted(set(range(len(self.model))) - set(pairs.entries.values()))
         return BookMarks(tuple(entries), tuple(missing), slips, refused, len(book) % SEALED)
 
+    def of_keys_alone(self, keys: KeySheet) -> tuple[Explained, ...]:
+        """The slips that give wrong keys, where no book is marked beside them."""
+        return self._explain([], {}, keys)[0] if keys.wrong else ()
+
     def _follows(self, record: bytes, keys: KeySheet) -> str:
         """Which of the candidate's own keys make a record."""
         return own_keys(record[0], keys.ring, self.ring) if keys.ring else ""

@@ -110,11 +110,14 @@ RUNS["decryption's round keys for encryption's"] = {
     "in_order": lambda cipher, keys: keys[::-1],
     "in_reverse": lambda cipher, keys: keys,
 }
-RUNS["encryption's round keys for decryption's"] = {"in_reverse": lambda cipher, keys: keys}
-RUNS["decryption's round keys of Q17 to Q2"] = {
-    "in_reverse": lambda cipher, keys: keys[:0:-1],
-    "in_order": lambda cipher, keys: keys[:ROUNDS],
-    "rounds_run": lambda cipher, registers: registers,
+# What opening alone shows.
+BACK: dict[str, Altered] = {
+    "encryption's round keys for decryption's": {"in_reverse": lambda cipher, keys: keys},
+    "decryption's round keys of Q17 to Q2": {
+        "in_reverse": lambda cipher, keys: keys[:0:-1],
+        "in_order": lambda cipher, keys: keys[:ROUNDS],
+        "rounds_run": lambda cipher, registers: registers,
+    },
 }
 
 
@@ -168,6 +171,7 @@ def _numbered() -> Iterator[tuple[str, Altered]]:
 CIPHER_SLIPS: tuple[CipherSlip, ...] = tuple(
     CipherSlip(name, altered)
     for name, altered in (
+        *BACK.items(),
         *HALVES.items(),
         *RUNS.items(),
         *EXPANSIONS.items(),

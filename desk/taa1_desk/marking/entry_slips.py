@@ -11,14 +11,15 @@ from .slip import Slip, added, decrypting, exchanged
 from .working import Blocks, Steps, xor
 
 
-def _kind_under(kind: int, key: str) -> Slip:
-    """A kind under another key of the ring."""
+def _kind_under(key: str, *kinds: int) -> Slip:
+    """Kinds under another key of the ring."""
 
     def alter(steps: Steps, ring: Ring, of: int) -> bytes:
-        made: bytes = getattr(ring, key) if of == kind else Steps.sealing_key(steps, ring, of)
+        made: bytes = getattr(ring, key) if of in kinds else Steps.sealing_key(steps, ring, of)
         return made
 
-    return Slip(f"kind {kind} under {key.upper()}", {"sealing_key": alter})
+    said = f"{'kinds' if kinds[1:] else 'kind'} {' and '.join(map(str, kinds))}"
+    return Slip(f"{said} under {key.upper()}", {"sealing_key": alter})
 
 
 def _entry(name: str, change: Callable[[Entry], Entry], sealing: bool = False) -> Slip:
@@ -108,11 +109,12 @@ ENTRY_SLIPS: tuple[Slip, ...] = (
     _labelled(5, 2),
     _labelled(3, 6),
     _labelled(6, 3),
-    _kind_under(5, "o"),
-    _kind_under(6, "o"),
-    _kind_under(2, "g"),
-    _kind_under(3, "g"),
-    _kind_under(4, "g"),
+    _kind_under("o", 5),
+    _kind_under("o", 6),
+    _kind_under("g", 2),
+    _kind_under("g", 3),
+    _kind_under("g", 4),
+    _kind_under("g", 2, 3),
     _entry("TA81 for TA51", _as_kind({2: 3, 5: 6}), sealing=True),
     _entry("TA51 for TA81", _as_kind({3: 2, 6: 5}), sealing=True),
     _entry("bytes of the version exchanged", lambda e: e._replace(version=exchanged(e.version))),
@@ -188,7 +190,19 @@ def _plain_p(steps: Steps, a: bytes) -> bytes:
     return bytes((2 * sum(a) - 3 * a[place]) & 0xFF for place in (2, 1, 0))
 
 
+def _arranged(name: str, change: Callable[[bytes], bytes]) -> Slip:
+    """A record whose bytes are arranged otherwise."""
+    return Slip(
+        name,
+        {"record": lambda steps, entry, *parts: change(Steps.record(steps, entry, *parts))},
+    )
+
+
 RECORD_SLIPS: tuple[Slip, ...] = (
+    _arranged("kinds counted from 0 in the record", lambda r: bytes([r[0] - 1]) + r[1:]),
+    _arranged("kind written as a character in the record", lambda r: bytes([r[0] + 0x30]) + r[1:]),
+    _arranged("version before the identity in the record", lambda r: r[:1] + r[4:6] + r[1:4] + r[6:]),
+    _arranged("version after the text in the record", lambda r: r[:4] + r[6:] + r[4:6]),
     *(_dropping(place) for place in range(15, -1, -1) if place != 7),
     Slip(
         "text reversed",

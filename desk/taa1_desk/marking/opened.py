@@ -112,7 +112,8 @@ class OpenedMarker:
         except (Problem, ValueError, SyntaxError) as error:
             problem = str(error).lstrip(", :")
             none = Flags((), (), (), (), ())
-            return Marks(size, kinds, problem, missing=tuple(range(size)), keys=keys, flags=none)
+            slips = self._explain({}, keys)[0] if keys.wrong else ()
+            return Marks(size, kinds, problem, missing=tuple(range(size)), slips=slips, keys=keys, flags=none)
         slips, borrowed = self._explain(read.answers, keys)
         names, follow = named(slips), self._following(read.answers, keys, own)
         flags = self._flags(read)

@@ -77,11 +77,14 @@ class SealedMarker:
         return self.keys.mark(file) if file else KeySheet()
 
     def _unmarked(self, problem: str, file: Optional[KeyFile]) -> Marks:
-        """The marks of a hand-in that can't be read; keys beside it are marked all the same."""
-        size = len(self.model)
+        """The marks of a hand-in that can't be read; keys beside it are marked all the same, and
+        their slips named."""
+        size, keys = len(self.model), self._keys(file)
+        missing, slips = tuple(range(size)), self.book.of_keys_alone(keys)
         blank = file.blank if file else ()
-        missing = tuple(range(size))
-        return Marks(size, self.kinds, problem, missing=missing, keys=self._keys(file), blank=blank, wanted=self.model)
+        return Marks(
+            size, self.kinds, problem, missing=missing, slips=slips, keys=keys, blank=blank, wanted=self.model
+        )
 
     def _marks(
         self, reading: Reading, found: BookMarks, keys: KeySheet, said: Sequence[str], blank: Sequence[str]

@@ -8,7 +8,7 @@ is asked for.
 
 from __future__ import annotations
 
-from itertools import product
+from itertools import combinations, product
 from typing import Any, Callable, Iterable, Iterator, Mapping, Optional, Protocol, Sequence
 
 from taa1 import Sitting
@@ -18,9 +18,11 @@ from ..names import IN_SITTING, both
 from ..records import KINDS, Entry, Ring, whole
 from .cipher_slips import CIPHER_SLIPS, CipherSlip
 from .explain import IDENTITY, TEXT
+from .f_slips import S_TABLES
 from .hurdle import Hurdle
 from .miscopied import miscopied
 from .model import keys_of
+from .rarer_slips import RARER_SLIPS
 from .slip import DERIVING, SEALING, Alteration, Slip, alone, within
 from .unsealing import opened
 from .working import Blocks, Keys, Opened, Steps, ring_of
@@ -31,6 +33,7 @@ OPENING = ("TA32", "TA52", "TA82", "TA92")
 class Work(Protocol):
     """What a hand-in holds of each entry, worked with altered steps: the parts by their names."""
 
+    act: str  # what is done with texts
     kinds: Sequence[int]
     truth: Sequence[Mapping[str, Any]]
 
@@ -53,6 +56,8 @@ class Work(Protocol):
 
 class Sealing:
     """Sealed records."""
+
+    act = "sealing"
 
     def __init__(
         self,
@@ -84,6 +89,8 @@ class Sealing:
 
 class Opening:
     """What sealed records open to."""
+
+    act = "opening"
 
     def __init__(
         self,
@@ -191,8 +198,14 @@ def _p(table: Sequence[int]) -> Alteration:
     return lambda steps, a: bytes(table[(2 * sum(a) - 3 * a[at]) & 0xFF] for at in (2, 1, 0))
 
 
-def cipher_trials(slip: CipherSlip) -> Iterator[Trial]:
-    """A slip of the cipher everywhere, and in some algorithms alone."""
+def _s_trials(name: str, table: bytes, everywhere: Mapping[str, Alteration], at: tuple[str, str]) -> Iterator[Trial]:
+    """S otherwise in P as well, where a program has one table for both; and in P alone."""
+    yield Trial(Slip(f"{name}, in P as well", {**everywhere, "p": _p(table)}, name, at=at), True, "dog", True)
+    yield Trial(Slip(alone(name, "P"), {"p": _p(table)}, name, at=("P", "5.12.4")), False, "", True)
+
+
+def cipher_trials(slip: CipherSlip, act: str = Sealing.act) -> Iterator[Trial]:
+    """A slip of the cipher everywhere, and in some algorithms alone; with what is done with texts."""
     cipher: Hurdle = slip.cipher()
     everywhere: dict[str, Alteration] = {
         "encrypt": _by(cipher.encrypt),
@@ -201,11 +214,13 @@ def cipher_trials(slip: CipherSlip) -> Iterator[Trial]:
     if slip.table:
         everywhere["p"] = _p(slip.table)
     yield Trial(Slip(slip.name, everywhere, at=slip.step), True, "dog", True)
+    if slip.name in S_TABLES:
+        yield from _s_trials(slip.name, S_TABLES[slip.name], everywhere, slip.step)
     bc = {"bc": _by(cipher.encrypt)}
     yield Trial(_alone(slip, "TA61", bc, ("TA61",)), False, "", True)
     blocks = {each: within(each, _by(cipher.encrypt), SEALING) for each in ("left_block", "right_block")}
     back = {each: within(each, _by(cipher.decrypt), OPENING) for each in ("left_back", "right_back")}
-    yield Trial(_alone(slip, "sealing", {**blocks, **back}, SEALING), False, "dog")
+    yield Trial(_alone(slip, act, {**blocks, **back}, SEALING), False, "dog")
     derived = {each: within(each, _by(cipher.encrypt), DERIVING) for each in ("left_block", "right_block")}
     yield Trial(_alone(slip, "deriving keys", derived, DERIVING), True, "do")
 
@@ -260,6 +275,12 @@ def string_trials() -> Iterator[Trial]:
     yield _strings(name, lambda k, output: _of(output, short))
 
 
+def rarer_trials() -> Iterator[Trial]:
+    """The rarer slips outside the cipher."""
+    for slip, keys, texts, identities in RARER_SLIPS:
+        yield Trial(slip, keys, texts, identities)
+
+
 # What of a book each given value is in.
 GIVEN = {
     "root": "do",
@@ -285,13 +306,41 @@ def given_trials(sitting: Sitting) -> Iterator[Trial]:
             yield GivenTrial(slip, True, texts, name == "c")
 
 
+# The given values that have ten bytes; four pairs of them have a name in the table.
+TEN_BYTES = ("rs", "rso", "rand1", "rand2", "c")
+NAMED = {frozenset(pair) for pair in (("rs", "rso"), ("rand1", "rand2"))}
+
+
+def _taken_for() -> Iterator[tuple[str, dict[str, str]]]:
+    """Given values in the place of others of their length, or two exchanged."""
+    for one, other in combinations(TEN_BYTES, 2):
+        if frozenset((one, other)) not in NAMED:
+            first, second = IN_SITTING[one], IN_SITTING[other]
+            yield f"{first} for {second}", {other: one}
+            yield f"{second} for {first}", {one: other}
+            yield f"{first} and {second} exchanged", {one: other, other: one}
+
+
+def taken_trials(sitting: Sitting) -> Iterator[Trial]:
+    """Another given value than the one that is asked for."""
+    idle = {1: "rand2", 2: "rand1"}.get(sitting.sides)
+    for name, taken in _taken_for():
+        wanted = [each for each in taken if each != idle]
+        if wanted:
+            altered = {"inputs": lambda steps, s, t=taken: s._replace(**{n: getattr(sitting, v) for n, v in t.items()})}
+            texts = "".join(sorted({text for each in wanted for text in GIVEN[each]}))
+            yield GivenTrial(Slip(name, altered, inputs=tuple(wanted)), True, texts, "c" in wanted)
+
+
 def tried_names() -> Iterator[str]:
     """The names of the slips that are tried; those of miscopied values in general."""
     for slip in CIPHER_SLIPS:
-        for trial in cipher_trials(slip):
-            yield trial.slip.name
-    for trial in string_trials():
+        for act in (Sealing.act, Opening.act):
+            for trial in cipher_trials(slip, act):
+                yield trial.slip.name
+    for trial in (*string_trials(), *rarer_trials()):
         yield trial.slip.name
+    yield from (name for name, _ in _taken_for())
     yield "D, a, E or S of the cipher with one digit miscopied, or with two neighbours exchanged"
     for name in GIVEN:
         yield f"{both(IN_SITTING[name])} with one digit miscopied, or with two neighbours exchanged"

@@ -19,7 +19,7 @@ from .cipher_slips import CIPHER_SLIPS
 from .cipher_tables import copied_wrongly
 from .explain import IDENTITY, KEY, TEXT, Found, Part, Table
 from .hurdle import agrees
-from .trials import Trial, Work, cipher_trials, given_trials, string_trials
+from .trials import Trial, Work, cipher_trials, given_trials, rarer_trials, string_trials, taken_trials
 from .working import Keys, ring_of
 
 NOT_AGREED = "the cipher, step by step, is not what the engine answers: nothing is marked"
@@ -49,10 +49,10 @@ class Tried:
         the cipher's tables, which are very many."""
         if family not in self._trials:
             if family == CIPHER:
-                made = [trial for slip in CIPHER_SLIPS for trial in cipher_trials(slip)]
-                self._trials[family] = [*made, *string_trials()]
+                made = [trial for slip in CIPHER_SLIPS for trial in cipher_trials(slip, self.work.act)]
+                self._trials[family] = [*string_trials(), *rarer_trials(), *made]
             elif family == GIVEN_VALUES:
-                self._trials[family] = list(given_trials(self.sitting))
+                self._trials[family] = [*taken_trials(self.sitting), *given_trials(self.sitting)]
             else:
                 self._trials[family] = [next(cipher_trials(slip)) for slip in copied_wrongly()]
         return self._trials[family]
@@ -149,11 +149,12 @@ class Tried:
             signs = self._signs(rest, right)
             if family == TABLES:
                 signs = [] if tried or sure else self._of_tables(signs)
-            tried += self._explained(signs, rest, right, weak, fixed, family)
+            taken = {part for each in tried for part in each.parts}
+            left = {part: value for part, value in wrong.items() if part not in taken}
+            tried += self._explained(signs, left, right, weak, fixed, family)
             told = {part for each in tried for part in each.parts}
             rest = {part: value for part, value in rest.items() if part not in told}
-        new = {part for each in tried for part in each.parts}
-        return [each for each in found if not each.parts & new] + tried
+        return _merged(found, tried, {part for each in sure for part in each.parts})
 
     def _of_tables(self, signs: Sequence[Part]) -> list[Part]:
         """Signs that take one or two blocks: an identity, and a text under G, which is made
@@ -184,6 +185,16 @@ class Tried:
     def _is_sure(self, found: Found) -> bool:
         """Whether a slip explains more than one identity, which has three bytes alone."""
         return len(self.work.truth) == 1 or len(found.parts) > 1 or min(found.parts)[1] != IDENTITY
+
+
+def _merged(found: list[Found], tried: list[Found], told: Collection[Part]) -> list[Found]:
+    """Slips of the table and those that were tried. One of the table gives way to one that
+    explains all that it does, and more; else it keeps its parts, unless they are not sure."""
+    kept = [each for each in found if not any(each.parts < other.parts for other in tried)]
+    sure = {part for each in kept for part in each.parts if part in told}
+    made = [each._replace(parts=each.parts - sure) for each in tried]
+    new = {part for each in made for part in each.parts}
+    return [each for each in kept if not each.parts & new] + [each for each in made if each.parts]
 
 
 class Versions:

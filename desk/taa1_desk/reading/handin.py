@@ -296,9 +296,17 @@ class Reader:
         """What the bytes are as records of another size, if that shows more."""
         sizes = [size for size in range(SEALED - 3, SEALED + 4) if len(book) % size == 0]
         best = max(sizes, key=lambda size: self.common(book, size), default=SEALED)
-        if self.common(book, best) <= found:
+        shown = self.common(book, best)
+        if shown <= found or 4 * shown < len(book) // best:  # a few are chance
             return ""
-        return f"records of {best} bytes, where a sealed one has {SEALED}"
+        return f"records of {best} bytes, where a sealed one has {SEALED}{self._mended(book, best)}"
+
+    def _mended(self, book: bytes, size: int) -> str:
+        """Why records have another size, where that shows: most are the model's without it."""
+        records = split(book, size)
+        if size == SEALED + 1 and 2 * sum(r[:13] + r[14:] in self.records for r in records) > len(records):
+            return ": byte 8 of BL1's output is still in each text"
+        return ""
 
     def _other(self, book: bytes, found: int) -> str:
         """What else a book is, plain or by columns or damaged, if that shows more."""
