@@ -90,6 +90,16 @@ class Slip(NamedTuple):
         return limited or set(self.altered) <= KEY_STEPS
 
 
+class Rare(NamedTuple):
+    """A rarer slip, and what of a hand-in it alters: keys, the texts under which keys of the
+    ring (d, o, g), and identities."""
+
+    slip: Slip
+    keys: bool = False
+    texts: str = ""
+    identities: bool = False
+
+
 def in_order(clauses: Iterable[str]) -> str:
     """Clauses in their order, in words."""
     return listed(sorted(clauses, key=lambda clause: [int(part) for part in clause.split(".")]))
