@@ -12,9 +12,10 @@ from exams import RIGHT, SEALED, Exam, exam
 from planted_keys import values_of
 from reference import Entry, Keys, Ring, Sitting, Working, plain_record, records, xor
 from wrong_ciphers import MISCOPIED, MISCOPIED_S, WRONG, WRONG_BACK, s_working, working
-from wrong_steps import IN_P, WRONG_STEPS
+from wrong_steps import IN_P, WRONG_OPENING, WRONG_STEPS
 
 Values = Dict[str, bytes]
+NO_BOOK = b"my book is with my neighbour\n"
 # Slips that are others in one algorithm: encryption with the round keys of decryption is decryption.
 SAME_IN_TA61 = {
     "bytes of the input block numbered from the left": "TA61's input reversed",
@@ -203,7 +204,14 @@ def _with(of: Exam, place: int, record: bytes) -> bytes:
 def steps(of: Exam) -> Iterator[Named]:
     """Other steps than the cipher's misread."""
     for slip, altered in {**WRONG_STEPS, **IN_P}.items():
-        yield Named("steps", slip, of, _worked(working(altered), of)[1], (slip,))
+        if not slip.startswith("TB4 with key"):  # which masks taken otherwise give as well
+            yield Named("steps", slip, of, _worked(working(altered), of)[1], (slip,))
+            continue
+        made, book = _worked(working(altered), of)
+        yield Named("steps", f"{slip}, both right on the sheet", of, book, (slip,), values_of(made))
+    for slip, altered in WRONG_OPENING.items():
+        opened = b"".join(_plain(working(altered), of.ring, record) for record in records(of.sealed, SEALED))
+        yield Named("opening", slip, of, b"", (slip,), opened=opened)
 
 
 def versions(of: Exam) -> Iterator[Named]:
@@ -238,6 +246,14 @@ def keys(of: Exam) -> Iterator[Named]:
     slip = "session keys 1 and 2 exchanged in use"
     values = {**model, **made}
     yield Named("keys", "KS and KS' exchanged in use, both right on the sheet", of, under(made["D"]), (slip,), values)
+    for slip, session, side, challenge in (
+        ("session key 1 in TA22, too", of.keys.session1, "2", sitting.rand2),
+        ("session key 2 in TA12, too", of.keys.session2, "1", sitting.rand1),
+    ):
+        response, key = RIGHT.ta12(session, challenge, *masks)
+        d = xor(key, of.keys.key1 if side == "2" else of.keys.key2)
+        values = {**model, f"response {side}": response, f"key {side}": key, "D": d}
+        yield Named("keys", f"{slip}, both right on the sheet", of, under(d), (slip,), values)
     for sides in (("1",), ("2",), ("1", "2")):
         values = dict(model)
         for side in sides:
@@ -263,6 +279,18 @@ def keys(of: Exam) -> Iterator[Named]:
 
     slip = "BL1's ⊕ after the encryption of the right block"
     yield Named("keys", slip, of, _worked(working({"bl1": bl1}), of)[1], (slip,))
+
+
+def keys_alone(of: Exam) -> Iterator[Named]:
+    """Keys beside a book that can't be read."""
+    for name, steps in (
+        ("T0 without S", WRONG["T0 without S"]),
+        ("D's 1e read as 10", WRONG["D's 1e read as 10"]),
+        ("RS for RAND1", WRONG_STEPS["RS for RAND1"]),
+        ("masks' bits counted from 1", WRONG_STEPS["masks' bits counted from 1"]),
+    ):
+        values = values_of(working(steps).recipe(of.sitting))
+        yield Named("keys alone", f"{name}, the book not read", of, NO_BOOK, (name,), values)
 
 
 def pen(of: Exam) -> Iterator[Named]:
@@ -300,7 +328,7 @@ def pen(of: Exam) -> Iterator[Named]:
 def named() -> Iterator[Named]:
     """All of them."""
     of = exam("both")
-    for make in (ciphers, given, identities, steps, versions, keys, pen):
+    for make in (ciphers, given, identities, steps, versions, keys, keys_alone, pen):
         yield from make(of)
     for name, at in MISCOPIED_S.items():
         for one in (exam("both"), exam("network"), exam("radio")):

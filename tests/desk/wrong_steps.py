@@ -7,7 +7,7 @@ from __future__ import annotations
 
 from typing import Any, Callable, Dict, Iterable, List, Sequence, Tuple
 
-from reference import Keys, Ring, S, Sitting, Working, fold, groups, xor
+from reference import Keys, Ring, S, Sitting, Unsealed, Working, fold, groups, xor
 from wrong_ciphers import INVERSE, Cipher, _f
 
 ORDERS = ((7, 4, 1), (6, 3, 0), (5, 2, 7))  # the bytes of K1, K2 and K3
@@ -257,6 +257,8 @@ WRONG_STEPS: Dict[str, Cipher] = {
     ),
     "masks' bits counted from 1": _masks(lambda mask: mask >> 1 | (mask & 1) << 15),
     "masks' bits counted from -1": _masks(lambda mask: mask << 1 & 0xFFFF | mask >> 15),
+    "TB4 with key 1 reversed": {"tb4": lambda w, a, b: xor(a[::-1], b)},
+    "TB4 with key 2 reversed": {"tb4": lambda w, a, b: xor(a, b[::-1])},
     "TB4 as a difference": {"tb4": lambda w, a, b: bytes((x - y) % 256 for x, y in zip(a, b))},
     "TB4 as OR, not ⊕": {"tb4": lambda w, a, b: bytes(x | y for x, y in zip(a, b))},
     "TB4 as AND, not ⊕": {"tb4": lambda w, a, b: bytes(x & y for x, y in zip(a, b))},
@@ -312,6 +314,82 @@ WRONG_STEPS: Dict[str, Cipher] = {
         lambda r: r[:1] + r[4:6] + r[1:4] + r[6:]
     ),
     "version after the text in the record": _record(lambda r: r[:4] + r[6:] + r[4:6]),
+}
+
+
+def _bl2(left: Callable[[bytes, bytes], bytes], right: Callable[[bytes, bytes], bytes]) -> Cipher:
+    """BL2 of the left block and the right one decrypted, otherwise."""
+
+    def bl2(work: Working, key: bytes, data: bytes) -> bytes:
+        back = work.decrypt(key, data[8:])
+        return work.decrypt(key, left(data[:8], back)) + right(data[:8], back)
+
+    return {"bl2": bl2}
+
+
+def _undone(run: Callable[..., Any]) -> Cipher:
+    """TA61's inverse of the three strings and the encrypted identity, otherwise."""
+
+    def inverse(work: Working, c: bytes, identity: int) -> int:
+        made = run(work.permute_back, *work.ta61_strings(c), identity.to_bytes(3, "big"))
+        return int.from_bytes(made, "big")
+
+    return {"ta61_inverse": inverse}
+
+
+def _p_undone(table: Sequence[int]) -> Cipher:
+    def permute_back(work: Working, string: bytes) -> bytes:
+        u, v, w = (table[byte] for byte in string)
+        total = 171 * (u + v + w)  # of the three bytes, times three
+        return bytes(171 * (2 * total - one) % 256 for one in (w, v, u))
+
+    return {"permute_back": permute_back}
+
+
+def _shr1(work: Working, text: bytes, sealing_key: bytes, version: int) -> Unsealed:
+    opened = work.unseal(work.long_core_key(sealing_key, version), text)
+    key = bytes(opened[14 - place] for place in (14, 13, 11, 10, 8, 7, 5, 4, 2, 1))
+    return Unsealed(key, opened[13] & 31, 0)
+
+
+def _number_first(work: Working, text: bytes, sealing_key: bytes, version: int) -> Unsealed:
+    opened = work.unseal(work.long_core_key(sealing_key, version), text)
+    both = work.parts(opened, [2, 3, 3, 3])[0]
+    return Unsealed(both[1:], both[0] & 31, 0)
+
+
+def _long_number_first(work: Working, text: bytes, sealing_key: bytes, version: int) -> Unsealed:
+    both = work.ta92(text, sealing_key, version).key
+    return Unsealed(both[2:], int.from_bytes(both[:2], "big"), 0)
+
+
+def _mended(left: bytes, back: bytes) -> bytes:
+    return left[:7] + xor(left[7:], back[7:])
+
+
+# What opening alone shows.
+WRONG_OPENING: Dict[str, Cipher] = {
+    "left block's first byte ⊕ the right one's in BL2, not its last": _bl2(
+        lambda left, back: xor(left[:1], back[:1]) + left[1:], lambda left, back: xor(left, back)[:7]
+    ),
+    "last seven bytes of BL2's right block, not the first": _bl2(
+        _mended, lambda left, back: xor(left, back)[1:]
+    ),
+    "number from the highest five bits": {"number_of": lambda work, byte: byte >> 3},
+    "SHR1 for SHR2": {"ta52": _shr1},
+    "number before the key": {"ta52": _number_first, "ta82": _long_number_first},
+    "P undone once, after the first ⊕": _undone(
+        lambda back, k1, k2, k3, i: xor(xor(back(xor(i, k3)), k2), k1)
+    ),
+    "P undone once, after the second ⊕": _undone(
+        lambda back, k1, k2, k3, i: xor(back(xor(xor(i, k3), k2)), k1)
+    ),
+    "P not undone": _undone(lambda back, k1, k2, k3, i: xor(xor(xor(i, k3), k2), k1)),
+    "P undone without S": _p_undone(range(256)),
+    "P undone with S, not its inverse": _p_undone(S),
+    "bytes of P's inverse in the other order": {
+        "permute_back": lambda work, string: Working.permute_back(work, string)[::-1]
+    },
 }
 
 

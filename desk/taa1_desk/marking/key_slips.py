@@ -13,6 +13,9 @@ from .slip import EACH_SIDE, Alteration, Slip, added, exchanged, limited
 from .working import Keys, Steps
 
 
+SIDE_OF = {"ta12": "1", "ta22": "2"}
+
+
 def _sitting(name: str, change: Callable[[Sitting], Sitting], *inputs: str) -> Slip:
     return Slip(name, {"inputs": lambda steps, sitting: change(sitting)}, inputs=inputs)
 
@@ -69,14 +72,22 @@ def _ta41(steps: Steps, sitting: Sitting, derive: Callable[[bytes, bytes], bytes
     return steps.ta41(derive(sitting.root, sitting.rs), sitting.rso)
 
 
-def _sessions_exchanged(steps: Steps, sitting: Sitting, own: Optional[Mapping[str, bytes]] = None) -> Keys:
-    """TA12 under session key 2 and TA22 under session key 1, where both run."""
-    own = own or {}
-    if steps.inputs(sitting).sides != 3:
-        return Steps.keys(steps, sitting, own)
-    one, two = (run(sitting.root, sitting.rs) for run in (steps.ta11, steps.ta21))
-    other = {"session key 1": own.get("session key 2", two), "session key 2": own.get("session key 1", one)}
-    return Steps.keys(steps, sitting, {**own, **other})
+def _sessions(name: str, **taken: str) -> Slip:
+    """TA12 or TA22 under the other side's session key, where both run."""
+
+    def alter(steps: Steps, sitting: Sitting, own: Optional[Mapping[str, bytes]] = None) -> Keys:
+        own = own or {}
+        if steps.inputs(sitting).sides != 3:
+            return Steps.keys(steps, sitting, own)
+        made = {side: run(sitting.root, sitting.rs) for side, run in (("1", steps.ta11), ("2", steps.ta21))}
+        used = {
+            f"session key {SIDE_OF[name]}": own.get(f"session key {side}", made[side])
+            for name, side in taken.items()
+        }
+        return Steps.keys(steps, sitting, {**own, **used})
+
+    at = listed([each.upper() for each in taken])
+    return Slip(name, {"keys": alter}, at=(at, "5.7"))
 
 
 def _lines(*sides: str) -> Slip:
@@ -211,7 +222,9 @@ RING_SLIPS: tuple[Slip, ...] = (
     Slip("key 2 for D, no TB4", {"tb4": lambda steps, one, two: two}),
     Slip("TB4 as a sum", {"tb4": lambda steps, one, two: added(one, two)}),
     *(_parts(name, make) for name, make in _JOINED.items()),
-    Slip("session keys 1 and 2 exchanged in use", {"keys": _sessions_exchanged}, at=("TA12 and TA22", "5.7")),
+    _sessions("session keys 1 and 2 exchanged in use", ta12="2", ta22="1"),
+    _sessions("session key 1 in TA22, too", ta22="1"),
+    _sessions("session key 2 in TA12, too", ta12="2"),
     _ring("C for D", d=lambda steps, s, r: r.c),
     _ring("D for C", c=lambda steps, s, r: r.d),
     _ring("C and D exchanged", c=lambda steps, s, r: r.d, d=lambda steps, s, r: r.c),

@@ -3,10 +3,10 @@
 
 from __future__ import annotations
 
-from typing import Any, Callable, Mapping
+from typing import Any, Callable, Mapping, Sequence
 
 from .slip import Alteration, Slip, encrypting, exchanged, turned_identity
-from .working import Opened, Steps, Unsealed, groups, summed, xor
+from .working import PAIRS, THIRD, Blocks, Opened, S, Steps, Unsealed, groups, summed, xor
 
 
 def _put_back(place: int) -> Slip:
@@ -50,6 +50,41 @@ def _number_last(steps: Steps, text: bytes, sealing_key: bytes, version: int) ->
     return Steps.ta52(steps, text, sealing_key, version)._replace(number=data[14] & 31)
 
 
+def _shr1_for_shr2(steps: Steps, text: bytes, sealing_key: bytes, version: int) -> Unsealed:
+    data = steps.bl2(steps.long_key(sealing_key, version), steps.zero_back(text))
+    key = steps.shrunk(data, PAIRS)
+    return Steps.ta52(steps, text, sealing_key, version)._replace(key=key)
+
+
+def _number_first(steps: Steps, data: bytes, sizes: tuple[int, ...]) -> bytes:
+    """The number taken from in front of the key."""
+    body = Steps.shrunk(steps, data, sizes)
+    size = {"TA52": 1, "TA82": 2}.get(steps.algorithm, 0)
+    return body[size:] + body[:size]
+
+
+def _undone(*p: bool) -> Alteration:
+    """TA61 undone with P undone after the first ⊕ and after the second, where it is said."""
+
+    def run(steps: Steps, strings: Blocks, identity: bytes) -> bytes:
+        one, two, three = strings
+        made = steps.mixed(identity, three)
+        made = steps.mixed(steps.p_inverse(made) if p[0] else made, two)
+        return steps.mixed(steps.p_inverse(made) if p[1] else made, one)
+
+    return run
+
+
+def _p_back(table: Sequence[int]) -> Alteration:
+    """P undone with another table for S's inverse."""
+
+    def run(steps: Steps, b: bytes) -> bytes:
+        sums = [table[byte] for byte in b]
+        return bytes((2 * THIRD * sum(sums) - sums[place]) * THIRD & 0xFF for place in (2, 1, 0))
+
+    return run
+
+
 def _written(name: str, change: Callable[[Opened], Opened]) -> Slip:
     """Another entry written down than was opened."""
     return Slip(name, {"written": lambda steps, opened: change(opened)})
@@ -87,7 +122,21 @@ OPENING_SLIPS: tuple[Slip, ...] = (
     ),
     Slip("encryption for decryption in BL2", {"right_back": encrypting, "left_back": encrypting}),
     Slip("BL1 for BL2", {"bl2": lambda steps, key, data: steps.bl1(key, data)[:15]}),
+    Slip(
+        "left block's first byte ⊕ the right one's in BL2, not its last",
+        _bl2(
+            lambda left, back: xor(left[:1], back[:1]) + left[1:],
+            lambda left, back, output: xor(left, back),
+        ),
+    ),
+    Slip(
+        "last seven bytes of BL2's right block, not the first",
+        _bl2(_mended, lambda left, back, output: xor(left[1:], back[1:])),
+    ),
     Slip("number from the last byte", {"ta52": _number_last}),
+    Slip("number from the highest five bits", {"five_bits": lambda steps, number: number >> 3}),
+    Slip("SHR1 for SHR2", {"ta52": _shr1_for_shr2}),
+    Slip("number before the key", {"shrunk": _number_first}),
     _written(
         "bytes of the number exchanged",
         lambda o: o._replace(number=exchanged(o.number)) if o.kind in (3, 6) and o.number else o,
@@ -98,6 +147,15 @@ OPENING_SLIPS: tuple[Slip, ...] = (
     Slip("identity not decrypted", {"decrypted": lambda steps, strings, identity: identity}),
     Slip("TA61 for its inverse", {"decrypted": Steps.encrypted}),
     Slip("P for its inverse", {"p_inverse": lambda steps, b: steps.p(b)}),
+    Slip("P undone once, after the first ⊕", {"decrypted": _undone(True, False)}),
+    Slip("P undone once, after the second ⊕", {"decrypted": _undone(False, True)}),
+    Slip("P not undone", {"decrypted": _undone(False, False)}),
+    Slip("P undone without S", {"p_inverse": _p_back(range(256))}),
+    Slip("P undone with S, not its inverse", {"p_inverse": _p_back(S)}),
+    Slip(
+        "bytes of P's inverse in the other order",
+        {"p_inverse": lambda steps, b: Steps.p_inverse(steps, b)[::-1]},
+    ),
 )
 # The steps of unsealing, and those that it shares with sealing.
 OPEN_STEPS = {"short_key", "long_key", "repeated", "core_key", "exp4", "sealing_key"}

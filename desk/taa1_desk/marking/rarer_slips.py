@@ -223,6 +223,8 @@ _SPLITS: dict[str, Mapping[str, Alteration]] = {
     "masks' bits counted from -1": _masked(1),
 }
 _TB4: dict[str, Alteration] = {
+    "TB4 with key 1 reversed": lambda steps, one, two: xor(one[::-1], two),
+    "TB4 with key 2 reversed": lambda steps, one, two: xor(one, two[::-1]),
     "TB4 as a difference": lambda steps, one, two: bytes((a - b) & 0xFF for a, b in zip(one, two)),
     "TB4 as OR, not ⊕": lambda steps, one, two: bytes(a | b for a, b in zip(one, two)),
     "TB4 as AND, not ⊕": lambda steps, one, two: bytes(a & b for a, b in zip(one, two)),

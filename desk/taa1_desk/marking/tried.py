@@ -24,6 +24,7 @@ from .working import Keys, ring_of
 
 NOT_AGREED = "the cipher, step by step, is not what the engine answers: nothing is marked"
 SIGNS = 2  # of identities, and of the texts under each key
+MANY = 4  # a slip of a program shows in one of so many of the wrong parts that it alters
 KEYS = "keys"  # the group of signs that are keys
 CIPHER, GIVEN_VALUES, TABLES = "cipher", "given values", "tables"  # families of slips
 
@@ -180,7 +181,12 @@ class Tried:
         for trial in signed.values():
             table.add(trial.slip, *self._all(trial))
         found = table.explain(wrong, right, weak, fixed)
-        return [each for each in found if self._is_sure(each)]
+        alters = dict(zip((slip.name for slip in table.slips), table.alters))
+        return [
+            each
+            for each in found
+            if self._is_sure(each) and MANY * len(each.parts) >= len(alters[each.slip.name] & wrong.keys())
+        ]
 
     def _is_sure(self, found: Found) -> bool:
         """Whether a slip explains more than one identity, which has three bytes alone."""
