@@ -1,6 +1,6 @@
-"""Times the marking of a large class: measure.py [CANDIDATES [ENTRIES]].
+"""Times the marking of a large class, in processor time: measure.py [CANDIDATES [ENTRIES]].
 
-Each candidate's book is the model under one slip of the table in turn, and every fourth
+Last come the seconds of marking alone, without the slips that are tried and with them. Each candidate's book is the model under one slip of the table in turn, and every fourth
 under a slip inside the cipher, everywhere or in TA61 alone; one in seven is shuffled, and
 one in five has half of its entries replaced by noise.
 """
@@ -8,22 +8,27 @@ one in five has half of its entries replaced by noise.
 from __future__ import annotations
 
 import random
+import resource
 import subprocess
 import sys
 import tempfile
 import time
 from pathlib import Path
+from typing import Any
+from unittest import mock
 
 ROOT = Path(__file__).resolve().parents[2]
 sys.path[:0] = [str(ROOT / folder) for folder in ("python", "desk")]
 
 from taa1_desk.command.inputs import read_sitting  # noqa: E402
 from taa1_desk.engine import Engine  # noqa: E402
+from taa1_desk.handed import HandIn  # noqa: E402
 from taa1_desk.marking.cipher_slips import CIPHER_SLIPS  # noqa: E402
 from taa1_desk.marking.sealed import SealedMarker  # noqa: E402
 from taa1_desk.marking.slipped import work  # noqa: E402
 from taa1_desk.marking.slips import SLIPS  # noqa: E402
 from taa1_desk.marking.trials import Trial, cipher_trials  # noqa: E402
+from taa1_desk.marking.tried import Tried  # noqa: E402
 from taa1_desk.reading.sittings import sitting_ring  # noqa: E402
 from taa1_desk.records import KINDS, SEALED, Entry  # noqa: E402
 
@@ -51,6 +56,21 @@ def in_cipher(marker: SealedMarker) -> list[dict[int, bytes]]:
 
     trials = [trial for slip in CIPHER_SLIPS for trial in list(cipher_trials(slip))[:2]]
     return [{at: record(trial, at) for at in range(len(marker.model))} for trial in trials]
+
+
+def untried(tried: Tried, found: Any, *others: Any, **options: Any) -> Any:
+    """`Tried.more` without what is tried."""
+    return found
+
+
+def marking(engine: Engine, plain: bytes, books: list[bytes]) -> float:
+    """The processor time of marking these books, with what is worked once for a class."""
+    start = time.process_time()
+    sitting = read_sitting(str(SITTING))
+    marker = SealedMarker(engine, sitting, sitting_ring(engine, sitting, SITTING.name), plain)
+    for book in books:
+        marker.mark(HandIn("book", book))
+    return time.process_time() - start
 
 
 def main() -> None:
@@ -81,9 +101,16 @@ def main() -> None:
         pages = ["--html", str(Path(folder) / "pages")]
         ways: dict[str, list[str]] = {"text": [], "pages": pages}
         for form, more in ways.items():
-            start = time.monotonic()
+            start = resource.getrusage(resource.RUSAGE_CHILDREN)
             subprocess.run([*command, *more], stdout=subprocess.DEVNULL, check=True)
-            print(f"{what}, as {form}: {time.monotonic() - start:.1f} s")
+            end = resource.getrusage(resource.RUSAGE_CHILDREN)
+            spent = end.ru_utime + end.ru_stime - start.ru_utime - start.ru_stime
+            print(f"{what}, as {form}: {spent:.1f} s")
+        books = [name.read_bytes() for name in names]
+        with mock.patch.object(Tried, "more", untried):
+            without = marking(engine, plain, books)
+        tried = marking(engine, plain, books)
+        print(f"marking alone: {without:.1f} s without what is tried, {tried:.1f} s with it")
 
 
 if __name__ == "__main__":

@@ -8,13 +8,15 @@ from __future__ import annotations
 from dataclasses import dataclass, field
 from typing import Any, Callable, Dict, Iterator, Optional, Tuple
 
-from exams import RIGHT, SEALED, Exam, exam
+from exams import RIGHT, SEALED, Exam, exam, exams
 from planted_keys import values_of
 from reference import Entry, Keys, Ring, Sitting, Working, plain_record, records, xor
-from wrong_ciphers import MISCOPIED, MISCOPIED_S, WRONG, WRONG_BACK, s_working, working
+from wrong_ciphers import MISCOPIED, MISCOPIED_S, NAMELESS, WRONG, WRONG_BACK, s_working, working
 from wrong_steps import IN_P, WRONG_OPENING, WRONG_STEPS
 
 Values = Dict[str, bytes]
+# A mistake that gives another's bytes here and there, and so has its name for these.
+IN_PART = {("both", "a carry of E + k added at the right"): ("sums of E and the round key modulo 255",)}
 NO_BOOK = b"my book is with my neighbour\n"
 # Slips that are others in one algorithm: encryption with the round keys of decryption is decryption.
 SAME_IN_TA61 = {
@@ -102,6 +104,18 @@ def ciphers(of: Exam) -> Iterator[Named]:
         yield Named("cipher", where, of, in_keys, (where,))
         opened = b"".join(_plain(work, keys.ring, record) for record in records(of.sealed, SEALED))
         yield Named("cipher", f"{name}, in opening", of, b"", (name,), opened=opened)
+
+
+def nameless(of: Exam) -> Iterator[Named]:
+    """Mistakes that have no name, and so must get no other one."""
+    for mistake, altered in NAMELESS.items():
+        yield Named("without a name", mistake, of, _worked(working(altered), of)[1], IN_PART.get((of.name, mistake), ()))
+
+    def c_and_version(work: Working, ring: Ring, entry: Entry) -> int:
+        return work.ta61(xor(ring.c, work.version_bytes(entry.version, 10)), entry.identity)
+
+    work = working({"encrypted_identity": c_and_version})
+    yield Named("without a name", "C ⊕ the version in TA61", of, _worked(work, of)[1], ())
 
 
 def _plain(work: Working, ring: Ring, record: bytes) -> bytes:
@@ -330,6 +344,8 @@ def named() -> Iterator[Named]:
     of = exam("both")
     for make in (ciphers, given, identities, steps, versions, keys, keys_alone, pen):
         yield from make(of)
+    for one in exams():
+        yield from nameless(one)
     for name, at in MISCOPIED_S.items():
         for one in (exam("both"), exam("network"), exam("radio")):
             work = s_working(*at)

@@ -508,6 +508,21 @@ def _s_with(place: int, byte: int) -> List[int]:
     return table
 
 
+# Mistakes that no slip of the desk is: no other name may be given to them.
+NAMELESS: Dict[str, Cipher] = {
+    "a carry of E + k added at the right": _f(join=lambda e, k, j: (e + k) % 256 + (e + k) // 256),
+    "E or k, not their sum": _f(join=lambda e, k, j: e | k),
+    "D's ⊕ in every second register": {
+        "registers": lambda w, key: [
+            q if at % 2 else xor(q, SCHEDULE_D) for at, q in enumerate(Working.registers(w, key))
+        ]
+    },
+    "even bytes of the block for L, odd ones for R": {
+        "rounds": lambda w, block, keys: Working.rounds(w, block[::2] + block[1::2], keys)
+    },
+}
+
+
 # Digits of the clause's tables that were miscopied.
 MISCOPIED: Dict[str, Cipher] = {
     "D15 copied as 3e, not 3c": _constant(b"\x3e" + SCHEDULE_D[1:]),

@@ -12,6 +12,7 @@ from typing import Any, Callable, Collection, Iterable, Mapping, NamedTuple, Opt
 
 from ..asked import KEYS
 from ..sheet import Explained
+from ..words import listed
 from .slip import Slip
 from .slips import ANOTHERS, EXCHANGED
 
@@ -176,6 +177,13 @@ def exchanges(
 PARTS = {IDENTITY: "identities", TEXT: "texts", "flag": "flags"}
 
 
+def _counted(kind: str, parts: Collection[Part], wrong: Collection[Part]) -> str:
+    """What of a kind is explained, of the wrong parts of entries: all, or how many."""
+    has = sum(part == kind for place, part in parts if place != KEY)
+    of = sum(part == kind for _, part in wrong)
+    return PARTS[kind] if has == of else f"{has} of {of} {PARTS[kind]}"
+
+
 def explained(
     found: Found, wrong: set[Part], at: dict[int, int], step: Callable[[Found], tuple[str, str]]
 ) -> Explained:
@@ -185,6 +193,9 @@ def explained(
     kinds = {part for place, part in found.parts if place != KEY}
     all_of_them = all((p, part) in found.parts for p, part in wrong if p in places)
     part = "" if all_of_them or len(kinds) > 1 else PARTS[min(kinds)]
+    counts = [_counted(kind, found.parts, {p for p in wrong if p[0] in places}) for kind in sorted(kinds)]
+    if len(kinds) > 1 and any(count[:1].isdigit() for count in counts):
+        part = listed(counts)
     return Explained(
         found.slip.name,
         tuple(sorted(at[place] for place in places)),

@@ -342,5 +342,6 @@ def tried_names() -> Iterator[str]:
         yield trial.slip.name
     yield from (name for name, _ in _taken_for())
     yield "D, a, E or S of the cipher with one digit miscopied, or with two neighbours exchanged"
+    yield "D of the cipher without one of its bytes, or two rows of S exchanged"
     for name in GIVEN:
         yield f"{both(IN_SITTING[name])} with one digit miscopied, or with two neighbours exchanged"
