@@ -19,7 +19,7 @@ from common import CLASS, COMMAND, DESK, PLAIN_BOOK, RING, ROOT, SITTING, Case, 
 from taa1 import NAMES, Refused, __version__
 from taa1_desk.cli import parser
 from taa1_desk.command import files
-from taa1_desk.command.files import write_file
+from taa1_desk.command.files import THERE, write_file
 from taa1_desk.command.overview import EXAMPLES
 from taa1_desk.problems import Problem
 from taa1_desk.reading.decoding import MOST_BYTES
@@ -228,9 +228,9 @@ class Good(Case):
             patched = mock.patch("taa1_desk.command.files.os.link", side_effect=PermissionError(1, "not permitted"))
             context: Any = patched if fails else nullcontext()
             with context:
-                write_file(str(name), b"first", private=True, new=True)
+                write_file(str(name), b"first", private=True, new=THERE)
                 with self.assertRaisesRegex(Problem, "it is there already"):
-                    write_file(str(name), b"second", private=True, new=True)
+                    write_file(str(name), b"second", private=True, new=THERE)
             self.assertEqual((name.read_bytes(), name.stat().st_mode & 0o777), (b"first", 0o600))
             self.assertEqual(os.listdir(self.folder), ["new"])
             name.unlink()

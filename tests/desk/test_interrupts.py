@@ -138,7 +138,7 @@ class Lines(Hearing):
 
     def test_new_file(self) -> None:
         name = str(self.folder / "a.html")
-        self.every_line(lambda: files.write_file(name, b"new", True, True), {}, {"a.html": b"new"})
+        self.every_line(lambda: files.write_file(name, b"new", True, files.THERE), {}, {"a.html": b"new"})
 
 
 class Command(Hearing):

@@ -7,13 +7,12 @@ import os
 import random
 import shutil
 import stat
-import sys
 import unittest
 from hashlib import sha256
 from pathlib import Path
 from typing import Any
 
-from common import CLASS, ROOT, Case, here, seal, taa1
+from common import CLASS, ROOT, Case, seal, taa1
 from common import SITTING as SITTING_OF_CLASS
 from taa1_desk.command.folders import RECORD
 from taa1_desk.command.record import THERE
