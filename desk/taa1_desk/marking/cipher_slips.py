@@ -77,26 +77,17 @@ HALVES: dict[str, Altered] = {
 }
 
 
-def _registers(name: str, first: int, last: int) -> tuple[str, Altered]:
+def _rounds(name: str, first: int, last: int) -> tuple[str, Altered]:
     """The rounds with the registers Qfirst to Qlast."""
     return name, {"rounds_run": lambda cipher, registers: registers[first - 1 : last]}
-
-
-def _rounds(name: str, first: int, last: int) -> tuple[str, Altered]:
-    """These rounds alone, counted from 1, be it in encryption or in decryption."""
-    rounds = slice(first - 1, last)
-    return name, {
-        "in_order": lambda cipher, keys: keys[rounds],
-        "in_reverse": lambda cipher, keys: keys[::-1][rounds],
-    }
 
 
 RUNS: dict[str, Altered] = dict(
     [
         _rounds("fifteen rounds, the last one left out", 1, 15),
         _rounds("fifteen rounds, the first one left out", 2, 16),
-        _registers("seventeen rounds, Q17 in the last", 1, 17),
-        _registers("schedule begun at Q2", 2, 17),
+        _rounds("seventeen rounds, Q17 in the last", 1, 17),
+        _rounds("schedule begun at Q2", 2, 17),
         _rounds("fourteen rounds", 1, 14),
         _rounds("twelve rounds", 1, 12),
         _rounds("eight rounds", 1, 8),
