@@ -10,6 +10,7 @@ import unittest
 from functools import lru_cache
 
 from common import ROOT, sheet_of
+from exams import exams
 from planted_keys import text_of
 from planted_named import NO_BOOK, Named, named
 from taa1_desk.reading.keyfile import parse
@@ -17,6 +18,7 @@ from taa1_desk.sheet import Sheet
 from taa1_desk.showing.phrases import explanation
 from taa1_desk.showing.sheet_text import sheet_text
 from test_attributed import marker, opened_marker
+from wrong_ciphers import working
 
 PAGE = ROOT / "docs" / "slips.md"
 HEAD = """# What the desk says of mistakes
@@ -81,6 +83,18 @@ class Mistakes(unittest.TestCase):
             if one.group.startswith("cipher"):
                 for slip in sheet.slips:
                     self.assertTrue(slip.step[1].startswith("6."), one.mistake)
+
+    def test_byte_kept(self) -> None:
+        """Who drops no byte is told so; records of the right size are not said to have another."""
+        for of in exams():
+            book = working({"drop": lambda work, output: output}).sealed_book(of.ring, of.entries)
+            problem = sheet_of(marker(of), "hand-in", book).problem or ""
+            self.assertIn("records of 22 bytes, where a sealed one has 21: byte 8 of BL1's output is still in each text", problem)
+
+    def test_in_part(self) -> None:
+        """A slip that gives all identities and some texts does not claim the rest."""
+        slips = [slip for one, sheet in sheets() if one.group == "without a name" for slip in sheet.slips]
+        self.assertEqual([slip.part for slip in slips], ["identities and 2 of 20 texts"])
 
     def test_table(self) -> None:
         """The page is what the desk says."""
