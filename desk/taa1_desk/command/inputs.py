@@ -13,12 +13,15 @@ from ..problems import STANDARD, Problem, place
 from ..reading import argument_points, candidates, schemes
 from ..reading.books import parse_plain, parse_sealed
 from ..reading.decoding import lines_text
+from ..reading.handin import READ_AS
+from ..reading.lines import named_values
 from ..reading.own_words import paragraphs
 from ..reading.sittings import Heading, parse_ring, parse_sitting
 from ..records import Ring
 from .files import read as read_file
 
 Read = Callable[[str], bytes]  # gives a file's bytes
+FROM_FILE = "@"  # in front of a file's name, where an option takes what stands in it
 
 
 def once(*names: str) -> None:
@@ -84,3 +87,27 @@ def read_arguments(name: Optional[str], parts: Sequence[Part], read: Read = read
 def read_words(name: Optional[str], read: Read = read_file) -> tuple[str, ...]:
     """A setter's own words for the paper, in paragraphs."""
     return paragraphs(lines_text(read(name), place(name)), place(name)) if name else ()
+
+
+def read_forms(given: Sequence[str]) -> list[str]:
+    """The forms that --as gives, FORM or FILE=FORM, and those of a text of lines FILE = FORM: @FILE."""
+    made: list[str] = []
+    for each in given:
+        if not each.startswith(FROM_FILE):
+            made.append(each)
+            continue
+        name, wrong = each[len(FROM_FILE) :], []
+        where = place(name)
+        for line in named_values(lines_text(read_file(name), where), "FILE = FORM"):
+            problem = line.problem or line.again
+            problem = problem or ("" if line.value in READ_AS else no_form(line.value))
+            made.append(f"{line.name}={line.value}")
+            wrong += [f"{where}, line {line.number}: {problem}"] if problem else []
+        if wrong:
+            raise Problem(*wrong)
+    return made
+
+
+def no_form(form: str) -> str:
+    """What is said of a form that there is none of."""
+    return f"no form {form!r}: they are {', '.join(READ_AS)}"

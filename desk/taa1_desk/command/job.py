@@ -198,9 +198,9 @@ def _forms(job: Job, names: list[str]) -> list[str]:
     forms = dict.fromkeys(names, BYTES if job.bytes else "")
     for given in job.forms:
         file, _, form = given.rpartition("=")
-        meant = [name for name in names if file in ("", name, os.path.basename(name))]
+        meant = [name for name in names if file in ("", name) or name.endswith(os.sep + file)]
         if form not in READ_AS:
-            raise Problem(f"mark: argument --as: no form {form!r}: they are {', '.join(READ_AS)}")
+            raise Problem(f"mark: argument --as: {inputs.no_form(form)}")
         if not meant:
             raise Problem(f"mark: argument --as: no hand-in is called {shown(file)!r}")
         forms.update(dict.fromkeys(meant, form))

@@ -17,13 +17,18 @@ from ..showing.exports import class_json, csv_text
 from ..showing.foot import foot
 from ..showing.phrases import UNLISTED, reading, to_look_at
 from ..showing.sheet_text import sheet_text, summary_text
-from . import files, pages, record
-from .job import APPEAL, INDEX, Job, Outcome, marked
+from . import files, inputs, pages, record
+from .job import APPEAL, INDEX, Job, Outcome, Progress, marked
 from .output import ACCEPTED, REFUSED, emit_text, json_text, keep_hand_ins
 
 
 def run_mark(args: argparse.Namespace) -> int:
     """The mark sheets of candidates' books."""
+    return mark(args)[0]
+
+
+def mark(args: argparse.Namespace, progress: Progress = files.progress) -> tuple[int, Outcome]:
+    """Marks, says and writes what the arguments ask for; the status, and what was marked."""
     _check(args)
     keep_hand_ins(args)
     job = job_of(args)
@@ -32,7 +37,7 @@ def run_mark(args: argparse.Namespace) -> int:
     named = (earlier.digest, earlier.before) if earlier else ()
     if args.html is not None and not args.clean:
         pages.keep_recorded(args.html, (INDEX, APPEAL) if earlier else (INDEX,), named)
-    outcome = marked(job)
+    outcome = marked(job, progress)
     files.say(*to_see_to(outcome, args.dry))
     if args.dry:
         passed = [f"{each}\n" for each in outcome.found.left_out]
@@ -40,7 +45,7 @@ def run_mark(args: argparse.Namespace) -> int:
     else:
         keep = kept(job, outcome, earlier, args.reason or "") if args.record or earlier else None
         _write(args, outcome, keep, named)
-    return REFUSED if outcome.of.has_unread else ACCEPTED
+    return REFUSED if outcome.of.has_unread else ACCEPTED, outcome
 
 
 def job_of(args: argparse.Namespace) -> Job:
@@ -53,7 +58,7 @@ def job_of(args: argparse.Namespace) -> Job:
         args.candidates,
         args.opened,
         args.bytes,
-        tuple(args.as_ or ()),
+        tuple(inputs.read_forms(args.as_ or ())),
         tuple(name for name in (args.output, args.record, args.against) if name not in (None, STANDARD)),
         args.arguments,
     )

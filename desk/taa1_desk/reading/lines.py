@@ -69,3 +69,17 @@ def is_lines(text: str) -> bool:
     """Whether a text is a book in lines."""
     first = next((line for _, line in lines_of(text)), "")
     return not {"entry", "entries", *WORDS}.isdisjoint(first.lower().split())
+
+
+def with_line(text: str, name: str, value: str) -> str:
+    """A text with a line NAME = VALUE set, or without it where the value is empty; all else, also
+    what stands after a # in that line, is as it was."""
+    made, line = [], f"{name} = {value}" if value else ""
+    for old in text.splitlines():
+        said, hash_, comment = old.partition("#")
+        if "=" not in said or said.partition("=")[0].strip() != name:
+            made.append(old)
+        elif line:
+            made.append(f"{line}  {hash_}{comment}" if hash_ else line)
+            line = ""
+    return "".join(f"{each}\n" for each in [*made, *([line] if line else [])])
