@@ -25,7 +25,8 @@ MAY: dict[str, tuple[str, ...]] = {
     "showing": (DATA, "reading", "marking"),
     "application": (DATA, "reading", "marking"),
     "command": (DATA, "reading", "marking", "setting", "showing", "application"),
-    "cli": (DATA, "showing", "command"),
+    "window": (DATA, "reading", "marking", "showing", "command"),
+    "cli": (DATA, "showing", "command", "window"),
 }
 Graph = dict[str, set[str]]  # the modules that each imports, by names as in marking.book
 

@@ -16,7 +16,7 @@ from ..records import RING
 from ..setting import draw
 from ..showing.paper import PARTS
 from ..values import IDENTITY, MASK
-from . import files
+from . import day, files
 from .options import bytes_of, damages, digits, entries, kinds, number, sentence, words
 from .overview import EXAMPLES, overview
 
@@ -219,6 +219,7 @@ def parser(says: str, runs: Mapping[str, Run]) -> Parser:
     arguing = command("argue")
     mark = command("mark")
     for each_ in (model, papers, arguing, mark):
+        each_.add_argument("--day", metavar="FOLDER", help=f"stands for {day.files_said(each_.prog.split()[-1])}")
         each_.add_argument("sitting", metavar="SITTING", help="names, bytes or hexadecimal")
         each_.add_argument("book", metavar="BOOK", help="a plain book: lines, bytes or hexadecimal")
     model.add_argument("--html", action="store_true", help="write a page of HTML")
@@ -282,7 +283,7 @@ def parser(says: str, runs: Mapping[str, Run]) -> Parser:
         action="append",
         dest="as_",
         metavar="[CANDIDATE=]FORM",
-        help=f"read it so, whatever it looks like: {', '.join(READ_AS)}",
+        help=f"read it so, whatever it looks like: {', '.join(READ_AS)}; or @FILE, lines CANDIDATE = FORM",
     )
     _common(mark, bytes="", json="")
 
@@ -290,6 +291,9 @@ def parser(says: str, runs: Mapping[str, Run]) -> Parser:
     verify.add_argument("record", metavar="RECORD", help="what mark --record wrote")
     verify.add_argument("folder", nargs="+", metavar="FOLDER", help="where its files are, or below it")
     _common(verify)
+
+    window = command("window")
+    window.add_argument("folder", nargs="?", metavar="FOLDER", help="the day's, a new one or an earlier day's")
 
     _common(command("scheme", private=False))
     _common(command("slips", private=False))

@@ -7,6 +7,7 @@ import argparse
 from typing import Mapping
 
 DAY: dict[str, str] = {
+    "window": "taa1 window day",
     "draw": "taa1 draw -o sitting.txt",
     "book": "taa1 book model.txt -o model.bin",
     "model": "taa1 model sitting.txt model.txt",
