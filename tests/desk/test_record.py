@@ -347,6 +347,22 @@ class Appeals(Day):
         self.assertEqual(stat.S_IMODE((self.day / "pages" / "appeal.html").stat().st_mode), 0o600)
         self.same(self.day, record="second.json")
 
+    def test_argument(self) -> None:
+        """The argument's parts, one by one, and a total that is known now."""
+        (self.day / "scheme").write_text("pass = 60%\n")
+        self.mark("--record", "record.json", "--scheme", "scheme")
+        (self.day / "arguments").write_text("ann = given 1, one entry full, properties 2, without it 2, was sealed 2\n")
+        again = ("--scheme", "scheme", "--arguments", "arguments", "--against", "record.json", "--reason", "late")
+        said = self.mark(*again).out.decode()
+        for line in (
+            "    argument, one entry: 3, was -",
+            "    counts 0 so far: -, was argument",
+            "    total, passed: yes, was not yet known",
+            "    totals, mean: 22, was -",
+        ):
+            self.assertIn(f"{line}\n", said)
+        self.assertNotIn("{", said)
+
     def test_nothing_changed(self) -> None:
         self.mark("--record", "record.json")
         done = self.mark("--against", "record.json", "--reason", "asked by Ben")
@@ -407,7 +423,7 @@ class Changes(unittest.TestCase):
             (1, 1, []),
             ({"a": 1}, {"a": 1, "b": None}, []),
             ({"a": 1}, {"a": 2, "b": True}, [("a", "1", "2"), ("b", "-", "yes")]),
-            ({"points": {"sum": "37/2"}}, {"points": None}, [("points", '{"sum": "37/2"}', "-")]),
+            ({"points": {"sum": "37/2"}}, {"points": None}, [("points, sum", "18 1/2", "-")]),
             ({"points": {"sum": "37/2"}}, {"points": {"sum": "0"}}, [("points, sum", "18 1/2", "0")]),
             ({"mean": "2009/201"}, {"mean": "10"}, [("mean", "2009/201", "10")]),
             ({"mean": "2049/200"}, {"mean": "10"}, [("mean", "10.24", "10")]),

@@ -85,15 +85,18 @@ class _List(NamedTuple):
 
 _LISTS = {
     "items": _List("points for", "for", lambda of: _points(of["points"])),
+    "parts": _List("argument,", "part", lambda of: _points(of["points"])),
     "keys": _List("value", "name", _key),
     "entries": _List("entry", "entry", _entry),
     "slips": _List("slip", "slip", _slip),
     "wrong_entries": _List("who got entry", "entry", _wrong),
     "left_out": _List("left out:", "file", lambda of: str(of["why"])),
 }
-_FIRST = ("total", "points, sum", "points, of", "argument")  # of a candidate's changes
+_FIRST = ("total", "counts 0 so far", "points, sum", "points, of", "argument")  # of a candidate's changes
 _DERIVED = ("slips", "checks", "wrong_entries")  # counts of the class that follow from candidates' changes
 _POINTS = ("sum", "of", "points", "mean", "median")
+_SAID: dict[tuple[str, ...], str] = {("total", "counts_0"): "counts 0 so far"}  # of what its name alone would not say
+_UNKNOWN: dict[tuple[str, ...], str] = {("total", "passed"): "not yet known"}  # what null means there
 
 
 def _points(value: Any) -> str:
@@ -140,14 +143,15 @@ def changed(was: Any, now: Any, what: tuple[str, ...] = ()) -> Iterator[Change]:
     if was == now:
         return
     last = what[-1] if what else ""
-    if isinstance(was, dict) and isinstance(now, dict):
-        for key in dict.fromkeys((*was, *now)):
-            yield from changed(was.get(key), now.get(key), (*what, key))
+    if isinstance(was, (dict, type(None))) and isinstance(now, (dict, type(None))):
+        old, new = was or {}, now or {}
+        for key in dict.fromkeys((*old, *new)):
+            yield from changed(old.get(key), new.get(key), (*what, key))
     elif last in _LISTS and isinstance(was or [], list) and isinstance(now or [], list):
         of = _LISTS[last]
-        old, new = _numbered(was or [], of.key), _numbered(now or [], of.key)
-        for name in dict.fromkeys((*old, *new)):
-            one, other = old.get(name), new.get(name)
+        before, after = _numbered(was or [], of.key), _numbered(now or [], of.key)
+        for name in dict.fromkeys((*before, *after)):
+            one, other = before.get(name), after.get(name)
             if one != other:
                 pair = _few(of.said, one), _few(of.said, other)
                 pair = pair if pair[0] != pair[1] else (_plain(one), _plain(other))
@@ -155,7 +159,8 @@ def changed(was: Any, now: Any, what: tuple[str, ...] = ()) -> Iterator[Change]:
     else:
         said = _points if last in _POINTS else _plain
         said = said if said(was) != said(now) else _plain
-        yield Change(_words(what), said(was), said(now))
+        one, other = (_UNKNOWN.get(what, NONE) if each is None else said(each) for each in (was, now))
+        yield Change(_SAID.get(what) or _words(what), one, other)
 
 
 def _words(what: Iterable[str]) -> str:
