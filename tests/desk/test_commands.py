@@ -433,6 +433,10 @@ class Bad(Case):
         self.file("class/ann.book", SEALED_BOOK)
         self.file("model.txt", INPUTS[1].read_text())
         self.file("sheet.txt", (CLASS / "lineage.txt").read_text())
+        day = self.folder / "day"
+        day.mkdir()
+        files_ = [shutil.copy(CLASS / name, day) for name in ("sitting.txt", "model.txt", "ann.book")]
+        self.accepted("mark", *files_, "--record", "record.json", "-o", "marks.txt", cwd=self.folder)
         for name in listed:
             with self.subTest(name):
                 self.assertIn(f"{EXAMPLES[name]}\n", said)

@@ -363,6 +363,22 @@ def picked(page: Any) -> str:
     return str(page.table.selection()[0])
 
 
+# Presses F5 in the window that the command opens, and closes it when the table is written.
+DRIVER = """
+import os, time, tkinter
+
+def mainloop(root, n=0):
+    root.update()
+    root.focus_force()
+    root.event_generate("<F5>")
+    end = time.monotonic() + 60
+    while time.monotonic() < end and not os.path.exists(os.environ["MARKS"]):
+        root.update()
+        time.sleep(0.05)
+    root.tk.call(root.protocol("WM_DELETE_WINDOW"))
+
+tkinter.Misc.mainloop = mainloop
+"""
 KEYSYMS = {" ": "space", "/": "slash", ",": "comma", "%": "percent", ".": "period", "-": "minus"}
 
 
@@ -628,6 +644,40 @@ class Seen(Case):
         page.pick("ben.book")
         self.app.where.configure(text="The day's folder: /home/kim/winter")
         self.picture("sample")
+
+    def test_keyboard(self) -> None:
+        """The tab key goes through a page as it is read, from its first field on."""
+        page, order = self.page(1), []
+        for _ in range(60):
+            order.append(self.root.focus_get())
+            self.key("Tab")
+        names = ("title", "date", "kinds", "entries")
+        self.assertEqual(order[: len(names)], [page.fields[name] for name in names])
+        self.assertEqual(order[len(names)], page.sides)
+        points = list(page.points.values())
+        start = order.index(points[0])
+        self.assertEqual(order[start : start + len(points)], points)
+        self.assertEqual(order[start + len(points)], page.words)
+        table = self.page(2)
+        seen = []
+        for _ in range(12):
+            seen.append(self.root.focus_get())
+            self.key("Tab")
+        self.assertIn(table.table, seen)
+
+    def test_script(self) -> None:
+        """Started as a person starts it, the window marks in a process of its own."""
+        day = self.folder / "day"
+        (day / at.HAND_INS).mkdir(parents=True)
+        for name in (at.SITTING, at.MODEL):
+            shutil.copy(CLASS / name, day)
+        shutil.copy(CLASS / "ann.book", day / at.HAND_INS)
+        (self.folder / "driver").mkdir()
+        (self.folder / "driver" / "sitecustomize.py").write_text(DRIVER)
+        env = {**os.environ, "PYTHONPATH": str(self.folder / "driver"), "MARKS": str(day / at.MARKS)}
+        done = taa1("window", day, env=env)
+        self.assertEqual((done.status, done.error, done.out), (0, "", b""))
+        self.assertEqual((day / at.MARKS).read_bytes(), taa1("mark", "--day", day, "--csv").out)
 
     def test_text(self) -> None:
         """Names and files are text: none is markup, a list of Tcl's or a command."""

@@ -16,6 +16,7 @@ from .widgets import AIR, Message, buttons, field, fill
 SIDES = {"drawn by lot": "", "1: the radio proves itself": "1", "2: the network does": "2", "3: both do": "3"}
 FIELDS = {"title": "Title", "date": "Date", "kinds": "Kinds, as 1,1,2,5", "entries": "or how many entries"}
 COLUMNS = 3  # of points
+WORDS = "The setter's words, which stand on the paper: time, aids, how to hand in"
 SURE = "The worked solution has every answer. Make it, and open it on this screen?"
 
 
@@ -26,19 +27,17 @@ class SittingPage(Page):
 
     def __init__(self, app: App) -> None:
         super().__init__(app)
-        below = ttk.Frame(self)
+        above, words, below = ttk.Frame(self), ttk.Labelframe(self, text=WORDS), ttk.Frame(self)  # as the tab key goes
         below.pack(side="bottom", fill="x", pady=(AIR, 0))
         prints = {"Question paper": "paper", "Answer form": "form", "Worked solution…": "solution"}
         self.buttons = buttons(below, {text: partial(self._print, part) for text, part in prints.items()})
         self.printed = Message(below)
         self.printed.pack(side="left", fill="x", expand=True)
-        words = ttk.Labelframe(self, text="The setter's words, which stand on the paper: time, aids, how to hand in")
         words.pack(side="bottom", fill="both", expand=True, pady=(AIR, 0))
         self.words = tk.Text(words, height=3, wrap="word", relief="flat", padx=4, pady=4, font="TkTextFont")
         self.words.bind("<FocusOut>", lambda event: self._set_words())
         self.words.bind("<Tab>", _leave)
         self.words.pack(fill="both", expand=True)
-        above = ttk.Frame(self)
         above.pack(fill="x")
         self.halves = [ttk.Labelframe(above, text=text) for text in ("Sitting and model book", "Points")]
         self._drawing(self.halves[0])
