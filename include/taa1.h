@@ -58,9 +58,9 @@ extern "C" {
 
 /* ---- The release: that of this header, and taa1_release answers that of the library ---- */
 
-#define TAA1_VERSION "1.0.0"
+#define TAA1_VERSION "1.1.0"
 #define TAA1_VERSION_MAJOR 1
-#define TAA1_VERSION_MINOR 0
+#define TAA1_VERSION_MINOR 1
 #define TAA1_VERSION_PATCH 0
 
 /* ---- Constants ---- */

@@ -26,8 +26,9 @@ from taa1 import library  # noqa: E402
 
 NAME = "taa1"
 TAG = "py3-none-linux_x86_64"
-INFO = f"{NAME}-{VERSION}.dist-info"
-SCRIPT = f"{NAME}-{VERSION}.data/scripts/{NAME}"
+RELEASE = VERSION.replace("-dev", ".dev0")  # as pip writes it
+INFO = f"{NAME}-{RELEASE}.dist-info"
+SCRIPT = f"{NAME}-{RELEASE}.data/scripts/{NAME}"
 PRINTTABLES = "taa1_desk/printtables"
 
 WHEEL = f"Wheel-Version: 1.0\nGenerator: {NAME}\nRoot-Is-Purelib: false\nTag: {TAG}\n"
@@ -63,7 +64,7 @@ def metadata() -> str:
     lines = [
         "Metadata-Version: 2.4",
         f"Name: {table['name']}",
-        f"Version: {VERSION}",
+        f"Version: {RELEASE}",
         f"Summary: {table['description']}",
         f"License-Expression: {table['license']}",
         *(f"License-File: {name}" for name in table["license-files"]),
@@ -110,7 +111,7 @@ def write(folder: str, found: dict[str, bytes]) -> str:
     """Writes a wheel of these files, and its list of them; the wheel's name."""
     record = "".join(_listed(name, data) for name, data in found.items())
     found = {**found, f"{INFO}/RECORD": (record + f"{INFO}/RECORD,,\n").encode()}
-    made = f"{NAME}-{VERSION}-{TAG}.whl"
+    made = f"{NAME}-{RELEASE}-{TAG}.whl"
     with zipfile.ZipFile(Path(folder) / made, "w", zipfile.ZIP_DEFLATED) as archive:
         for name, data in found.items():
             entry = zipfile.ZipInfo(name)

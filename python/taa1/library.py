@@ -9,7 +9,7 @@ import sys
 from functools import lru_cache
 from pathlib import Path
 
-VERSION = "1.0.0"
+VERSION = "1.1.0"
 VARIABLE = "TAA1_LIBRARY"
 NAME = "libtaa1.so"
 SONAME = f"{NAME}.{VERSION.partition('.')[0]}"  # beside the package, as it is installed

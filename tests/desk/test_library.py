@@ -347,10 +347,11 @@ class Installing(Case):
         names = {"taa1/py.typed", "taa1_desk/py.typed", "taa1/libtaa1.so.1", "taa1_desk/cli.py"}
         names.add("taa1_desk/printtables")
         self.assertLessEqual(names, set(files))
-        info = f"taa1-{taa1.__version__}.dist-info"
+        release = taa1.__version__.replace("-dev", ".dev0")
+        info = f"taa1-{release}.dist-info"
         self.assertEqual(files[f"{info}/licenses/LICENSE"], (ROOT / "LICENSE").read_bytes())
         said = email.message_from_bytes(files[f"{info}/METADATA"])
-        self.assertEqual(said["Version"], taa1.__version__)
+        self.assertEqual(said["Version"], release)
         self.assertEqual(said["License-Expression"], "MIT")
         self.assertTrue(said.get_payload().startswith("# Lirgotuul"))
         listed = {line.partition(",")[0] for line in files[f"{info}/RECORD"].decode().splitlines()}

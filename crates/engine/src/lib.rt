@@ -45,11 +45,11 @@ pub struct Release {
 
 #[no_mangle]
 pub extern "C" fn taa1_release() -> Release
-    ensures { λ r. ⌜ r ≡ record { major = 1; minor = 0; patch = 0 } ⌝ }
+    ensures { λ r. ⌜ r ≡ record { major = 1; minor = 1; patch = 0 } ⌝ }
 {
     Release {
         major: 1,
-        minor: 0,
+        minor: 1,
         patch: 0,
     }
 }

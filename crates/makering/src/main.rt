@@ -2,6 +2,7 @@
 use keys::sitting_ring;
 use libc::STDERR_FILENO;
 use programs::Input;
+use programs::answer_version;
 use programs::read_argument;
 use programs::read_input;
 use programs::report_answer;
@@ -40,6 +41,9 @@ fn write_made(made: RingMade) -> bool {
 
 // One byte more than a sitting, so that a longer file is seen to be longer.
 fn main() {
+    if answer_version(b"makering").len > 0 {
+        return;
+    }
     let mut sitting = [0u8; SITTING + 1];
     let input = read_sitting(&mut sitting);
     if input.failed {

@@ -2,6 +2,7 @@
 use libc::STDERR_FILENO;
 use plain_listing::LISTING;
 use plain_listing::list_plain;
+use programs::answer_version;
 use programs::read_input;
 use programs::write_output;
 use standard::MOST_RECORDS;
@@ -13,6 +14,9 @@ fn print(listing: &[u8; LISTING], n: usize) {
 
 // The input has one byte more than the longest book, so that a longer one is seen to be longer.
 fn main() {
+    if answer_version(b"plainlist").len > 0 {
+        return;
+    }
     if os::arg_count() > 1 {
         io::write_all(STDERR_FILENO, b"usage: plainlist <BOOK\n");
         return;

@@ -2,9 +2,13 @@
 use libc::STDERR_FILENO;
 use printed_tables::TABLES_TEXT;
 use printed_tables::print_tables;
+use programs::answer_version;
 use programs::write_output;
 
 fn main() {
+    if answer_version(b"printtables").len > 0 {
+        return;
+    }
     if os::arg_count() > 1 {
         io::write_all(STDERR_FILENO, b"usage: printtables\n");
         return;

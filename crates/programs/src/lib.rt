@@ -1,5 +1,6 @@
 // What the programs share: input read to its end, output written, and a line on standard error that says what went wrong.
 use arrays::copy;
+use arrays::same;
 use libc::STDERR_FILENO;
 use libc::STDIN_FILENO;
 use libc::STDOUT_FILENO;
@@ -14,11 +15,15 @@ use standard::RING;
 use standard::RingBytes;
 use standard::SEALED_RECORD;
 ghost use mathlib.Core.Bool.{true, false};
+ghost use mathlib.Core.Logic.{_⊎_};
 ghost use mathlib.Core.Path.{_≡_};
 ghost use Prim.Native.Nat.{_≤_};
 ghost use lib.Dec.{eqb};
 ghost use lib.ListN.{length};
 ghost use Rattle.io.specs.Counts.{Counts};
+ghost use Rattle.standard.specs.Bytes.{same as sameOf};
+ghost use Rattle.standard.specs.Lines.{ascii};
+ghost use Rattle.lines.specs.LineStates.{emptyLine, _▸_};
 ghost use Rattle.programs.specs.Reading.{Gathered, Read, RingRead};
 
 // What was read: how many bytes, and whether reading failed. Standard error then has a line about it.
@@ -238,4 +243,40 @@ pub fn report_counted_answer(answer: CountedAnswer) -> bool
     let mut line = [0u8; ROOM];
     let reported = report_counted(answer, &mut line);
     report_line(answer.refusal, &line, reported.written)
+}
+
+// The program's name and the release.
+fn version_line(program: &[u8]) -> Line
+    ensures { λ r. ⌜ r ≡ emptyLine ▸ now (program .entry) ▸ ascii " 1.1.0\n" ⌝ }
+{
+    Line::empty().word(program).word(b" 1.1.0\n")
+}
+
+fn is_version(argument: &[u8]) -> bool
+    ensures { λ r. ⌜ r ≡ sameOf (now (argument .entry)) (ascii "--version") ⌝ }
+{
+    same(argument, b"--version")
+}
+
+// Whether `--version` is the only argument.
+fn version_asked() -> bool {
+    if os::arg_count() != 2 {
+        return false;
+    }
+    let mut argument = io::buffer();
+    let n = os::arg(1, &mut argument);
+    is_version(&argument[..n])
+}
+
+// What was written about the release, on standard output: a line if `--version` is the only argument, else nothing.
+pub fn answer_version(program: &[u8]) -> Line
+    ensures { λ r. ⌜ (r ≡ emptyLine) ⊎ (r ≡ emptyLine ▸ now (program .entry) ▸ ascii " 1.1.0\n") ⌝ }
+{
+    if !version_asked() {
+        return Line::empty();
+    }
+    let l = version_line(program);
+    let bytes = l.bytes;
+    write_output(program, &bytes, l.size());
+    l
 }
