@@ -229,7 +229,7 @@ fn write(root: &Path) -> Result<String, String> {
 fn write_version(root: &Path) -> Result<String, String> {
     let version = version::write(root)?;
     Ok(format!(
-        "{version} is written; CHANGELOG.md wants a heading of its own"
+        "{version} is written; `contracts write` comes next, and a release wants a heading in CHANGELOG.md"
     ))
 }
 
