@@ -9,7 +9,7 @@ from __future__ import annotations
 
 from collections import Counter
 from fractions import Fraction
-from typing import Callable, Iterable, NamedTuple, Sequence
+from typing import Callable, Collection, Iterable, NamedTuple, Sequence
 
 from ..points import BLANK, NOT_HANDED_IN, Item, Lost, Points
 from ..reading.schemes import ASKED, EXTRA, IDENTITY, SHARE, TEXT, Scheme
@@ -48,9 +48,10 @@ def _entries(scheme: Scheme, marks: Marks) -> Iterable[Item]:
     """What the book gives: its entries, and what is given in the place of those not right."""
     redundancy, share = scheme["redundancy byte"], scheme[SHARE]
 
-    def full(places: Iterable[int]) -> Fraction:
+    def full(places: Collection[int]) -> Fraction:
         """The points of entries with everything right."""
-        return sum((scheme["entry"] + redundancy * KINDS[marks.kinds[at]].checks for at in places), Fraction(0))
+        checks = sum(KINDS[marks.kinds[at]].checks for at in places)
+        return scheme["entry"] * len(places) + redundancy * checks
 
     right = [e.model for e in marks.entries if e.state == "right" and e.model is not None]
     following = [e.model for e in marks.entries if follows(e) and e.model is not None]
