@@ -11,6 +11,7 @@ import json
 import os
 import re
 import shutil
+import signal
 import subprocess
 import sys
 import time
@@ -21,7 +22,7 @@ from typing import Any, Callable, ClassVar, Optional
 from unittest import mock
 
 import reference
-from common import CLASS, DESK, LINES, SITTING, Case, here, seal, taa1
+from common import CLASS, COMMAND, DESK, LINES, SITTING, Case, here, seal, taa1
 from mistakes import Remembering
 from rooms import DESK as SOURCES
 from taa1_desk.cli import main
@@ -358,6 +359,13 @@ def untimed(page: str) -> str:
     return re.sub(r"\d{4}-\d\d-\d\d[T ]\d\d:\d\d(:\d\d)?", "", page)
 
 
+def listening(process: Any) -> list[str]:
+    """The ports on which a process listens."""
+    own = {os.readlink(each) for each in Path(f"/proc/{process}/fd").iterdir() if each.is_symlink()}
+    lines = [line.split() for name in ("tcp", "tcp6") for line in Path(f"/proc/{process}/net/{name}").read_text().splitlines()]
+    return [line[1] for line in lines if line[3] == "0A" and f"socket:[{line[9]}]" in own]
+
+
 def picked(page: Any) -> str:
     """The key of the row that is selected."""
     return str(page.table.selection()[0])
@@ -376,6 +384,17 @@ def mainloop(root, n=0):
         root.update()
         time.sleep(0.05)
     root.tk.call(root.protocol("WM_DELETE_WINDOW"))
+
+tkinter.Misc.mainloop = mainloop
+"""
+# Says that the window is open.
+STARTED = """
+import os, tkinter
+real = tkinter.Misc.mainloop
+
+def mainloop(root, n=0):
+    open(os.environ["STARTED"], "w").close()
+    real(root, n)
 
 tkinter.Misc.mainloop = mainloop
 """
@@ -679,6 +698,22 @@ class Seen(Case):
         self.assertEqual((done.status, done.error, done.out), (0, "", b""))
         self.assertEqual((day / at.MARKS).read_bytes(), taa1("mark", "--day", day, "--csv").out)
 
+    def test_interrupted(self) -> None:
+        """A signal ends the window as it ends every command."""
+        (self.folder / "driver").mkdir()
+        (self.folder / "driver" / "sitecustomize.py").write_text(STARTED)
+        started = self.folder / "started"
+        env = {**os.environ, "PYTHONPATH": str(self.folder / "driver"), "STARTED": str(started)}
+        for number in (signal.SIGINT, signal.SIGTERM):
+            with subprocess.Popen([*COMMAND, "window"], env=env, cwd=self.folder, stderr=subprocess.PIPE) as window:
+                end = time.monotonic() + WAIT
+                while not started.exists() and time.monotonic() < end:
+                    time.sleep(0.05)
+                window.send_signal(number)
+                error = window.communicate(timeout=WAIT)[1]
+            started.unlink()
+            self.assertEqual((window.returncode, error), (128 + number, b"taa1: interrupted\n"))
+
     def test_text(self) -> None:
         """Names and files are text: none is markup, a list of Tcl's or a command."""
         day, names = self.folder / "day", ("{a b.book", "$x [exit] \\\\.book", "-o.book", "a\\tb.book", "ü\"'<b>.book")
@@ -727,6 +762,9 @@ class Seen(Case):
                 self.root.update()
                 time.sleep(0.01)
             self.picture("2-under-way")
+            assert self.app.work is not None
+            processes = (os.getpid(), self.app.work._process.pid)
+            self.assertEqual([listening(pid) for pid in processes], [[], []])
             ends()
             self.assertIsNone(self.app.work)
             self.assertEqual(sorted(day.rglob("*")), before)

@@ -55,6 +55,7 @@ class Day(at.Folder):
         open_ = [f"{looks} to decide on (they stand first)"] if looks else []
         open_ += [f"{blank} whose argument is not marked"] if blank else []
         still = f"Of {len(self.rows)} rows there are still {listed(open_)}. " if open_ else ""
+        still = f"{self.changed()} {still}".lstrip() if page == 3 else still
         if not self.has(at.RECORD):
             return f"{still}Next: write the record (page 3)."
         return f"{still}The record is kept: verify it, or compare with it after an appeal (page 3)."
