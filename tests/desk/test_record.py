@@ -297,6 +297,15 @@ class Verified(Day):
         now, old = digest(self.day / "model.txt")[:12], self.record()["files"]["book"]["sha256"][:12]
         self.differs(f"book model.txt, SHA-256: {now}, was {old}")
 
+    def test_long(self) -> None:
+        """The record of a large class can be read again, though no other input may be so long."""
+        self.mark("--record", "record.json")
+        path = self.day / "record.json"
+        path.write_text(path.read_text() + "\n" * (1 << 20))
+        self.same(self.day)
+        done = self.mark("--against", "record.json", "--reason", "it is long")
+        self.assertIn("\n  Nothing changed.\n", done.out.decode())
+
     def test_wrong_use(self) -> None:
         self.mark("--record", "record.json")
         made = self.record()

@@ -53,34 +53,34 @@ def keep(name: str) -> None:
         raise Problem(f"{shown(name)}: {READ}")
 
 
-def read(name: str) -> bytes:
-    """A file's bytes, or those of standard input."""
+def read(name: str, most: int = MOST_BYTES) -> bytes:
+    """A file's bytes, or those of standard input, if they are not more than so many."""
     try:
         if name == STANDARD:
             if sys.stdin is None:
                 raise Problem("standard input: it is closed")
             _remember(sys.stdin.fileno())
-            data = sys.stdin.buffer.read(MOST_BYTES + 1)
+            data = sys.stdin.buffer.read(most + 1)
         else:
             # a pipe that nobody writes to would keep an ordinary open waiting for ever
             with open(os.open(name, os.O_RDONLY | os.O_NONBLOCK), "rb", buffering=0) as file:
                 _remember(file.fileno())
-                data = _all(file.fileno(), stat.S_ISFIFO(os.fstat(file.fileno()).st_mode))
+                data = _all(file.fileno(), stat.S_ISFIFO(os.fstat(file.fileno()).st_mode), most)
     except (OSError, ValueError) as error:
         said = reason(error) if isinstance(error, OSError) else str(error)
         raise Problem(f"{place(name)}: {said}") from None
-    if len(data) > MOST_BYTES:
-        raise Problem(f"{place(name)}: longer than {MOST_BYTES:,} bytes")
+    if len(data) > most:
+        raise Problem(f"{place(name)}: longer than {most:,} bytes")
     return data
 
 
-def _all(handle: int, pipe: bool) -> bytes:
+def _all(handle: int, pipe: bool, longest: int) -> bytes:
     """What a file holds, or the start of it that is too long; what comes through a pipe, if
     somebody writes to it."""
     data, last = b"", time.monotonic()
-    while len(data) <= MOST_BYTES:
+    while len(data) <= longest:
         try:
-            part = os.read(handle, MOST_BYTES + 1 - len(data))
+            part = os.read(handle, min(longest - len(data), MOST_BYTES) + 1)
             most = FIRST_WRITER if pipe and not data else 0
         except BlockingIOError:  # somebody writes, but has not yet
             part, most = b"", MOST_WAIT

@@ -9,7 +9,7 @@ from hashlib import sha256
 from typing import Iterator, NamedTuple, Optional
 
 from ..problems import STANDARD, Problem, place
-from ..reading.recorded import Recorded, parse
+from ..reading.recorded import MOST_BYTES, Recorded, parse
 from ..showing.appeal import Appeal, appeal_page, appeal_text
 from ..showing.argued import alone_said, not_yet_marked
 from ..showing.changes import compare
@@ -33,7 +33,7 @@ def mark(args: argparse.Namespace, progress: Progress = files.progress) -> tuple
     keep_hand_ins(args)
     job = job_of(args)
     record.check(job, args.record, args.against)
-    earlier = parse(files.read(args.against), place(args.against)) if args.against else None
+    earlier = parse(files.read(args.against, MOST_BYTES), place(args.against)) if args.against else None
     named = (earlier.digest, earlier.before) if earlier else ()
     if args.html is not None and not args.clean:
         pages.keep_recorded(args.html, (INDEX, APPEAL) if earlier else (INDEX,), named)

@@ -11,7 +11,7 @@ from typing import Any, Iterator, NamedTuple, Optional
 
 from ..origin import brief
 from ..problems import STANDARD, Problem, place, shown
-from ..reading.recorded import Recorded, is_record, parse
+from ..reading.recorded import MOST_BYTES, Recorded, is_record, parse
 from ..showing.changes import compare
 from ..showing.exports import is_marks
 from ..words import plural
@@ -44,7 +44,7 @@ def run_verify(args: argparse.Namespace) -> int:
     """Whether every file and every mark is as a record has it: it marks again."""
     if STANDARD in (args.record, *args.folder):
         raise Problem("verify: standard input is no file that a record could name")
-    recorded = parse(files.read(args.record), place(args.record))
+    recorded = parse(files.read(args.record, MOST_BYTES), place(args.record))
     differences = list(verified(recorded, args.folder))
     emit_text(args, text(recorded, differences))
     return REFUSED if differences else ACCEPTED

@@ -11,6 +11,7 @@ from typing import Any, NamedTuple, Optional
 from ..problems import Problem
 
 FORM, VERSION = "taa1 record", 1
+MOST_BYTES = 1 << 28  # of a record: a class of 30 with books of 1,024 entries has some 40 million
 ROLES = ("sitting", "book", "scheme", "names", "arguments")  # the files that marking goes by
 TYPES = ("file", "link", "folder", "other")
 
