@@ -280,7 +280,6 @@ class Verified(Day):
         """A file with the digest counts, whatever it is called; else one with the name."""
         self.mark("--record", "record.json")
         (self.day / "model.txt").rename(self.day / "the model")
-        (self.class_ / "ann.book").rename(self.class_ / "anna")
         self.same(self.day)
         (self.day / "the model").write_text((self.day / "the model").read_text() + "# more\n")
         done = taa1("verify", "record.json", ".", cwd=self.day)
@@ -296,6 +295,17 @@ class Verified(Day):
         (self.day / "the model").rename(self.day / "model.txt")
         now, old = digest(self.day / "model.txt")[:12], self.record()["files"]["book"]["sha256"][:12]
         self.differs(f"book model.txt, SHA-256: {now}, was {old}")
+
+    def test_names_of_hand_ins(self) -> None:
+        """A hand-in's name says whose it is, so another name is a difference, and so are two that
+        changed places."""
+        self.mark("--record", "record.json")
+        ann, cho, other = (self.class_ / name for name in ("ann.book", "cho.book", "anna"))
+        ann.rename(other)
+        self.differs("ann.book: now called ./class/anna")
+        cho.rename(ann)
+        other.rename(cho)
+        self.differs("ann.book: now called ./class/cho.book", "cho.book: now called ./class/ann.book")
 
     def test_long(self) -> None:
         """The record of a large class can be read again, though no other input may be so long."""

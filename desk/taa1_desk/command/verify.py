@@ -72,6 +72,9 @@ def verified(recorded: Recorded, where: list[str], progress: Progress = files.pr
         laid = _lay_out(data, found, room)
         said = f"missing: no file in {', '.join(map(place, where))} has its digest or its name"
         yield from (f"{shown(name)}: {said}" for name in laid.missing)
+        for name, path in laid.paths.items():  # a hand-in's name says whose it is
+            if not _named(path, name):
+                yield f"{shown(name)}: now called {place(path)}"
         if laid.job is None:
             yield "nothing could be marked again, since marking goes by what is missing"
         else:
@@ -147,13 +150,18 @@ def _assigned(data: dict[str, Any], found: Found) -> dict[str, str]:
             there = (
                 path
                 for path in same
-                if free.get(path) and (not by_name or f"/{path}".endswith(f"/{of['file']}"))
+                if free.get(path) and (not by_name or _named(path, of["file"]))
             )
             path = next(there, None) if of["sha256"] and at not in made else None
             if path:
                 made[at] = path
                 del free[path]
     return made
+
+
+def _named(path: str, name: str) -> bool:
+    """Whether a file is called so, from some folder on."""
+    return f"/{path}".endswith(f"/{name}")
 
 
 def _lay_out(data: dict[str, Any], found: Found, room: str) -> Laid:
@@ -222,7 +230,7 @@ def _new(data: dict[str, Any], found: Found, laid: Laid) -> list[str]:
         start = "" if folder == "." else f"{folder}/"
         for row in rows if folder not in rows else ():
             path, inside = laid.paths.get(row), row[len(start) :]
-            if path and row.startswith(start) and f"/{path}".endswith(f"/{inside}"):
+            if path and row.startswith(start) and _named(path, inside):
                 roots[path[: -len(inside)]] = start
     return [
         path
