@@ -307,6 +307,18 @@ class Verified(Day):
         other.rename(cho)
         self.differs("ann.book: now called ./class/cho.book", "cho.book: now called ./class/ann.book")
 
+    def test_copies(self) -> None:
+        """A copy elsewhere does not hide what was altered where it was marked."""
+        self.mark("--record", "record.json")
+        shutil.copytree(self.class_, self.day / "a copy")
+        self.same(self.day)
+        with (self.class_ / "ben.keys").open("a") as keys:
+            keys.write("# more\n")
+        self.differs("./class/ben.keys: new: it is not in the record")
+        shutil.copy(self.day / "a copy" / "ben.keys", self.class_)
+        shutil.copy(self.class_ / "ann.book", self.class_ / "cho.book")
+        self.differs("./class/cho.book: new: it is not in the record")
+
     def test_long(self) -> None:
         """The record of a large class can be read again, though no other input may be so long."""
         self.mark("--record", "record.json")

@@ -141,17 +141,20 @@ def _files(data: dict[str, Any]) -> Iterator[tuple[str, dict[str, Any]]]:
 
 def _assigned(data: dict[str, Any], found: Found) -> dict[str, str]:
     """Where a record's files are, by where they are laid out. A file stands for one of the record:
-    for that with its digest and its name, else with its digest, else with its name."""
+    for that with its digest and its name, else with its digest, else with its name. Of copies the
+    one in a folder of the hand-ins' name comes first: what was altered there is then new."""
     made: dict[str, str] = {}
     free = dict(found.paths)
-    for by_digest, by_name in ((True, True), (True, False), (False, True)):
+    for by_digest, by_name, by_folder in (
+        (True, True, True),
+        (True, True, False),
+        (True, False, False),
+        (False, True, False),
+    ):
         for at, of in _files(data):
+            name = at.partition("/")[2] if by_folder else of["file"] if by_name else ""
             same = found.by_digest.get(of["sha256"] or "", ()) if by_digest else found.paths
-            there = (
-                path
-                for path in same
-                if free.get(path) and (not by_name or _named(path, of["file"]))
-            )
+            there = (path for path in same if free.get(path) and (not name or _named(path, name)))
             path = next(there, None) if of["sha256"] and at not in made else None
             if path:
                 made[at] = path
@@ -232,6 +235,8 @@ def _new(data: dict[str, Any], found: Found, laid: Laid) -> list[str]:
             path, inside = laid.paths.get(row), row[len(start) :]
             if path and row.startswith(start) and _named(path, inside):
                 roots[path[: -len(inside)]] = start
+    folder = data["options"]["folder"]  # a copy elsewhere, of which one file was taken, is none of them
+    roots = {root: start for root, start in roots.items() if _named(root, f"{folder}/{start}")} or roots
     return [
         path
         for path in found.paths
