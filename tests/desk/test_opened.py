@@ -162,6 +162,11 @@ class Lines(unittest.TestCase):
         self.assertEqual((sheet.right, sheet.extra, sheet.perfect), (12, 2, False))
         first = sheet_text(sheet).splitlines()[1]
         self.assertEqual(first, "  2 extra records: 14 records, where the model has 12 entries")
+        said = "not marked: another line is the answer about the entry, or there is no such entry"
+        self.assertEqual(sheet.problems, (f"lines 13 and 14: {said}",))
+        sheet = mark(*TRUE[:11], "entry 0 flag")  # in the place of an answer about entry 11
+        self.assertEqual((sheet.right, sheet.missing, sheet.extra), (11, (11,), 0))
+        self.assertEqual(sheet.problems, (f"line 12: {said}",))
 
     def test_bad_lines(self) -> None:
         """A line that can't be read costs its own entry alone."""

@@ -20,6 +20,7 @@ from ..reading.lineends import DAMAGED, Copies
 from ..reading.lines import lines_of
 from ..records import KINDS, PLAIN, Entry, split
 from ..sheet import differences
+from ..words import spans
 from .pairing import pair
 from .working import Opened
 
@@ -164,6 +165,7 @@ class OpenedReader:
         """Lines of entries and flags, which are about the entries that they name, or about
         those that they are most like: whichever makes more of them right."""
         lines: list[Line] = []
+        numbers: list[int] = []
         problems: list[str] = []
         for number, line in lines_of(text):
             words = words_of(line)
@@ -180,6 +182,7 @@ class OpenedReader:
                     problems.append(f"line {number}: it is about no entry, and is not read")
                 continue
             lines.append(Line(index, answer_of(words, number)))
+            numbers.append(number)
             self._not_too_many(len(lines))
         readings = [
             Read(self._numbered(lines, 0), how=how),
@@ -187,6 +190,11 @@ class OpenedReader:
             Read(self._matched(lines, own), how=how + ", each taken for the entry that it is most like"),
         ]
         best = max(readings, key=lambda reading: self.likeness(reading.answers))
+        taken = set(map(id, best.answers.values()))
+        left = [number for number, line in zip(numbers, lines) if id(line.answer) not in taken]
+        if left:
+            said = "not marked: another line is the answer about the entry, or there is no such entry"
+            problems.append(f"line{'s' * (len(left) > 1)} {spans(left)}: {said}")
         return best._replace(extra=len(lines) - len(best.answers), problems=tuple(problems))
 
     def _numbered(self, lines: list[Line], start: int) -> dict[int, Answer]:
