@@ -67,6 +67,10 @@ class Files(unittest.TestCase):
                 self.assertEqual(parse(line), KeyFile({name: VALUES[name]}), line)
         self.assertEqual(parse(f"D {VALUES['O'].hex()}").values, {})
 
+    def test_left_blank(self) -> None:
+        """A line without a value hands none in, as a row of the form that is left blank."""
+        self.assertEqual(parse("D = 01\nO =\nG = \t # later\n"), KeyFile({"D": b"\1"}))
+
     def test_bad_lines(self) -> None:
         for line, problem in (
             ("D", "no line of the form NAME = HEXADECIMAL"),

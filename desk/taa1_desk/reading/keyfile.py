@@ -74,6 +74,8 @@ def parse(text: str) -> KeyFile:
         name, digits = said.name, "".join(map(without_0x, said.value.split()))
         bad = sorted(set(digits) - DIGITS)
         problem = said.problem
+        if not problem and not said.value.strip():  # left blank: not handed in
+            continue
         if not problem and values.get(name):
             problem = f"{name} for the second time; the first one counts"
         elif not problem:
