@@ -406,6 +406,7 @@ class Appeals(Day):
         self.assertIn("  not marked this time: ann, ben, cho, eve, fay\n".replace(
             "ann, ben, cho, eve, fay", "Ann Archer, Ben Baker, Cho Min-jun, Eve Ekström, Fay Fisher"
         ), done.out.decode())  # fmt: skip
+        self.assertNotIn("  the class\n", done.out.decode())  # one candidate is no class
 
     def test_pages_of_a_record(self) -> None:
         """They are replaced if their record is named, or by --clean."""

@@ -226,9 +226,10 @@ def compare(was: Mapping[str, Any], now: Mapping[str, Any]) -> Compared:
     gone = [sheet["name"] for name, (_, sheet) in old.items() if name not in new]
     added = [sheet["name"] for name, (_, sheet) in new.items() if name not in old]
     frame = [*_frame(was, now), *changed(_head(was), _head(now))]
-    without = _DERIVED if candidates or gone or added else ()
-    whole = changed(_class(was, without), _class(now, without))
-    return Compared(frame, candidates, same, gone, added, list(whole))
+    without = _DERIVED if candidates or added else ()
+    # of an appeal of some candidates the class is none: its counts are theirs alone
+    whole = [] if gone else list(changed(_class(was, without), _class(now, without)))
+    return Compared(frame, candidates, same, gone, added, whole)
 
 
 def _class(of: Mapping[str, Any], without: Container[str]) -> dict[str, Any]:
