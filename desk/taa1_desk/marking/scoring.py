@@ -18,7 +18,7 @@ from ..sheet import Marked, Marks
 
 # The lines of the scheme for values, and what several of them are called.
 VALUES = {"session key": "session keys", "response": "responses", "key": "keys", "D": "D", "O": "O", "G": "G"}
-TEXTS, IDENTITIES = "right texts of other entries", "right identities of other entries"
+TEXTS, IDENTITIES = "right texts of wrong entries", "right identities of wrong entries"
 FOLLOWING = "entries right under own keys"
 OWN, NONE = "right under own keys", "no record has it"
 NOT_READ = "not read"
