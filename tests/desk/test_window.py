@@ -627,11 +627,11 @@ class Seen(Case):
         self.press("Write the record")
         self.press("Verify")
         self.assertIn("as it was", keep.wrote.get("1.0", "end"))
+        self.pictures("3-record")
         self.press("Class's page")
         self.assertEqual(self.opened[-1], (day / at.PAGES / "index.html").as_uri())
         self.press("Marking aid")
         self.assertEqual(self.opened[-1], (day / at.ARGUE).as_uri())
-        self.pictures("3-record")
         self.same(day)
         self.appeal(day, keep)
 
@@ -714,6 +714,40 @@ class Seen(Case):
             started.unlink()
             self.assertEqual((window.returncode, error), (128 + number, b"taa1: interrupted\n"))
 
+    def test_whose(self) -> None:
+        """Points that are typed are kept for the candidate beside whose name they stand, whatever row
+        is picked then; and a file that was changed by hand is not written over."""
+        day = self.folder / "day"
+        (day / at.HAND_INS).mkdir(parents=True)
+        for name in (at.SITTING, at.MODEL):
+            shutil.copy(CLASS / name, day)
+        for name in ("a", "b", "c"):
+            (day / at.HAND_INS / f"{name}.book").write_bytes(seal())
+        page = self.page(2)
+        self.press("Mark (F5)")
+        page.pick("a.book")
+        self.step()
+        first, *others = page.parts.values()
+        self.type(first, "1")
+        page.table.focus_force()
+        page.pick("b.book")  # before the window sees that the field has lost the keyboard
+        self.step()
+        self.assertEqual([entry.get() for entry in page.parts.values()], [""] * len(page.parts))
+        self.assertIn("a.book = given 1, ", (day / at.ARGUMENTS).read_text())
+        self.assertNotIn("b.book", (day / at.ARGUMENTS).read_text())
+        self.type(first, "half")
+        page.pick("c.book")  # the keyboard stays in the field
+        self.step()
+        self.assertIn("b.book = given half, ", (day / at.ARGUMENTS).read_text())
+        page.pick("a.book")
+        self.step()
+        (day / at.ARGUMENTS).write_text("a = 7\n")
+        self.press("Mark (F5)")
+        page.pick("c.book")
+        self.step()
+        self.assertEqual((day / at.ARGUMENTS).read_text(), "a = 7\n")
+        self.assertEqual(page.table.set("a.book", "argument"), "7")
+
     def test_text(self) -> None:
         """Names and files are text: none is markup, a list of Tcl's or a command."""
         day, names = self.folder / "day", ("{a b.book", "$x [exit] \\\\.book", "-o.book", "a\\tb.book", "ü\"'<b>.book")
@@ -789,7 +823,9 @@ class Seen(Case):
         self.key("Return")
 
     def same(self, day: Path) -> None:
-        """Table, JSON and record are the command line's."""
+        """Table, JSON and record are the command line's, with what was typed."""
+        cells = {row.key: row.cells["argument"] for row in self.app.day.rows if row.cells.get("argument")}
+        self.assertEqual(cells, {"c00.book": "8 1/2", "c01.book": "1"})
         self.assertEqual((day / at.MARKS).read_bytes(), taa1("mark", "--day", day, "--csv").out)
         outcome = self.app.day.outcome
         assert outcome is not None

@@ -16,13 +16,11 @@ from .app import App, Page
 from .day import AS_IT_LOOKS
 from .widgets import AIR, ALARM, ROWS, Message, buttons, field, fill
 
-# Columns: the head, how many letters it has at least, and its share of what is left.
-COLUMNS = {
+COLUMNS = {  # the head, how many letters it has at least, and its share of what is left
     "name": ("candidate", 9, 2), "file": ("file", 6, 1), "read": ("read as, or why not", 10, 4), "points": ("points", 6, 0),
     "argument": ("argument", 9, 0), "total": ("total", 6, 0), "passed": ("passed", 7, 0),
 }  # fmt: skip
 HINT = "Enter or a double click: the candidate's page. F2: the name. F3: read the file otherwise. F4: the argument."
-ACROSS = 3  # parts of the rubric beside each other
 
 
 class HandInsPage(Page):
@@ -40,6 +38,7 @@ class HandInsPage(Page):
         self.changed.pack(side="bottom", fill="x")
         self.table = ttk.Treeview(self, columns=list(COLUMNS), show="headings", selectmode="browse", height=ROWS)
         self.rubric, self.parts = ttk.Labelframe(self), dict[str, ttk.Entry]()
+        self.whose, self.filled = "", dict[str, str]()  # the row whose points are in the fields, and these points
         self.rubric.pack(side="bottom", fill="x", pady=(AIR, 0))
         self.says.pack(side="bottom", fill="x")
         hint.pack(side="bottom", fill="x")
@@ -69,9 +68,10 @@ class HandInsPage(Page):
         """The rows of the last marking, and fields for the parts that the scheme has points for."""
         parts, before = self.day.parts(), self.table.selection()
         if list(self.parts) != [part.name for part in parts]:
+            self.whose = ""
             for child in self.rubric.winfo_children():
                 child.destroy()
-            places = [(number // ACROSS, 2 * (number % ACROSS)) for number in range(len(parts))]
+            places = [(number // 3, 2 * (number % 3)) for number in range(len(parts))]  # three beside each other
             texts = {part.name: f"{part.name}, of {said(part.of)}" for part in parts}
             self.parts = {name: field(self.rubric, *place, text, 8) for place, (name, text) in zip(places, texts.items())}
             for entry in self.parts.values():
@@ -103,14 +103,15 @@ class HandInsPage(Page):
         self.changed.say(self.day.changed(), style="Alarm")
 
     def picked(self) -> None:
-        """All that is to be said of the row, and its argument."""
+        """All that is to be said of the row, and its argument; what was typed for another is kept."""
+        self.keep(False)
         row = self.row
         self.says.say(*(row.says[:4] if row else ()), style="Alarm" if row and row.look else "")
         whose = f"The argument of {row.name}" if row and row.sheet else "The argument"
         self.rubric.configure(text=f"{whose}: points as 2, 1/2 or 1.5, full, half or none; Enter goes on to the next")
-        given = row.given if row else {}
+        self.whose, self.filled = (row.key, row.given) if row and row.sheet else ("", {})
         for name, entry in self.parts.items():
-            fill(entry, given.get(name, ""), bool(row and row.sheet))
+            fill(entry, self.filled.get(name, ""), bool(self.whose))
 
     def _take_in(self) -> None:
         folder = filedialog.askdirectory(title="A folder of hand-ins, which is copied into the day")
@@ -145,15 +146,18 @@ class HandInsPage(Page):
 
     def keep(self, goes_on: bool) -> None:
         """Keeps the argument's points; the sums follow, and the next candidate's."""
-        row, given = self.row, {name: entry.get() for name, entry in self.parts.items()}
-        if row and self.app.tell(self.message, partial(self.day.set_argument, row, given)):
-            for name, cell in (self.row or row).cells.items():
-                self.table.set(row.key, name, cell)
+        given, rows = {name: entry.get() for name, entry in self.parts.items()}, {row.key: row for row in self.day.rows}
+        if self.whose in rows and given != self.filled:
+            if not self.app.tell(self.message, partial(self.day.set_argument, rows[self.whose], given)):
+                return
+            self.filled = given
+            for name, cell in next(row for row in self.day.rows if row.key == self.whose).cells.items():
+                self.table.set(self.whose, name, cell)
             self.app.look()
-            if goes_on:
-                self.pick(self.table.next(row.key) or row.key)
-                self.picked()
-                self._argue()
+        if goes_on and self.whose:
+            self.pick(self.table.next(self.whose) or self.whose)
+            self.picked()
+            self._argue()
 
     def _rename(self) -> None:
         if self.row and self.row.sheet:

@@ -15,7 +15,6 @@ from .widgets import AIR, Message, buttons, field, fill
 
 SIDES = {"drawn by lot": "", "1: the radio proves itself": "1", "2: the network does": "2", "3: both do": "3"}
 FIELDS = {"title": "Title", "date": "Date", "kinds": "Kinds, as 1,1,2,5", "entries": "or how many entries"}
-COLUMNS = 3  # of points
 WORDS = "The setter's words, which stand on the paper: time, aids, how to hand in"
 SURE = "The worked solution has every answer. Make it, and open it on this screen?"
 
@@ -59,10 +58,10 @@ class SittingPage(Page):
 
     def _points(self, frame: ttk.Labelframe) -> None:
         lines = Day("").points()
-        high = -(-len(lines) // COLUMNS)
+        high = -(-len(lines) // 3)  # in three columns
         self.points = {line.name: field(frame, at % high, 2 * (at // high), line.name, 5) for at, line in enumerate(lines)}
         self.scheme = Message(frame)
-        self.scheme.grid(row=high, column=0, columnspan=2 * COLUMNS, sticky="we", pady=(AIR, 0))
+        self.scheme.grid(row=high, column=0, columnspan=6, sticky="we", pady=(AIR, 0))
         for line in lines:
             self.points[line.name].bind("<FocusIn>", lambda event, what=line.what: self._hint(what))  # type: ignore[misc]
             for keys in ("<FocusOut>", "<Return>"):

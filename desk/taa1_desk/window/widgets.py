@@ -10,8 +10,7 @@ from typing import Any, Callable
 AIR = 8  # points between things
 ROWS = 7  # of a table at least
 LEAST, MOST = 8, 24  # the sizes of letters
-BACK, RAISED, INK, QUIET, ALARM = "#f6f5f2", "#e9e6df", "#1c1c1c", "#5a5a5a", "#8f1d12"
-LINE, PICKED = "#bdb9b0", "#2f5d8a"
+BACK, RAISED, INK, QUIET, LINE, ALARM, PICKED = "#f6f5f2 #e9e6df #1c1c1c #5a5a5a #bdb9b0 #8f1d12 #2f5d8a".split()
 
 
 def dress(root: tk.Tk) -> None:
