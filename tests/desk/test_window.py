@@ -735,6 +735,15 @@ class Seen(Case):
         self.assertEqual([entry.get() for entry in page.parts.values()], [""] * len(page.parts))
         self.assertIn("a.book = given 1, ", (day / at.ARGUMENTS).read_text())
         self.assertNotIn("b.book", (day / at.ARGUMENTS).read_text())
+        page.table.focus_force()
+        self.step()
+        self.key("F2")
+        self.assertEqual(len(page.table.winfo_children()), 1)
+        page.pick("a.book")
+        self.step()
+        self.assertEqual(page.table.winfo_children(), [])
+        page.pick("b.book")
+        self.step()
         self.type(first, "half")
         page.pick("c.book")  # the keyboard stays in the field
         self.step()
@@ -773,6 +782,7 @@ class Seen(Case):
                 self.assertEqual(self.opened[-1], (day / at.PAGES / row.page).as_uri())
         page.pick("-o.book")
         page.table.focus_force()
+        self.step()
         self.key("F2")
         self.root.focus_get().delete(0, "end")  # type: ignore[union-attr]
         self.root.focus_get().insert(0, STRANGE)  # type: ignore[union-attr]

@@ -105,6 +105,8 @@ class HandInsPage(Page):
     def picked(self) -> None:
         """All that is to be said of the row, and its argument; what was typed for another is kept."""
         self.keep(False)
+        for left in self.table.winfo_children():  # a field over a cell of another row
+            left.destroy()
         row = self.row
         self.says.say(*(row.says[:4] if row else ()), style="Alarm" if row and row.look else "")
         whose = f"The argument of {row.name}" if row and row.sheet else "The argument"

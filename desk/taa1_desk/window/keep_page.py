@@ -38,9 +38,8 @@ class KeepPage(Page):
         buttons(appeal, {"Mark again and compare": self._compare})
         self.message = Message(self)
         self.message.pack(fill="x")
-        self.wrote = tk.Text(self, wrap="word", relief="flat", padx=AIR, pady=AIR, height=4, font="TkTextFont")
+        self.wrote = tk.Text(self, wrap="word", relief="flat", padx=AIR, pady=AIR, height=4, font="TkTextFont", state="disabled")
         self.wrote.pack(fill="both", expand=True)
-        self.wrote.configure(state="disabled")
 
     def _open(self, *names: str) -> None:
         there = self.day.has(names[0])
