@@ -18,7 +18,7 @@ import time
 import unittest
 from importlib.util import find_spec
 from pathlib import Path
-from typing import Any, Callable, ClassVar, Optional
+from typing import Any, Callable, ClassVar, Iterator, Optional
 from unittest import mock
 
 import reference
@@ -494,18 +494,22 @@ class Seen(Case):
         widget.delete(0, "end") if not hasattr(widget, "edit_undo") else widget.delete("1.0", "end")
         self.key(*(f"Key-{KEYSYMS.get(letter, letter)}" for letter in text), at=widget)
 
-    def press(self, text: str) -> None:
-        """Presses a button by the keyboard, and waits for its work."""
+    def buttons(self) -> Iterator[Any]:
+        """The window's buttons."""
         left: list[Any] = [self.root]
         while left:
             each = left.pop()
             left += each.winfo_children()
-            if each.winfo_class() == "TButton" and each.cget("text").startswith(text):
-                each.focus_force()
-                self.step()
-                self.key("Return", at=each)
-                return self.wait()
-        self.fail(f"no button {text}")
+            if each.winfo_class() == "TButton":
+                yield each
+
+    def press(self, text: str) -> None:
+        """Presses a button by the keyboard, and waits for its work."""
+        button = next(each for each in self.buttons() if each.cget("text").startswith(text))
+        button.focus_force()
+        self.step()
+        self.key("Return", at=button)
+        self.wait()
 
     def page(self, number: int) -> Any:
         """Turns to a page by the keyboard."""
@@ -825,6 +829,70 @@ class Seen(Case):
         self.app.look()
         self.assertIn("Missing for the paper", page.next.cget("text"))
         self.assertEqual(page.points["entry"].get(), "3")
+
+    def marked_day(self) -> Any:
+        """The page of the hand-ins, when two are marked."""
+        day = self.folder / "day"
+        (day / at.HAND_INS).mkdir(parents=True)
+        for name in (at.SITTING, at.MODEL):
+            shutil.copy(CLASS / name, day)
+        for name in ("ann.book", "ben.book"):
+            (day / at.HAND_INS / name).write_bytes(seal())
+        page = self.page(2)
+        self.press("Mark (F5)")
+        return page
+
+    def click(self, widget: Any, x: int, y: int) -> None:
+        """Clicks with the mouse."""
+        for event in ("ButtonPress-1", "ButtonRelease-1"):
+            widget.event_generate(f"<{event}>", x=x, y=y)
+            self.step()
+
+    def test_whose_argument(self) -> None:
+        """Points belong to the candidate for whom they were typed, though a click elsewhere ends the typing."""
+        page, arguments = self.marked_day(), self.folder / "day" / at.ARGUMENTS
+        page.pick("ann.book")
+        self.step()
+        self.type(page.parts["given"], "1")
+        x, y, *_ = page.table.bbox("ben.book", "name")
+        self.click(page.table, x + 2, y + 2)
+        self.assertEqual(picked(page), "ben.book")
+        self.assertEqual(page.parts["given"].get(), "")
+        self.assertEqual([line.split()[0] for line in arguments.read_text().splitlines()], ["ann.book"])
+        self.type(page.parts["given"], "1")
+        arguments.write_text("ann.book = given 0\n")
+        self.click(next(each for each in self.buttons() if each.cget("text") == "Mark (F5)"), 4, 4)
+        self.wait()
+        self.assertEqual(picked(page), "ben.book")
+        self.assertEqual(page.table.set("ann.book", "argument"), "0")
+        self.assertEqual(page.parts["given"].get(), "1")
+        self.assertEqual(page.changed.cget("text"), "")
+        self.assertIn("ann.book = given 0\nben.book = given 1,", arguments.read_text())
+
+    def test_typed(self) -> None:
+        """What was typed is kept though nobody left the field: before there is a folder, by a click on a
+        button, and when the window is closed. What was changed elsewhere is not written over."""
+        day, page = self.folder / "day", self.page(1)
+        self.app.day = Day("")
+        self.app.load()
+        self.type(page.words, "Two hours")
+        self.type(page.points["entry"], "2")
+        self.press("Draw")
+        self.assertIn(at.NO_FOLDER, page.drawn.cget("text"))
+        self.answers["tkinter.filedialog.askdirectory"] = str(day)
+        self.key("Control-o", at=self.root)
+        self.assertEqual([(day / name).read_text() for name in (at.WORDS, at.SCHEME)], ["Two hours\n", "entry = 2\n"])
+        self.assertNotIn(at.NO_FOLDER, self.texts())
+        self.press("Draw")
+        self.type(page.points["entry"], "3")
+        self.click(next(each for each in self.buttons() if each.cget("text") == "Question paper"), 4, 4)
+        self.wait()
+        self.assertEqual((day / at.SCHEME).read_text(), "entry = 3\n")
+        (day / at.WORDS).write_text("Three hours\n")
+        self.type(page.points["entry"], "4")
+        self.app.close()
+        self.assertEqual((day / at.WORDS).read_text(), "Three hours\n")
+        self.assertEqual((day / at.SCHEME).read_text(), "entry = 4\n")
 
     def argue(self, table: Any, *points: str) -> None:
         """Types an argument's points, from part to part."""

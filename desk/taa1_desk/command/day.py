@@ -11,7 +11,7 @@ import os
 import shutil
 import tempfile
 from itertools import count, takewhile
-from typing import Callable, Iterator, NamedTuple, Sequence
+from typing import Callable, Iterator, Mapping, NamedTuple, Sequence
 
 from ..argument import Part
 from ..engine import Engine
@@ -22,6 +22,7 @@ from ..reading.decoding import lines_text
 from ..reading.lines import named_values, with_line
 from ..reading.own_words import paragraphs
 from ..records import PLAIN, split
+from ..words import listed
 from . import files, inputs
 from .inputs import FROM_FILE
 
@@ -210,6 +211,37 @@ class Folder:
         made = [Field(name, own.get(name, said(counts[name])), notes[name]) for name in names]
         return [*made, Field("pass", own.get("pass", ""), PASS)]
 
+    def lacks(self) -> str:
+        """What is missing before anything can be marked."""
+        lacks = [what for name, what in ((SITTING, "a sitting"), (MODEL, "a model book")) if not self.has(name)]
+        if not self.folder:
+            return f"Missing: {NO_FOLDER} (Ctrl+O)."
+        if lacks:
+            return f"Missing for the paper and for marking: {listed(lacks)}. Draw, or take a file (page 1)."
+        if not self.has(HAND_INS):
+            where = f"Take in a folder (page 2), or put files into {shown(self.path(HAND_INS))}."
+            return f"Next: print the paper and the form. Missing for marking: what was handed in. {where}"
+        return ""
+
+    def draw(self, given: Mapping[str, str]) -> list[list[str]]:
+        """What draws the sitting and the model, each if it is not there yet."""
+        self.make()
+        made = []
+        for name, options in ((SITTING, ("title", "date", "sides")), (MODEL, ("kinds", "entries"))):
+            typed = [f"--{option}={given[option].strip()}" for option in options if given[option].strip()]
+            if not self.has(name):
+                made.append(["draw", *["--book"] * (name == MODEL), *typed, f"--output={self.path(name)}"])
+        return made
+
+    def paper(self, part: str) -> list[list[str]]:
+        """What writes the paper and the form; or the worked solution, into a folder of its own."""
+        where = f"--solution={self.path(SOLUTION)}" if part == "solution" else f"--html={self.path(PAPER)}"
+        return [["paper", f"--day={self.folder}", where]]
+
+    def argue(self) -> list[list[str]]:
+        """What makes the marking aid."""
+        return [["argue", f"--day={self.folder}", f"--html={self.path(ARGUE)}"]]
+
     def stamp(self) -> Stamp:
         """What a marking would read now."""
         found = [self.path(name) for name in INPUTS]
@@ -221,3 +253,7 @@ class Folder:
     def records(self) -> list[str]:
         """The records that are kept, the first one first: each answers the one before."""
         return list(takewhile(self.has, map(record_name, count())))
+
+    def verify(self) -> list[list[str]]:
+        """What marks again, and compares with the last record."""
+        return [["verify", self.path((self.records() or [RECORD])[-1]), self.folder]]

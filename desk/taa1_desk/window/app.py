@@ -10,6 +10,7 @@ from pathlib import Path
 from tkinter import filedialog, font, ttk
 from typing import Any, Callable, Optional, Sequence
 
+from ..command import day as at
 from ..command.beside import Done, Main, Progress, Work
 from ..problems import Problem, shown
 from . import widgets
@@ -57,6 +58,9 @@ class Page(ttk.Frame):
     def day(self) -> Day:
         """The day that is open."""
         return self.app.day
+
+    def keeps(self) -> None:
+        """Keeps what was typed: a click on a button, or the window's end, leaves no field."""
 
     def load(self) -> None:
         """Shows the day as its folder has it: it was taken up, or work has ended."""
@@ -124,8 +128,18 @@ class App:
         """Takes another day up."""
         folder = filedialog.askdirectory(title="The day's folder: a new one, or that of an earlier day")
         if folder and self.work is None:
-            self.day = Day(str(folder))
+            self.keeps()
+            before, self.day = self.day, Day(str(folder))
+            if not before.folder and not any(map(self.day.has, (at.SCHEME, at.WORDS))):
+                self.keeps()  # what was typed before there was a folder
+            for each in [each for page in self.pages for each in vars(page).values() if isinstance(each, Message)]:
+                each.say("")  # it was said of the other day
             self.load()
+
+    def keeps(self) -> None:
+        """Keeps what was typed, on every page."""
+        for page in self.pages:
+            page.keeps()
 
     def load(self) -> None:
         """Shows the day as its folder has it, on every page."""
@@ -136,12 +150,12 @@ class App:
 
     def look(self, again: int = 0) -> None:
         """Says on the page that is seen what has changed, and what is missing; again after a while."""
-        at = self.notebook.index("current")  # type: ignore[no-untyped-call]
-        page = self.pages[at]
+        number = self.notebook.index("current")  # type: ignore[no-untyped-call]
+        page = self.pages[number]
         page.fit()
         page.whole = page.whole or self.tell(page.next, page.load)
         if page.whole and self.tell(page.next, page.look):
-            page.next.say(self.day.missing(at + 1), style="Quiet")
+            page.next.say(self.day.missing(number + 1), style="Quiet")
         if again:
             self.root.after(again, self.look, again)
 
@@ -163,6 +177,7 @@ class App:
     def command(self, message: Message, what: str, lines: Callable[[], list[Command]], then: Callable[[Done], Any]) -> None:
         """Starts commands; what they say stands in a message, and `then` takes how they ended."""
         made: list[Command] = []
+        self.keeps()
         if self.work is not None:
             message.say("Other work is under way: wait, or end it with Esc.", style="Alarm")
         elif self.tell(message, lambda: made.extend(lines())):
@@ -170,6 +185,7 @@ class App:
             def ended(done: Done) -> None:
                 message.say(*done.said, style="Alarm" if done.status else "")
                 then(done)
+                self.keeps()
                 self.load()
 
             message.say("")
@@ -203,6 +219,7 @@ class App:
 
     def close(self) -> None:
         """Closes the window, and ends the work."""
+        self.keeps()
         self.end()
         for waiting in str(self.root.eval("after info")).split():
             self.root.after_cancel(waiting)

@@ -38,14 +38,8 @@ class Day(at.Folder):
 
     def missing(self, page: int) -> str:
         """What is missing for the next step of a page, counted from 1; or what that is."""
-        lacks = [what for name, what in ((at.SITTING, "a sitting"), (at.MODEL, "a model book")) if not self.has(name)]
-        if not self.folder:
-            return f"Missing: {at.NO_FOLDER} (Ctrl+O)."
-        if lacks:
-            return f"Missing for the paper and for marking: {listed(lacks)}. Draw, or take a file (page 1)."
-        if not self.has(at.HAND_INS):
-            where = f"Take in a folder (page 2), or put files into {shown(self.path(at.HAND_INS))}."
-            return f"Next: print the paper and the form. Missing for marking: what was handed in. {where}"
+        if lacks := self.lacks():
+            return lacks
         if page == 1:
             return "Sitting and model book are there. Next: mark what was handed in (page 2)."
         if self._seen is None:
@@ -59,21 +53,6 @@ class Day(at.Folder):
         if not self.has(at.RECORD):
             return f"{still}Next: write the record (page 3)."
         return f"{still}The record is kept: verify it, or compare with it after an appeal (page 3)."
-
-    def draw(self, given: Mapping[str, str]) -> list[Command]:
-        """What draws the sitting and the model, each if it is not there yet."""
-        self.make()
-        made = []
-        for name, options in ((at.SITTING, ("title", "date", "sides")), (at.MODEL, ("kinds", "entries"))):
-            typed = [f"--{option}={given[option].strip()}" for option in options if given[option].strip()]
-            if not self.has(name):
-                made.append(["draw", *["--book"] * (name == at.MODEL), *typed, f"--output={self.path(name)}"])
-        return made
-
-    def paper(self, part: str) -> list[Command]:
-        """What writes the paper and the form; or the worked solution, into a folder of its own."""
-        where = f"--solution={self.path(at.SOLUTION)}" if part == "solution" else f"--html={self.path(at.PAPER)}"
-        return [["paper", f"--day={self.folder}", where]]
 
     def changed(self) -> str:
         """What changed in the folder since the last marking."""
@@ -132,10 +111,6 @@ class Day(at.Folder):
         in_all = total(self.scheme(), row.sheet.points, argument, not row.sheet.problem)
         self._replace(row, row._replace(sheet=replace(row.sheet, argument=argument, total=in_all)))
 
-    def argue(self) -> list[Command]:
-        """What makes the marking aid."""
-        return [["argue", f"--day={self.folder}", f"--html={self.path(at.ARGUE)}"]]
-
     def record(self) -> list[Command]:
         """What marks, and keeps the record."""
         if self.records():
@@ -149,7 +124,3 @@ class Day(at.Folder):
             raise Problem(f"{at.RECORD}: not there yet: after an appeal, marks are compared with a record")
         against = f"--against={self.path(before[-1])}", f"--reason={reason.strip()}"
         return [self._mark(*self._pages(), f"--record={self.path(at.record_name(len(before)))}", *against)]
-
-    def verify(self) -> list[Command]:
-        """What marks again, and compares with the last record."""
-        return [["verify", self.path((self.records() or [at.RECORD])[-1]), self.folder]]

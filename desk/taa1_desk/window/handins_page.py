@@ -38,7 +38,7 @@ class HandInsPage(Page):
         self.changed.pack(side="bottom", fill="x")
         self.table = ttk.Treeview(self, columns=list(COLUMNS), show="headings", selectmode="browse", height=ROWS)
         self.rubric, self.parts = ttk.Labelframe(self), dict[str, ttk.Entry]()
-        self.whose, self.filled = "", dict[str, str]()  # the row whose points are in the fields, and these points
+        self.whose, self.filled = "", dict[str, str]()  # the row of the fields, and what they were filled with
         self.rubric.pack(side="bottom", fill="x", pady=(AIR, 0))
         self.says.pack(side="bottom", fill="x")
         hint.pack(side="bottom", fill="x")
@@ -56,7 +56,11 @@ class HandInsPage(Page):
     @property
     def row(self) -> Optional[Row]:
         """The row that is selected."""
-        return next((row for row in self.day.rows if row.key in self.table.selection()), None)
+        return self.row_of(*self.table.selection())
+
+    def row_of(self, *keys: str) -> Optional[Row]:
+        """The row that has such a key."""
+        return next((row for row in self.day.rows if row.key in keys), None)
 
     def pick(self, key: str) -> None:
         """Selects a row, and shows it."""
@@ -103,17 +107,19 @@ class HandInsPage(Page):
         self.changed.say(self.day.changed(), style="Alarm")
 
     def picked(self) -> None:
-        """All that is to be said of the row, and its argument; what was typed for another is kept."""
-        self.keep(False)
+        """All that is to be said of the row, and its argument; what was refused stays in its field."""
+        self.keeps()
         for left in self.table.winfo_children():  # a field over a cell of another row
             left.destroy()
         row = self.row
         self.says.say(*(row.says[:4] if row else ()), style="Alarm" if row and row.look else "")
         whose = f"The argument of {row.name}" if row and row.sheet else "The argument"
         self.rubric.configure(text=f"{whose}: points as 2, 1/2 or 1.5, full, half or none; Enter goes on to the next")
-        self.whose, self.filled = (row.key, row.given) if row and row.sheet else ("", {})
-        for name, entry in self.parts.items():
-            fill(entry, self.filled.get(name, ""), bool(self.whose))
+        if not row or row.key != self.whose or self.filled:
+            self.whose, given = (row.key, row.given) if row else ("", {})
+            self.filled = {name: given.get(name, "") for name in self.parts}
+            for name, entry in self.parts.items():
+                fill(entry, self.filled[name], bool(row and row.sheet))
 
     def _take_in(self) -> None:
         folder = filedialog.askdirectory(title="A folder of hand-ins, which is copied into the day")
@@ -146,18 +152,20 @@ class HandInsPage(Page):
             entry.focus_set()
             entry.select_range(0, "end")
 
+    def keeps(self) -> None:
+        """What was typed of an argument."""
+        self.keep(False)
+
     def keep(self, goes_on: bool) -> None:
-        """Keeps the argument's points; the sums follow, and the next candidate's."""
-        given, rows = {name: entry.get() for name, entry in self.parts.items()}, {row.key: row for row in self.day.rows}
-        if self.whose in rows and given != self.filled:
-            if not self.app.tell(self.message, partial(self.day.set_argument, rows[self.whose], given)):
-                return
-            self.filled = given
-            for name, cell in next(row for row in self.day.rows if row.key == self.whose).cells.items():
-                self.table.set(self.whose, name, cell)
+        """Keeps the points typed for whom the fields are of, though a click has selected another; the sums follow."""
+        row, given = self.row_of(self.whose), {name: entry.get() for name, entry in self.parts.items()}
+        if row and given != self.filled:
+            self.filled = given if self.app.tell(self.message, partial(self.day.set_argument, row, given)) else {}
+            for name, cell in (self.row_of(row.key) or row).cells.items():
+                self.table.set(row.key, name, cell)
             self.app.look()
-        if goes_on and self.whose:
-            self.pick(self.table.next(self.whose) or self.whose)
+        if row and given == self.filled and goes_on:
+            self.pick(self.table.next(row.key) or row.key)
             self.picked()
             self._argue()
 

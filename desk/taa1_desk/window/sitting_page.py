@@ -6,7 +6,6 @@ from __future__ import annotations
 import tkinter as tk
 from functools import partial
 from tkinter import filedialog, messagebox, ttk
-from typing import Any
 
 from ..command import day as at
 from .app import App, Page
@@ -35,7 +34,7 @@ class SittingPage(Page):
         words.pack(side="bottom", fill="both", expand=True, pady=(AIR, 0))
         self.words = tk.Text(words, height=3, wrap="word", relief="flat", padx=4, pady=4, font="TkTextFont")
         self.words.bind("<FocusOut>", lambda event: self._set_words())
-        self.words.bind("<Tab>", _leave)
+        self.words.bind("<Tab>", "tk::TabToWindow [tk_focusNext %W]; break")  # as in the other fields
         self.words.pack(fill="both", expand=True)
         above.pack(fill="x")
         self.halves = [ttk.Labelframe(above, text=text) for text in ("Sitting and model book", "Points")]
@@ -83,8 +82,10 @@ class SittingPage(Page):
         self.sides.current(int(heading.get("sides", self.sides.current())))
         self.sides.configure(state="disabled" if "sides" in heading else "readonly")
         self._show_points()
-        self.words.delete("1.0", "end")
-        self.words.insert("1.0", self.day.text(at.WORDS).rstrip())
+        if (words := self.day.text(at.WORDS).rstrip()) != self.words.get("1.0", "end").rstrip():
+            self.words.delete("1.0", "end")
+            self.words.insert("1.0", words)
+        self.words.edit_modified(False)
         both = {"sides", "kinds"} <= set(heading)
         for each, off in zip(self.buttons, (both, "sides" in heading, "kinds" in heading, *[not both] * 3)):
             each.state(["disabled" if off else "!disabled"])
@@ -117,18 +118,16 @@ class SittingPage(Page):
 
     def _set_words(self) -> None:
         text = self.words.get("1.0", "end").strip()
-        if text != self.day.text(at.WORDS).strip():
-            self.app.tell(self.printed, lambda: self.day.write(at.WORDS, f"{text}\n"))
+        if self.words.edit_modified() and self.app.tell(self.printed, lambda: self.day.write(at.WORDS, f"{text}\n")):
+            self.words.edit_modified(False)
+
+    def keeps(self) -> None:
+        """Points and words."""
+        self._set_points()
+        self._set_words()
 
     def _print(self, part: str) -> None:
-        self._set_words()
         page = at.SOLUTION if part == "solution" else at.PAPER, f"{part}.html"
         opens = lambda done: done.status or self.app.show(*page)  # noqa: E731
         if part != "solution" or messagebox.askyesno(message=SURE, default="no"):
             self.app.command(self.printed, "Making the pages", partial(self.day.paper, part), opens)
-
-
-def _leave(event: Any) -> str:
-    """The tab key leaves a field of more lines, as it leaves the others."""
-    event.widget.tk_focusNext().focus()
-    return "break"
