@@ -869,6 +869,46 @@ class Seen(Case):
         self.assertEqual(page.changed.cget("text"), "")
         self.assertIn("ann.book = given 0\nben.book = given 1,", arguments.read_text())
 
+    def test_cell_left(self) -> None:
+        """A name that is typed over a cell is kept by a click elsewhere, by scrolling and by marking; the row is
+        brought into sight. What was not changed writes no list."""
+        page, names = self.marked_day(), self.folder / "day" / at.NAMES
+        for number in range(40):
+            (self.folder / "day" / at.HAND_INS / f"c{number:02}.book").write_bytes(seal())
+        self.press("Mark (F5)")
+        page.pick("ben.book")
+        page.table.yview_moveto(1)
+        page.table.focus_force()
+        self.step()
+        self.assertFalse(page.table.bbox("ben.book"))
+        self.key("F2")
+        self.assertTrue(page.table.bbox("ben.book"))
+        x, y, *_ = page.table.bbox("c00.book", "name")
+        self.click(page.table, x + 2, y + 2)
+        self.assertEqual((page.table.winfo_children(), names.exists()), ([], False))
+        leaves = {
+            "Bea": lambda: self.click(page.table, x + 2, y + 2),
+            "Bob": lambda: page.table.event_generate("<Button-5>"),
+            "Ben": lambda: self.key("F5", at=self.root),
+        }
+        for name, does in leaves.items():
+            page.pick("ben.book")
+            page.table.focus_force()
+            self.step()
+            self.key("F2")
+            self.type(self.root.focus_get(), name)
+            does()
+            self.wait()
+            self.assertEqual(page.table.winfo_children(), [])
+            self.assertIn(f"ben.book = {name}\n", names.read_text())
+        self.assertEqual(page.changed.cget("text"), "")
+
+    def test_turned(self) -> None:
+        """A page that was not yet seen takes the keyboard when it is turned to."""
+        for number in (2, 3, 1):
+            page = self.page(number)
+            self.assertTrue(str(self.root.focus_get()).startswith(f"{page}."), (number, self.root.focus_get()))
+
     def test_typed(self) -> None:
         """What was typed is kept though nobody left the field: before there is a folder, by a click on a
         button, and when the window is closed. What was changed elsewhere is not written over."""

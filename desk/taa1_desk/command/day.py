@@ -211,6 +211,16 @@ class Folder:
         made = [Field(name, own.get(name, said(counts[name])), notes[name]) for name in names]
         return [*made, Field("pass", own.get("pass", ""), PASS)]
 
+    def pages(self) -> tuple[str, ...]:
+        """The options with which a marking writes its pages and its table."""
+        return f"--html={self.path(PAGES)}", "--csv", f"--output={self.path(MARKS)}"
+
+    def drop_gone(self) -> None:
+        """Takes away in which form a file is to be read, if the file is gone."""
+        for key in self.values(AS):
+            if not os.path.lexists(self.path(HAND_INS, key)):
+                self.put(AS, key, "")
+
     def lacks(self) -> str:
         """What is missing before anything can be marked."""
         lacks = [what for name, what in ((SITTING, "a sitting"), (MODEL, "a model book")) if not self.has(name)]

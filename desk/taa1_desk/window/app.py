@@ -112,6 +112,7 @@ class App:
     def turn(self, page: Page) -> None:
         """Shows a page, with the keyboard in it."""
         self.notebook.select(page.holder)
+        self.root.update()  # what is not yet shown takes no keyboard
         page.next.tk_focusNext().focus_set()  # type: ignore[union-attr]
 
     def _focus(self, event: Any) -> None:

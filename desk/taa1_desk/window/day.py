@@ -7,7 +7,6 @@ a command line.
 
 from __future__ import annotations
 
-import os
 from dataclasses import replace
 from typing import Mapping, Optional
 
@@ -61,15 +60,10 @@ class Day(at.Folder):
 
     def mark(self) -> list[Command]:
         """What marks the hand-ins, and writes the pages and the table; those of a record stay."""
-        return [self._mark(*([] if self.records() else [*self._pages(), "--clean"]))]
-
-    def _pages(self) -> tuple[str, ...]:
-        return f"--html={self.path(at.PAGES)}", "--csv", f"--output={self.path(at.MARKS)}"
+        return [self._mark(*([] if self.records() else [*self.pages(), "--clean"]))]
 
     def _mark(self, *more: str) -> Command:
-        for key in self.values(at.AS):
-            if not os.path.lexists(self.path(at.HAND_INS, key)):
-                self.put(at.AS, key, "")  # the file is gone, and the choice with it
+        self.drop_gone()
         self._reads = self.stamp()
         return ["mark", f"--day={self.folder}", *more]
 
@@ -115,7 +109,7 @@ class Day(at.Folder):
         """What marks, and keeps the record."""
         if self.records():
             raise Problem(f"{self.records()[-1]}: a record is kept already: after an appeal, give the reason below")
-        return [self._mark(*self._pages(), "--clean", f"--record={self.path(at.RECORD)}")]
+        return [self._mark(*self.pages(), "--clean", f"--record={self.path(at.RECORD)}")]
 
     def appeal(self, reason: str) -> list[Command]:
         """What marks again, says what changed since the last record, and keeps another beside it."""
@@ -123,4 +117,4 @@ class Day(at.Folder):
         if not before:
             raise Problem(f"{at.RECORD}: not there yet: after an appeal, marks are compared with a record")
         against = f"--against={self.path(before[-1])}", f"--reason={reason.strip()}"
-        return [self._mark(*self._pages(), f"--record={self.path(at.record_name(len(before)))}", *against)]
+        return [self._mark(*self.pages(), f"--record={self.path(at.record_name(len(before)))}", *against)]

@@ -51,15 +51,16 @@ class HandInsPage(Page):
         keys = {"Double-1": self._open, "Return": self._open, "F2": self._rename, "F3": self._reread, "F4": self._argue}
         for key, does in {**keys, "<TreeviewSelect>": self.picked, "Configure": self.fit}.items():
             self.table.bind(f"<{key}>", lambda event, does=does: does())  # type: ignore[misc]
+        for each in (self.table, bar):  # who scrolls has left the field over a cell
+            each.bind("<Button>", lambda event: self.table.focus_set())
         app.root.bind("<F5>", lambda event: self.mark())
 
     @property
     def row(self) -> Optional[Row]:
         """The row that is selected."""
-        return self.row_of(*self.table.selection())
+        return self._row_of(*self.table.selection())
 
-    def row_of(self, *keys: str) -> Optional[Row]:
-        """The row that has such a key."""
+    def _row_of(self, *keys: str) -> Optional[Row]:
         return next((row for row in self.day.rows if row.key in keys), None)
 
     def pick(self, key: str) -> None:
@@ -153,15 +154,17 @@ class HandInsPage(Page):
             entry.select_range(0, "end")
 
     def keeps(self) -> None:
-        """What was typed of an argument."""
+        """What was typed over a cell, and of an argument."""
+        for each in self.table.winfo_children():
+            each.event_generate("<<Keep>>")
         self.keep(False)
 
     def keep(self, goes_on: bool) -> None:
         """Keeps the points typed for whom the fields are of, though a click has selected another; the sums follow."""
-        row, given = self.row_of(self.whose), {name: entry.get() for name, entry in self.parts.items()}
+        row, given = self._row_of(self.whose), {name: entry.get() for name, entry in self.parts.items()}
         if row and given != self.filled:
             self.filled = given if self.app.tell(self.message, partial(self.day.set_argument, row, given)) else {}
-            for name, cell in (self.row_of(row.key) or row).cells.items():
+            for name, cell in (self._row_of(row.key) or row).cells.items():
                 self.table.set(row.key, name, cell)
             self.app.look()
         if row and given == self.filled and goes_on:
@@ -183,19 +186,24 @@ class HandInsPage(Page):
             self._edit("read", choice, partial(self.day.set_form, self.row))
 
     def _edit(self, column: str, widget: Union[ttk.Entry, ttk.Combobox], keep: Callable[[str], Any]) -> None:
-        """Lays a field or a choice over a cell: Enter keeps what it says, Escape does not."""
+        """Lays a field or a choice over a cell: Enter, or leaving it, keeps what it says, Escape does not."""
+        before = widget.get()
 
         def end(keeps: bool) -> str:
-            text = widget.get()
+            text, inside = widget.get(), str(self.tk.call("focus")).startswith(str(widget))
             widget.destroy()
-            if keeps and self.app.tell(self.message, lambda: keep(text)):
+            if keeps and text != before and self.app.tell(self.message, lambda: keep(text)):
                 self.app.load()
-            self.table.focus_set()
+            if inside:
+                self.table.focus_set()
             return "break"
 
+        self.table.see(self.table.selection()[0])
         x, y, wide, high = self.table.bbox(self.table.selection()[0], column) or (0, 0, 0, 0)
         widget.place(x=x, y=y, width=wide, height=high)
         widget.focus_set()
-        for keys in ("<Return>", "<<ComboboxSelected>>"):
+        for keys in ("<Return>", "<<ComboboxSelected>>", "<<Keep>>"):
             widget.bind(keys, lambda event: end(True))
         widget.bind("<Escape>", lambda event: end(False))
+        # A choice's list, which is within it, takes the keyboard from it.
+        widget.bind("<FocusOut>", lambda event: str(self.tk.call("focus")).startswith(f"{widget}.") or end(True))

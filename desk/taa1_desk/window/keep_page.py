@@ -27,10 +27,8 @@ class KeepPage(Page):
             row.pack(fill="x", pady=(0, AIR))
         pages = {"Class's page": lambda: self._open(at.PAGES, INDEX), "Table (CSV)": lambda: self._open(at.MARKS)}
         buttons(class_, {**pages, "Marking aid for the argument": lambda: self.run("Making it", self.day.argue, at.ARGUE)})
-        buttons(record, {
-            "Write the record": lambda: self.run("Marking for the record", self.day.record),
-            "Verify the record": lambda: self.run("Marking again", self.day.verify),
-        })  # fmt: skip
+        buttons(record, {"Write the record": lambda: self.run("Marking for the record", self.day.record)})
+        buttons(record, {"Verify the record": lambda: self.run("Marking again", self.day.verify)})
         ttk.Label(appeal, text="The reason").pack(side="left", padx=(0, AIR))
         self.reason = ttk.Entry(appeal, width=20)
         self.reason.pack(side="left", fill="x", expand=True, padx=(0, AIR))
