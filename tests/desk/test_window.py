@@ -187,6 +187,15 @@ class Logic(DayCase):
         self.assertEqual(os.listdir(day.folder), [at.HAND_INS])
         self.refuses("there already", lambda: day.take_in(str(CLASS)))
         self.refuses("nowhere", lambda: Day(str(self.folder / "x")).take_in(str(self.folder / "nowhere")))
+        empty = Day(str(self.folder / "class" / "x"))
+        for each in (empty.folder, str(self.folder / "class"), str(self.folder)):
+            self.refuses("choose a folder of hand-ins alone", lambda each=each: empty.take_in(each))  # type: ignore[misc]
+        (self.folder / "pipes").mkdir()
+        os.mkfifo(self.folder / "pipes" / "pipe.book")
+        with self.assertRaises(Problem) as caught:
+            empty.take_in(str(self.folder / "pipes"))
+        self.assertRegex(str(caught.exception), r"^\S*pipes/pipe\.book: .*pipe")
+        self.assertEqual(os.listdir(empty.folder), [])
 
     def test_marks(self) -> None:
         """Rows that need a decision stand first; the command line gives the same table and pages."""

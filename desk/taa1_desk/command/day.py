@@ -11,6 +11,7 @@ import os
 import shutil
 import tempfile
 from itertools import count, takewhile
+from pathlib import Path
 from typing import Callable, Iterator, Mapping, NamedTuple, Sequence
 
 from ..argument import Part
@@ -147,7 +148,10 @@ class Folder:
             checks.get(name, lambda text, where: None)(text, place(self.path(name)))
             files.write_file(self.path(name), text.encode(), private=True)
         elif self.has(name):
-            os.unlink(self.path(name))
+            try:
+                os.unlink(self.path(name))
+            except OSError as error:
+                raise Problem(f"{shown(self.path(name))}: {files.reason(error)}") from None
 
     def put(self, file: str, name: str, value: str) -> None:
         """Sets a line NAME = VALUE of a text; an empty value takes it away."""
@@ -176,12 +180,18 @@ class Folder:
         """Copies a folder of hand-ins; links stay links, since they may lead to another's file."""
         if self.has(HAND_INS):
             raise Problem(f"{HAND_INS}: there already: put further files into {shown(self.path(HAND_INS))}")
+        taken, own = (Path(os.path.realpath(each)) for each in (folder, self.folder))
+        if taken in (own, *own.parents):
+            raise Problem(f"{shown(folder)}: the day's folder is in it: choose a folder of hand-ins alone")
         self.make()
         try:
             with tempfile.TemporaryDirectory(dir=self.folder, prefix=".taa1.") as half:
                 made = shutil.copytree(folder, os.path.join(half, HAND_INS), symlinks=True)
                 os.rename(made, self.path(HAND_INS))
-        except OSError as error:  # shutil's own is one, too
+        except shutil.Error as error:  # it has all that went wrong
+            source, _, why = error.args[0][0]
+            raise Problem(f"{shown(source)}: {why}") from None
+        except OSError as error:
             raise Problem(f"{shown(folder)}: {files.reason(error)}") from None
 
     def scheme(self) -> schemes.Scheme:
