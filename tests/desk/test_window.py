@@ -277,6 +277,20 @@ class Logic(DayCase):
         page = Path(self.day.path(at.PAGES, self.row("ann.book").page)).read_text()
         self.assertNotIn("<b>Ann</b> &", page)
 
+    def test_unnameable(self) -> None:
+        """A file whose name no line can hold takes no name and no argument; the others do."""
+        bad = ("a#1.book", "a=1.book", os.fsdecode(b"caf\xe9.book"))
+        for name in bad:
+            shutil.copy(CLASS / "ann.book", self.folder / "day" / at.HAND_INS / name)
+        self.mark()
+        for name in bad:
+            self.refuses("rename the file", lambda name=name: self.day.set_argument(self.row(name), PARTS))  # type: ignore[misc]
+        self.day.set_name(self.row("ann.book"), "Ann")
+        self.assertEqual(self.day.values(at.NAMES)["ann.book"], "Ann")
+        for name in bad:
+            self.refuses("rename the file", lambda name=name: self.day.set_name(self.row(name), "Bea"))  # type: ignore[misc]
+        self.refuses("since a # begins a comment", lambda: self.day.set_name(self.row("ann.book"), "Ann #2"))
+
     def test_listed_by_stem(self) -> None:
         """A name that is listed without the file's end is changed in its own line."""
         self.day.write(at.NAMES, "ann = Ann Archer  # row 1\ncho = Cho\nplain = P\n")

@@ -101,6 +101,11 @@ def changes(before: Stamp, now: Stamp) -> Iterator[str]:
     yield from (f"{what}: {', '.join(map(shown, sorted(names)))}" for what, names in kinds.items() if names)
 
 
+def nameable(name: str) -> bool:
+    """Whether a line NAME = VALUE can have this name: a file's may hold anything."""
+    return not set("#=") & set(name) and name == name.encode(errors="replace").decode()
+
+
 class Folder:
     """A day's folder, and its texts."""
 
@@ -156,8 +161,10 @@ class Folder:
     def put(self, file: str, name: str, value: str) -> None:
         """Sets a line NAME = VALUE of a text; an empty value takes it away."""
         value = " ".join(value.split())
-        if "#" in name + value or "=" in name:
-            raise Problem(f"{file}: no line can say {name} = {value}, since a # begins a comment")
+        if not nameable(name):
+            raise Problem(f"{file}: no line can name {shown(name)}: without # and =, and in UTF-8, it could: rename the file")
+        if "#" in value:
+            raise Problem(f"{file}: no line can say {shown(name)} = {shown(value)}, since a # begins a comment")
         before = self.text(file)
         after = with_line(before, name, value)
         if after != before:

@@ -85,7 +85,8 @@ class Day(at.Folder):
         is said to be none of it."""
         if name.strip():
             if not self.has(at.NAMES):
-                self.write(at.NAMES, "".join(f"{each.owner} = {each.name}\n" for each in self.rows if each.sheet))
+                known = [each for each in self.rows if each.sheet and at.nameable(each.owner)]
+                self.write(at.NAMES, "".join(f"{each.owner} = {each.name}\n" for each in known))
             self.put(at.NAMES, candidates.key_of(row.owner, self.values(at.NAMES)) or row.owner, name)
             self._replace(row, row._replace(name=" ".join(name.split())))
 
