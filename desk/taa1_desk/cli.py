@@ -49,7 +49,7 @@ def run_window(args: argparse.Namespace) -> int:
     """
     try:
         from .window.start import open_window
-    except ModuleNotFoundError as error:
+    except ImportError as error:  # also of a library that tkinter needs
         if error.name not in ("tkinter", "_tkinter"):
             raise
         raise Problem(NO_TK) from None

@@ -357,10 +357,17 @@ class Logic(DayCase):
         self.assertEqual(at.expanded(["model", "--day", "-x"])[1], "./-x/sitting.txt")
 
     def test_no_tkinter(self) -> None:
-        with mock.patch.dict(sys.modules, {"tkinter": None}):
-            done = here("window", self.folder, cwd=self.folder)
-        self.assertEqual(done.status, 2)
-        self.assertRegex(done.error, r"^taa1: window: .*apt-get install python3-tk.*\n$")
+        lacks = ModuleNotFoundError("No module named 'tkinter'", name="tkinter")
+        library = ImportError("libtk8.6.so: cannot open shared object file", name="_tkinter")
+        for error in (lacks, library):
+            finder = mock.Mock(find_spec=mock.Mock(side_effect=lambda name, *_: _raise(error) if "tkinter" in name else None))
+            windows = [name for name in sys.modules if "tkinter" in name or name.startswith("taa1_desk.window.")]
+            with mock.patch.dict(sys.modules), mock.patch.object(sys, "meta_path", [finder, *sys.meta_path]):
+                for name in windows:
+                    del sys.modules[name]
+                done = here("window", self.folder, cwd=self.folder)
+            self.assertEqual(done.status, 2)
+            self.assertRegex(done.error, r"^taa1: window: .*apt-get install python3-tk.*\n$")
 
     @unittest.skipIf(find_spec("_tkinter") is None, "no python3-tk")
     def test_no_display(self) -> None:
@@ -375,6 +382,10 @@ class Logic(DayCase):
         """The window's code is small."""
         lines = {path.name: path.read_text().count("\n") for path in (SOURCES / "window").glob("*.py")}
         self.assertLess(sum(lines.values()), MOST_LINES, lines)
+
+
+def _raise(error: BaseException) -> None:
+    raise error
 
 
 def untimed(page: str) -> str:
@@ -925,6 +936,15 @@ class Seen(Case):
             self.assertEqual(page.table.winfo_children(), [])
             self.assertIn(f"ben.book = {name}\n", names.read_text())
         self.assertEqual(page.changed.cget("text"), "")
+
+    def test_enter(self) -> None:
+        """Enter presses a button of a dialog, too, which is none of Python's objects."""
+        self.root.tk.eval("toplevel .asks; pack [ttk::button .asks.yes -command {set ::pressed yes}]; focus -force .asks.yes")
+        self.step()
+        self.root.tk.eval("event generate .asks.yes <Return>")
+        self.step()
+        self.assertEqual(self.root.tk.eval("set ::pressed"), "yes")
+        self.root.tk.eval("destroy .asks")
 
     def test_turned(self) -> None:
         """A page that was not yet seen takes the keyboard when it is turned to."""

@@ -35,7 +35,7 @@ def dress(root: tk.Tk) -> None:
     style.configure("Alarm.TLabel", foreground=ALARM)
     style.configure("TNotebook.Tab", background=RAISED)
     style.map("TNotebook.Tab", background=[("selected", BACK)])
-    root.bind_class("TButton", "<Return>", lambda event: event.widget.event_generate("<space>"))
+    root.bind_class("TButton", "<Return>", "event generate %W <space>")  # Tcl's: a dialog's are no objects of Python's
 
 
 def set_letters(root: tk.Tk, size: int) -> int:
