@@ -472,7 +472,8 @@ class Seen(Case):
         self.asked: list[str] = []
         patched = {name: mock.Mock(side_effect=lambda name=name, **_: self.answers[name]) for name in self.answers}
         patched["tkinter.messagebox.askyesno"] = mock.Mock(side_effect=self.sure)
-        patched["webbrowser.open"] = mock.Mock(side_effect=self.opened.append)
+        self.browser = True  # there is one
+        patched["webbrowser.open"] = mock.Mock(side_effect=self.open_page)
         for name, made in patched.items():
             patch = mock.patch(name, made)
             patch.start()
@@ -498,6 +499,11 @@ class Seen(Case):
         except Exception:  # it is gone
             pass
         self.assertEqual(self.faults, [])
+
+    def open_page(self, page: str) -> bool:
+        """Stands for the browser, if there is one."""
+        self.opened.append(page)
+        return self.browser
 
     def step(self) -> None:
         """Lets the window do what it has to."""
@@ -920,7 +926,7 @@ class Seen(Case):
         x, y, *_ = page.table.bbox("c00.book", "name")
         self.click(page.table, x + 2, y + 2)
         self.assertEqual((page.table.winfo_children(), names.exists()), ([], False))
-        leaves = {
+        leaves: dict[str, Callable[[], Any]] = {
             "Bea": lambda: self.click(page.table, x + 2, y + 2),
             "Bob": lambda: page.table.event_generate("<Button-5>"),
             "Ben": lambda: self.key("F5", at=self.root),
@@ -936,6 +942,23 @@ class Seen(Case):
             self.assertEqual(page.table.winfo_children(), [])
             self.assertIn(f"ben.book = {name}\n", names.read_text())
         self.assertEqual(page.changed.cget("text"), "")
+
+    def test_no_browser(self) -> None:
+        """Without a browser the page's place is told."""
+        page = self.marked_day()
+        self.browser = False
+        page.table.focus_force()
+        self.key("Return")
+        self.assertIn(f"open {self.folder / 'day' / at.PAGES / 'ann.book.html'} by hand", self.texts())
+
+    def test_sides(self) -> None:
+        """The sides of an earlier day are not those of a new one."""
+        self.marked_day()
+        page: Any = self.app.pages[0]
+        self.assertNotEqual(page.sides.current(), 0)
+        self.answers["tkinter.filedialog.askdirectory"] = str(self.folder / "other")
+        self.key("Control-o", at=self.root)
+        self.assertEqual(page.sides.current(), 0)
 
     def test_enter(self) -> None:
         """Enter presses a button of a dialog, too, which is none of Python's objects."""

@@ -171,9 +171,10 @@ class App:
             message.say("")
         return True
 
-    def show(self, *names: str) -> bool:
+    def show(self, *names: str) -> Any:
         """Opens a page of the day in the browser, as a file."""
-        return webbrowser.open(Path(self.day.path(*names)).as_uri())
+        if not webbrowser.open(Path(self.day.path(*names)).as_uri()):
+            self.doing.configure(text=f"No browser was found: open {shown(self.day.path(*names))} by hand.")
 
     def command(self, message: Message, what: str, lines: Callable[[], list[Command]], then: Callable[[Done], Any]) -> None:
         """Starts commands; what they say stands in a message, and `then` takes how they ended."""

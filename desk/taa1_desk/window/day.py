@@ -12,7 +12,7 @@ from typing import Mapping, Optional
 
 from ..command import day as at
 from ..marking.totals import total
-from ..problems import Problem, shown
+from ..problems import Problem
 from ..reading import argument_points, candidates
 from ..showing.sheet_text import summary_text
 from ..words import listed

@@ -205,5 +205,5 @@ class HandInsPage(Page):
         for keys in ("<Return>", "<<ComboboxSelected>>", "<<Keep>>"):
             widget.bind(keys, lambda event: end(True))
         widget.bind("<Escape>", lambda event: end(False))
-        # A choice's list, which is within it, takes the keyboard from it.
-        widget.bind("<FocusOut>", lambda event: str(self.tk.call("focus")).startswith(f"{widget}.") or end(True))
+        within = f"{widget}."  # a choice's list is, and takes the keyboard
+        widget.bind("<FocusOut>", lambda event: str(self.tk.call("focus")).startswith(within) or end(True))

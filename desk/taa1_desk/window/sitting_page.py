@@ -79,7 +79,7 @@ class SittingPage(Page):
         heading = self.day.heading()
         for name, entry in self.fields.items():
             fill(entry, heading.get(name, entry.get() if entry.instate(["!disabled"]) else ""), name not in heading)
-        self.sides.current(int(heading.get("sides", self.sides.current())))
+        self.sides.current(int(heading.get("sides", 0 if "disabled" in self.sides.state() else self.sides.current())))
         self.sides.configure(state="disabled" if "sides" in heading else "readonly")
         self._show_points()
         if (words := self.day.text(at.WORDS).rstrip()) != self.words.get("1.0", "end").rstrip():

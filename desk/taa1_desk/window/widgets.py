@@ -46,6 +46,7 @@ def set_letters(root: tk.Tk, size: int) -> int:
     high = font.nametofont("TkDefaultFont", root).metrics("linespace")
     ttk.Style(root).configure("Treeview", rowheight=high + AIR)
     ttk.Style(root).configure("TNotebook.Tab", padding=(high, AIR // 2))
+    root.update_idletasks()
     left: list[tk.Misc] = [root]
     while left:  # fields and tables take the new size when they are set anew
         each = left.pop()
