@@ -334,6 +334,14 @@ class Logic(DayCase):
         self.mark()
         self.assertEqual(self.day.changed(), "")
 
+    def test_unseen(self) -> None:
+        """A folder that can't be looked into, and a file that goes meanwhile, are no fault."""
+        with mock.patch("os.listdir", side_effect=PermissionError):
+            self.assertTrue(self.day.has(at.HAND_INS))
+        gone: list[Any] = [(self.day.path(at.HAND_INS), [], ["ann.book", "gone.book"])]
+        with mock.patch("os.walk", return_value=gone), mock.patch("os.path.lexists", return_value=True):
+            self.assertEqual(list(self.day.stamp()), [at.SITTING, at.MODEL, os.path.join(at.HAND_INS, "ann.book")])
+
     def test_ended(self) -> None:
         """Work that is ended in the middle leaves the folder as it was."""
         for number in range(200):

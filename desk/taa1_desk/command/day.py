@@ -10,6 +10,7 @@ from __future__ import annotations
 import os
 import shutil
 import tempfile
+from contextlib import suppress
 from itertools import count, takewhile
 from pathlib import Path
 from typing import Callable, Iterator, Mapping, NamedTuple, Sequence
@@ -120,7 +121,10 @@ class Folder:
     def has(self, name: str) -> bool:
         """Whether a file of the day, or a folder with something in it, is there."""
         path = self.path(name)
-        return bool(self.folder) and (os.path.isfile(path) or os.path.isdir(path) and bool(os.listdir(path)))
+        try:
+            return bool(self.folder) and (os.path.isfile(path) or os.path.isdir(path) and bool(os.listdir(path)))
+        except OSError:  # a folder that can't be looked into: who reads it is told
+            return True
 
     def make(self) -> None:
         """Makes the folder, if it is not there."""
@@ -274,7 +278,10 @@ class Folder:
         found = [self.path(name) for name in INPUTS]
         for folder, _, names in os.walk(self.path(HAND_INS)):
             found += [os.path.join(folder, name) for name in names if not name.startswith(".")]
-        seen = {path: os.lstat(path) for path in found if os.path.lexists(path)}
+        seen = {}
+        for path in found:
+            with suppress(OSError):  # it is not there, or is gone by now
+                seen[path] = os.lstat(path)
         return {os.path.relpath(path, self.folder): (each.st_size, each.st_mtime_ns) for path, each in seen.items()}
 
     def records(self) -> list[str]:

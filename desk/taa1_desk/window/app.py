@@ -151,14 +151,14 @@ class App:
 
     def look(self, again: int = 0) -> None:
         """Says on the page that is seen what has changed, and what is missing; again after a while."""
+        if again:
+            self.root.after(again, self.look, again)
         number = self.notebook.index("current")  # type: ignore[no-untyped-call]
         page = self.pages[number]
         page.fit()
         page.whole = page.whole or self.tell(page.next, page.load)
         if page.whole and self.tell(page.next, page.look):
             page.next.say(self.day.missing(number + 1), style="Quiet")
-        if again:
-            self.root.after(again, self.look, again)
 
     def tell(self, message: Message, does: Callable[[], Any]) -> bool:
         """Does something, and says at its place what is wrong, in the words of the command line."""
