@@ -110,8 +110,6 @@ class HandInsPage(Page):
     def picked(self) -> None:
         """All that is to be said of the row, and its argument; what was refused stays in its field."""
         self.keeps()
-        for left in self.table.winfo_children():  # a field over a cell of another row
-            left.destroy()
         row = self.row
         self.says.say(*(row.says[:4] if row else ()), style="Alarm" if row and row.look else "")
         whose = f"The argument of {row.name}" if row and row.sheet else "The argument"
@@ -184,6 +182,8 @@ class HandInsPage(Page):
             choice = ttk.Combobox(self.table, values=[AS_IT_LOOKS, *READ_AS], state="readonly")
             choice.set(self.row.form or AS_IT_LOOKS)
             self._edit("read", choice, partial(self.day.set_form, self.row))
+        elif self.row:
+            self.message.say("This file was left out, so no form can be chosen: below the table stands why.")
 
     def _edit(self, column: str, widget: Union[ttk.Entry, ttk.Combobox], keep: Callable[[str], Any]) -> None:
         """Lays a field or a choice over a cell: Enter, or leaving it, keeps what it says, Escape does not."""

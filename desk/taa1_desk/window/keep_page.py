@@ -53,8 +53,8 @@ class KeepPage(Page):
 
         def ended(done: Done) -> None:
             said = self.day.marked(done)
-            if done.outcome:
-                self.message.say(*said)
+            if done.outcome or done.wrote:  # the last line of verify says how it came out
+                self.message.say(*(said if done.outcome else done.wrote[-1:]), style="" if done.outcome or not done.status else "Alarm")
             self.wrote.configure(state="normal")
             self.wrote.delete("1.0", "end")
             self.wrote.insert("1.0", "\n".join((*(done.said if done.outcome else ()), *done.wrote)))
