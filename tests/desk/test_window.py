@@ -154,7 +154,7 @@ class Logic(DayCase):
         wrong = self.run_(other.draw({**given, "kinds": "", "entries": "5"}))
         words = taa1("draw", "--book", "--entries", "5").error.removeprefix("taa1: ").strip()
         self.assertEqual((wrong.status, wrong.said), (2, (words,)))
-        self.assertEqual([other.has(at.SITTING), other.has(at.MODEL)], [True, False])
+        self.assertEqual([other.has(at.SITTING), other.has(at.MODEL)], [False, False])
 
     def test_choose(self) -> None:
         day = Day(str(self.folder / "new"))

@@ -255,10 +255,11 @@ class Folder:
         return ""
 
     def draw(self, given: Mapping[str, str]) -> list[list[str]]:
-        """What draws the sitting and the model, each if it is not there yet."""
+        """What draws the model and the sitting, each if it is not there yet; the model first, since
+        only its kinds can be refused, and then nothing is drawn."""
         self.make()
         made = []
-        for name, options in ((SITTING, ("title", "date", "sides")), (MODEL, ("kinds", "entries"))):
+        for name, options in ((MODEL, ("kinds", "entries")), (SITTING, ("title", "date", "sides"))):
             typed = [f"--{option}={given[option].strip()}" for option in options if given[option].strip()]
             if not self.has(name):
                 made.append(["draw", *["--book"] * (name == MODEL), *typed, f"--output={self.path(name)}"])
