@@ -134,6 +134,11 @@ class Forms(unittest.TestCase):
             [None if at == 3 else record for at, record in enumerate(RECORDS)], keys
         ))))  # fmt: skip
 
+    def test_no_record(self) -> None:
+        """Of a form with the values alone it is not said that its book opens."""
+        said = sheet_text(mark(filled([None] * len(RECORDS))))
+        self.assertIn("ann.txt: 0 of 12 entries right; no record; read as an answer form\n", said)
+
     def test_bad_rows(self) -> None:
         """A row that can't be read is named, and costs itself alone."""
         text = filled().splitlines()

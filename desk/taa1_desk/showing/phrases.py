@@ -70,7 +70,7 @@ def opening(sheet: Sheet, brief: bool = False) -> str:
         refused = sheet.refused
         said = f"refused {refused.number} at {refused.index}"
         return said if brief else f"does not open: {said} ({refused.name})"
-    return flags_said(sheet.flags) if sheet.flags else "opens"
+    return flags_said(sheet.flags) if sheet.flags else "opens" if sheet.entries else "no record"
 
 
 def opening_words(sheet: Sheet) -> str:
