@@ -138,14 +138,14 @@ def _shrunk(shrink: Callable[[bytes], bytes]) -> Cipher:
     return {"ta61_strings": strings}
 
 
-def _identity(run: Callable[..., Any]) -> Cipher:
-    """TA61 of the three strings and the identity, otherwise."""
+def _identity(run: Callable[..., Any], call: str = "ta61", permute: str = "permute") -> Cipher:
+    """TA61, or its inverse, of P or what undoes it, the three strings and the identity, otherwise."""
 
     def ta61(work: Working, c: bytes, identity: int) -> int:
-        made = run(work.permute, *work.ta61_strings(c), identity.to_bytes(3, "big"))
+        made = run(getattr(work, permute), *work.ta61_strings(c), identity.to_bytes(3, "big"))
         return int.from_bytes(made, "big")
 
-    return {"ta61": ta61}
+    return {call: ta61}
 
 
 def _p(make: Callable[[int, int, int], int], table: Sequence[int] = S) -> Cipher:
@@ -328,13 +328,8 @@ def _bl2(left: Callable[[bytes, bytes], bytes], right: Callable[[bytes, bytes], 
 
 
 def _undone(run: Callable[..., Any]) -> Cipher:
-    """TA61's inverse of the three strings and the encrypted identity, otherwise."""
-
-    def inverse(work: Working, c: bytes, identity: int) -> int:
-        made = run(work.permute_back, *work.ta61_strings(c), identity.to_bytes(3, "big"))
-        return int.from_bytes(made, "big")
-
-    return {"ta61_inverse": inverse}
+    """TA61's inverse, otherwise."""
+    return _identity(run, "ta61_inverse", "permute_back")
 
 
 def _p_undone(table: Sequence[int]) -> Cipher:
