@@ -1,4 +1,6 @@
 // Strings of any length: tests of their lengths and of their bytes, typed arrays of their parts, two joined, the ⊕ of two, big-endian numbers.
+#![tactic(auto)]
+
 mod joins;
 mod parts;
 mod words;

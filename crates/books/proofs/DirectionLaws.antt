@@ -1,9 +1,9 @@
 -- Sealing and opening, in the terms of the definitions.
-use Rattle.standard.proofs.Prelude.{◌≡◌, refl, Bool, true, false, List, [], ◌∷◌, ℕ, ◌+◌, ◌-◌, ◌*◌, ◌≤◌, ◌<◌, add-zero, arith, eqb, length, take, drop}
+use Rattle.standard.proofs.Prelude.{◌≡◌, refl, Bool, true, false, List, ℕ, ◌+◌, ◌-◌, ◌*◌, ◌≤◌, ◌<◌, add-zero, arith, eqb, length, take, drop}
 use Rattle.cores.specs.CoreOutputs.{counted15}
 use Rattle.cores.specs.declared.CoreOutput15.{CoreOutput15}
 use Rattle.cores_x4.specs.OutputLanes.{lane15}
-use Rattle.hurdle_x4.specs.Lanes.{lanes, lane}
+use Rattle.hurdle.specs.Lanes.{lanes, by_lane}
 use Rattle.lists.proofs.WalkLaws.{end_fits, first_fit, lent, Wrote, wrote_none, wrote_one, wrote_from}
 use Rattle.lists.specs.Walks.{replace_at, replace_from}
 use Rattle.records.specs.RecordForms.{sealed_with, opened_with}
@@ -19,7 +19,7 @@ use Rattle.standard.specs.Seals.{form, seal, unseal, sealed, opened, with8}
 use Rattle.standard.specs.declared.Kind.{Kind}
 use Rattle.texts.specs.TextCores.{seal_core}
 use Rattle.books.specs.BothDirections.{size_of, output_size_of, fault_at, inspection_of, inspection_at, record_of}
-use Rattle.books.specs.BothDirections.{kind_lane, core_of, made_of, convert_of, convert_at}
+use Rattle.books.specs.BothDirections.{core_of, made_of, convert_of, convert_at}
 use Rattle.books.specs.declared.direction.Direction.{Direction}
 use Rattle.books.specs.declared.direction.Direction.TheVariants.{Sealing, Opening}
 
@@ -79,12 +79,15 @@ module _ (r : List ℕ) (k : Kind) (x : List ℕ) {key input : List ℕ} (e : ke
   unfolding opened
   core_opening q = rw (q, e)
 
+pub lanes_same : {a b c d a' b' c' d' : CoreOutput15} → a ≡ a' → b ≡ b' → c ≡ c' → d ≡ d' → lanes (by_lane a b c d) ≡ lanes (by_lane a' b' c' d')
+lanes_same p q r s = rw (p, q, r, s)
+
 -- four records from place i on, their kinds and what the cores give: what is made of them in each lane
 pub converted_lanes : (d : Direction) (r b xs : List ℕ) (i : ℕ) {x₀ x₁ x₂ x₃ : List ℕ} {k₀ k₁ k₂ k₃ : Kind} {o : List CoreOutput15}
     → x₀ ≡ record_at (size_of d) xs i → x₁ ≡ record_at (size_of d) xs (i + 1) → x₂ ≡ record_at (size_of d) xs (i + 2) → x₃ ≡ record_at (size_of d) xs (i + 3)
     → k₀ ≡ record_kind x₀ → k₁ ≡ record_kind x₁ → k₂ ≡ record_kind x₂ → k₃ ≡ record_kind x₃
-    → o ≡ lanes (λ j. counted15 (core_of r d (kind_lane (k₀ ∷ k₁ ∷ k₂ ∷ k₃ ∷ []) j) (lane (x₀ ∷ x₁ ∷ x₂ ∷ x₃ ∷ []) j))) → (out : List ℕ)
-    → replace_from (output_size_of d) i (λ j. made_of d (kind_lane (k₀ ∷ k₁ ∷ k₂ ∷ k₃ ∷ []) j) b (record_at (size_of d) xs (i + j)) (lane15 o j).output) 4 out
+    → o ≡ lanes (λ j. counted15 (core_of r d (by_lane k₀ k₁ k₂ k₃ j) (by_lane x₀ x₁ x₂ x₃ j))) → (out : List ℕ)
+    → replace_from (output_size_of d) i (λ j. made_of d (by_lane k₀ k₁ k₂ k₃ j) b (record_at (size_of d) xs (i + j)) (lane15 o j).output) 4 out
     ≡ replace_from (output_size_of d) i (λ j. convert_at r b d xs (i + j)) 4 out
 converted_lanes d r b xs i e₀ e₁ e₂ e₃ q₀ q₁ q₂ q₃ core out = rw (core, q₀, q₁, q₂, q₃, e₀, e₁, e₂, e₃, add-zero)
 

@@ -1,11 +1,11 @@
 // What a record becomes: what the core gives for it, and what is made of that. For one record, and for four whose cores run side by side.
-ghost use Rattle.std.specs.Prelude.{[], ◌∷◌, ◌++◌, ◌≡◌, ◌+◌, ◌*◌, ◌≤◌, length, take, drop};
+ghost use Rattle.std.specs.Prelude.{◌++◌, ◌≡◌, ◌+◌, ◌*◌, ◌≤◌, length, take, drop};
 ghost use Rattle.cores.specs.CoreOutputs.{counted15};
 ghost use Rattle.cores_x4.specs.OutputLanes.{lane15};
 ghost use Rattle.lists.specs.Walks.{replace_at, replace_from};
 ghost use Rattle.standard.specs.Lists.{record_at};
 ghost use Rattle.standard.specs.Runs.{text_runs};
-ghost use Rattle.hurdle_x4.specs.Lanes.{lanes, lane, each_lane};
+ghost use Rattle.hurdle.specs.Lanes.{lanes, by_lane, each_lane};
 ghost use Rattle.books.specs.BothDirections.{size_of, output_size_of, kind_lane, core_of, made_of, convert_at};
 
 use crate::direction::Direction;
@@ -115,7 +115,7 @@ fn core_x4(
 ) -> [CoreOutput15; 4]
     ensures { result
         ≡ lanes (λ j. counted15 (core_of ring.now direction (kind_lane kinds j)
-        (lane (a.now ∷ b.now ∷ c.now ∷ d.now ∷ []) j))) }
+        (by_lane a.now b.now c.now d.now j))) }
 {
     let keys = [
         core_key(kinds[0], ring, a),

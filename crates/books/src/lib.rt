@@ -1,4 +1,6 @@
 // The book calls: sealing, opening, and checking a plain book.
+#![tactic(auto)]
+
 mod convert;
 mod direction;
 mod walk;

@@ -1,4 +1,6 @@
 // Smudged key cards: a group key in its TB7 form, of which some bytes are unreadable, restored group by group.
+#![tactic(auto)]
+
 ghost use Rattle.std.specs.Prelude.{◌≡◌, ◌-◌, ◌/◌, ◌%◌, ◌^◌, ◌<◌, ◌≤◌, eqb};
 ghost use Rattle.standard.specs.Bytes.{choose};
 ghost use Rattle.standard.specs.Cards.{readable as readable_of, erasures as erasures_of, group_parity, at_most_one, agrees as agrees_of};

@@ -1,8 +1,10 @@
 // A whole class of challenges under one session key: for each the response and the key that TA12 answers. The masks are tested and the
 // round keys made once, and four challenges go side by side.
+#![tactic(auto)]
+
 ghost use Rattle.std.specs.Prelude.{◌++◌, ◌≡◌, ◌+◌, ◌*◌, ◌≤◌, length, drop};
 ghost use Rattle.cores_x4.specs.OutputLanes.{lane16};
-ghost use Rattle.hurdle_x4.specs.Lanes.{lanes, lane, Alike};
+ghost use Rattle.hurdle.specs.Lanes.{lanes};
 ghost use Rattle.keys.specs.Masks.{Counted};
 ghost use Rattle.lists.specs.Walks.{after, replace_at, replace_from};
 ghost use Rattle.standard.specs.Classes.{ta12_class_call};
@@ -97,9 +99,9 @@ fn write_at_x4(o: [CoreOutput16; 4], response_mask: u16, key_mask: u16, i: usize
     }
 }
 
-// The records of challenges i to i + 3. The session key's round keys stand in each lane.
+// The records of challenges i to i + 3.
 fn write_x4(
-    keys: &[[u8; 192]; 4],
+    keys: &[u8; 192],
     challenges: &[u8],
     response_mask: u16,
     key_mask: u16,
@@ -108,19 +110,18 @@ fn write_x4(
 )
     requires i_in_bounds { (challenge_size * (i + 4) ≤ length challenges.now) × (authentication_size * (i + 4) ≤ length out.old) }
     requires counted { Counted response_mask key_mask }
-    requires alike { Alike keys.now }
     ensures { out.new
         ≡ replace_from authentication_size i
-        (λ j. record_with (lane keys.now 0) response_mask key_mask (record_at challenge_size challenges.now (i + j))) 4
+        (λ j. record_with keys.now response_mask key_mask (record_at challenge_size challenges.now (i + j))) 4
         out.old }
 {
-    let o = bl1_with_x4(keys, input_at_x4(challenges, i));
+    let o = bl1_with_x4(keys, keys, keys, keys, input_at_x4(challenges, i));
     write_at_x4(o, response_mask, key_mask, i, out);
 }
 
 // The records of n challenges, each at its own place in the output, four at a time and then the rest.
 fn write(
-    keys: &[[u8; 192]; 4],
+    keys: &[u8; 192],
     challenges: &[u8],
     response_mask: u16,
     key_mask: u16,
@@ -129,9 +130,8 @@ fn write(
 )
     requires n_in_bounds { (challenge_size * n ≤ length challenges.now) × (authentication_size * n ≤ length out.old) }
     requires counted { Counted response_mask key_mask }
-    requires alike { Alike keys.now }
     ensures { out.new
-        ≡ each n challenge_size (record_with (lane keys.now 0) response_mask key_mask) challenges.now
+        ≡ each n challenge_size (record_with keys.now response_mask key_mask) challenges.now
         ++ drop (authentication_size * n) out.old }
 {
     let mut i = 0;
@@ -140,7 +140,7 @@ fn write(
             write_x4(keys, challenges, response_mask, key_mask, i, out);
             i += 4;
         } else {
-            write_one(&keys[0], challenges, response_mask, key_mask, i, out);
+            write_one(keys, challenges, response_mask, key_mask, i, out);
             i += 1;
         }
     }
@@ -172,7 +172,7 @@ pub fn ta12_class(
     if masks != 0 {
         return BookAnswer::refused(masks, 0);
     }
-    let keys = [schedule(part16(session_key, 0)); 4];
+    let keys = schedule(part16(session_key, 0));
     let n = challenges.len() / CHALLENGE;
     write(&keys, challenges, response_mask, key_mask, n, out);
     BookAnswer {

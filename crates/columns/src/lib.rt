@@ -1,4 +1,6 @@
 // Books filed by column: byte 0 of each record, in the records' order, then byte 1 of each, up to the last byte; and back.
+#![tactic(auto)]
+
 ghost use Rattle.std.specs.Prelude.{◌++◌, ◌≡◌, ◌*◌, ◌<◌, ◌≤◌, length, drop};
 ghost use Rattle.standard.specs.Bytes.{choose};
 ghost use Rattle.standard.specs.Columns.{column as column_of, transposed, to_columns, from_columns, columns_call};

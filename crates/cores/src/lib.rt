@@ -1,4 +1,6 @@
 // The two-block cores BL1 and BL2, and the expansions EXP2 and EXP4, on typed arrays.
+#![tactic(auto)]
+
 ghost use Rattle.std.specs.Prelude.{◌≡◌, [], ◌∷◌, ◌++◌};
 ghost use Rattle.standard.specs.Bytes.{◌!◌, ◌⊕◌, ◌⊞◌, part, xors};
 ghost use Rattle.standard.specs.Cores.{bl1_with, bl1 as bl1Of, bl2 as bl2_of};

@@ -3,10 +3,15 @@ use Rattle.standard.proofs.Prelude.{◌≡◌, List, [], ◌∷◌, ◌++◌, �
 use Rattle.cores.specs.CoreOutputs.{bl2_with, counted16, counted15}
 use Rattle.cores.specs.declared.CoreOutput15.{CoreOutput15}
 use Rattle.cores.specs.declared.CoreOutput16.{CoreOutput16}
-use Rattle.hurdle_x4.specs.Lanes.{lanes, lane}
+use Rattle.hurdle.specs.Lanes.{lanes, lane}
 use Rattle.standard.specs.Bytes.{◌!◌, ◌⊕◌, part, xors}
 use Rattle.standard.specs.Cores.{bl1_with}
 use Rattle.standard.specs.Hurdle.{encrypt_with, decrypt_with}
+
+-- equal in each lane
+pub four_same : {A : Type 0} {x₀ x₁ x₂ x₃ y₀ y₁ y₂ y₃ : A} → x₀ ≡ y₀ → x₁ ≡ y₁ → x₂ ≡ y₂ → x₃ ≡ y₃
+    → x₀ ∷ x₁ ∷ x₂ ∷ x₃ ∷ [] ≡ y₀ ∷ y₁ ∷ y₂ ∷ y₃ ∷ []
+four_same e₀ e₁ e₂ e₃ = rw (e₀, e₁, e₂, e₃)
 
 module _ (K : ℕ → List ℕ) (x : List (List ℕ)) {x₀ x₁ l r : List (List ℕ)} where
   pub bl1_lanes : {o : List CoreOutput16} → o ≡ lanes (λ j. counted16 (part 0 8 (lane l j) ++ part 0 8 (lane r j)))

@@ -1,6 +1,8 @@
 // BL1 and BL2 of four strings side by side, one to a lane, each lane under a key of its own.
+#![tactic(auto)]
+
 ghost use Rattle.std.specs.Prelude.{[], ◌∷◌, ◌++◌, ◌≡◌};
-ghost use Rattle.hurdle_x4.specs.Lanes.{lanes, lane};
+ghost use Rattle.hurdle.specs.Lanes.{lanes, lane, by_lane};
 ghost use Rattle.cores.specs.CoreOutputs.{bl2_with, counted16, counted15};
 ghost use Rattle.standard.specs.Bytes.{◌!◌, ◌⊕◌, part, xors};
 ghost use Rattle.standard.specs.Cores.{bl1_with, bl1, bl2};
@@ -9,7 +11,7 @@ use cores::{
     CoreOutput15, CoreOutput16, bl1_output, bl1_right_input, bl2_left_input, bl2_output, left,
     right,
 };
-use hurdle_x4::{decrypt_with_x4, encrypt_with_x4, schedule_x4};
+use hurdle::{decrypt_with_x4, encrypt_with_x4, schedule};
 
 fn left_x4(x: [[u8; 16]; 4]) -> [[u8; 8]; 4]
     ensures { result ≡ lanes (λ j. part 0 8 (lane x j)) }
@@ -62,19 +64,29 @@ fn bl1_output_x4(l: [[u8; 8]; 4], r: [[u8; 8]; 4]) -> [CoreOutput16; 4]
 }
 
 // BL1 in each lane, under round keys that were laid out before.
-pub fn bl1_with_x4(keys: &[[u8; 192]; 4], x: [[u8; 16]; 4]) -> [CoreOutput16; 4]
-    ensures { result ≡ lanes (λ j. counted16 (bl1_with (lane keys.now j) (lane x j))) }
+pub fn bl1_with_x4(
+    ka: &[u8; 192],
+    kb: &[u8; 192],
+    kc: &[u8; 192],
+    kd: &[u8; 192],
+    x: [[u8; 16]; 4],
+) -> [CoreOutput16; 4]
+    ensures { result ≡ lanes (λ j. counted16 (bl1_with
+        (by_lane ka.now kb.now kc.now kd.now j) (lane x j))) }
 {
-    let l = encrypt_with_x4(keys, left_x4(x));
-    let r = encrypt_with_x4(keys, bl1_right_input_x4(x, l));
+    let l = encrypt_with_x4(ka, kb, kc, kd, left_x4(x));
+    let r = encrypt_with_x4(ka, kb, kc, kd, bl1_right_input_x4(x, l));
     bl1_output_x4(l, r)
 }
 
 pub fn bl1_x4(k: [[u8; 16]; 4], x: [[u8; 16]; 4]) -> [CoreOutput16; 4]
     ensures { result ≡ lanes (λ j. counted16 (bl1 (lane k j) (lane x j))) }
 {
-    let keys = schedule_x4(k);
-    bl1_with_x4(&keys, x)
+    let ka = schedule(k[0]);
+    let kb = schedule(k[1]);
+    let kc = schedule(k[2]);
+    let kd = schedule(k[3]);
+    bl1_with_x4(&ka, &kb, &kc, &kd, x)
 }
 
 fn bl2_left_input_x4(y: [[u8; 16]; 4], r: [[u8; 8]; 4]) -> [[u8; 8]; 4]
@@ -107,17 +119,27 @@ fn bl2_output_x4(l: [[u8; 8]; 4], r: [[u8; 8]; 4], y: [[u8; 16]; 4]) -> [CoreOut
     ]
 }
 
-fn bl2_with_x4(keys: &[[u8; 192]; 4], y: [[u8; 16]; 4]) -> [CoreOutput15; 4]
-    ensures { result ≡ lanes (λ j. counted15 (bl2_with (lane keys.now j) (lane y j))) }
+fn bl2_with_x4(
+    ka: &[u8; 192],
+    kb: &[u8; 192],
+    kc: &[u8; 192],
+    kd: &[u8; 192],
+    y: [[u8; 16]; 4],
+) -> [CoreOutput15; 4]
+    ensures { result ≡ lanes (λ j. counted15 (bl2_with
+        (by_lane ka.now kb.now kc.now kd.now j) (lane y j))) }
 {
-    let r = decrypt_with_x4(keys, right_x4(y));
-    let l = decrypt_with_x4(keys, bl2_left_input_x4(y, r));
+    let r = decrypt_with_x4(ka, kb, kc, kd, right_x4(y));
+    let l = decrypt_with_x4(ka, kb, kc, kd, bl2_left_input_x4(y, r));
     bl2_output_x4(l, r, y)
 }
 
 pub fn bl2_x4(k: [[u8; 16]; 4], y: [[u8; 16]; 4]) -> [CoreOutput15; 4]
     ensures { result ≡ lanes (λ j. counted15 (bl2 (lane k j) (lane y j))) }
 {
-    let keys = schedule_x4(k);
-    bl2_with_x4(&keys, y)
+    let ka = schedule(k[0]);
+    let kb = schedule(k[1]);
+    let kc = schedule(k[2]);
+    let kd = schedule(k[3]);
+    bl2_with_x4(&ka, &kb, &kc, &kd, y)
 }

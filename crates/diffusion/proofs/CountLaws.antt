@@ -5,7 +5,7 @@ use Rattle.standard.proofs.Prelude.{arith, length, length-append, shl_exact, ne_
 use mathlib.Core.List.{foldl, foldl-append}
 use Prim.Native.Nat.{min, max}
 use lib.Count.{ones, ones_cat}
-use Rattle.hurdle_x4.specs.Lanes.{lanes, lane, Alike}
+use Rattle.hurdle.specs.Lanes.{lanes, lane}
 use Rattle.lists.specs.Walks.{after}
 use Rattle.standard.proofs.BytesLaws.{table_same, table_add}
 use Rattle.standard.proofs.DiffusionLaws.{length_changes, least_from}
@@ -24,11 +24,11 @@ pub one_bit : (i : ℕ) → i < 64 → 1 * 2 ^ i % 2 ^ 64 ≡ 2 ^ i
 one_bit i h = shl_exact 1 i 64 (omega arith) (omega arith) ∙ one-mul (2 ^ i)
 
 -- what four flips change, from the block's own output
-pub flips_changed : (keys : List (List ℕ)) (block : List ℕ) (i : ℕ) {output : List ℕ} {x y : List (List ℕ)} {r : List ℕ} → Alike keys
-    → output ≡ encrypt_with (lane keys 0) block → x ≡ lanes (λ j. flipped (after i j) block) → y ≡ lanes (λ j. encrypt_with (lane keys j) (lane x j))
-    → r ≡ lanes (λ j. bits_set (xors 8 output (lane y j))) → r ≡ lanes (λ j. change_with (lane keys 0) block (after i j))
+pub flips_changed : (keys block : List ℕ) (i : ℕ) {output : List ℕ} {x y : List (List ℕ)} {r : List ℕ} → output ≡ encrypt_with keys block
+    → x ≡ lanes (λ j. flipped (after i j) block) → y ≡ lanes (λ j. encrypt_with keys (lane x j))
+    → r ≡ lanes (λ j. bits_set (xors 8 output (lane y j))) → r ≡ lanes (λ j. change_with keys block (after i j))
 unfolding change_with
-flips_changed keys block i a e f g h = h ∙ rw (g, f, e, a.1, a.2, a.3)
+flips_changed keys block i e f g h = h ∙ rw (g, f, e)
 
 -- the bits of a word are those of its bytes
 module _ (a b c d : ℕ) (ha : a < 256) (hb : b < 256) (hc : c < 256) (hd : d < 256) where

@@ -1,8 +1,10 @@
 // The diffusion tally: each bit of a record's block is flipped in turn, and the bits by which HURDLE-II's output changes are counted. The
 // round keys are made once for a record, and the cipher takes four flips side by side.
+#![tactic(auto)]
+
 ghost use Rattle.std.specs.Prelude.{[], ◌∷◌, ◌≡◌, ◌+◌, ◌*◌, ◌<◌, ◌≤◌, min, max, length};
 ghost use Rattle.std.specs.Int.Count.{ones};
-ghost use Rattle.hurdle_x4.specs.Lanes.{lanes, lane, each_lane, Alike};
+ghost use Rattle.hurdle.specs.Lanes.{lanes, lane, each_lane};
 ghost use Rattle.lists.specs.Walks.{after};
 ghost use Rattle.standard.specs.Bytes.{◌!◌, table, xors, bytes_of};
 ghost use Rattle.standard.specs.Diffusion.{flipped, bits_set, record_changes, diffusion_call};
@@ -12,8 +14,7 @@ ghost use Rattle.standard.specs.Sizes.{diffusion_size, most_records};
 ghost use Rattle.diffusion.specs.ChangeCounts.{change_with, Counted};
 
 use arrays::{part8, part16};
-use hurdle::{encrypt_with, schedule};
-use hurdle_x4::encrypt_with_x4;
+use hurdle::{encrypt_with, encrypt_with_x4, schedule};
 use lists::lengths;
 use standard::{DIFFUSION_RECORD, Tally};
 
@@ -82,15 +83,17 @@ fn changed_x4(output: [u8; 8], y: [[u8; 8]; 4]) -> [u32; 4]
     ]
 }
 
-// The changes of four flips, from bit i on. `output` is the block's own; the record's round keys stand in each lane.
-fn changes_x4(keys: &[[u8; 192]; 4], block: [u8; 8], output: [u8; 8], i: u32) -> [u32; 4]
-    requires alike { Alike keys.now }
-    requires output_value { output ≡ encrypt_with (lane keys.now 0) block }
+// The changes of four flips, from bit i on. `output` is the block's own.
+fn changes_x4(keys: &[u8; 192], block: [u8; 8], output: [u8; 8], i: u32) -> [u32; 4]
+    requires output_value { output ≡ encrypt_with keys.now block }
     requires i_bound { i + 4 ≤ 64 }
-    ensures value { result ≡ lanes (λ j. change_with (lane keys.now 0) block (after i j)) }
+    ensures value { result ≡ lanes (λ j. change_with keys.now block (after i j)) }
     ensures each_lane { each_lane (λ j. result ! j ≤ 64) }
 {
-    changed_x4(output, encrypt_with_x4(keys, flip_x4(block, i)))
+    changed_x4(
+        output,
+        encrypt_with_x4(keys, keys, keys, keys, flip_x4(block, i)),
+    )
 }
 
 // The sum and the extremes of the changes so far.
@@ -139,12 +142,11 @@ fn counted_x4(t: Figures, changes: [u32; 4]) -> Figures
 }
 
 // The changes of a block's 64 flips, counted after those so far.
-fn count_flips(keys: &[[u8; 192]; 4], block: [u8; 8], t: Figures) -> Figures
-    requires alike { Alike keys.now }
-    requires total_bound { t.total ≤ 4096 * most_records }
-    ensures { Counted t.total t.least t.greatest (table 64 (change_with (lane keys.now 0) block)) result.total result.least result.greatest }
+fn count_flips(keys: &[u8; 192], block: [u8; 8], t: Figures) -> Figures
+    requires { t.total ≤ 4096 * most_records }
+    ensures { Counted t.total t.least t.greatest (table 64 (change_with keys.now block)) result.total result.least result.greatest }
 {
-    let output = encrypt_with(&keys[0], block);
+    let output = encrypt_with(keys, block);
     let mut figures = t;
     for q in 0..16 {
         figures = counted_x4(figures, changes_x4(keys, block, output, 4 * q));
@@ -158,7 +160,7 @@ fn count_record(rec: &[u8], t: Figures) -> Figures
     requires total_bound { t.total ≤ 4096 * most_records }
     ensures { Counted t.total t.least t.greatest (record_changes rec.now) result.total result.least result.greatest }
 {
-    let keys = [schedule(part16(rec, 0)); 4];
+    let keys = schedule(part16(rec, 0));
     count_flips(&keys, part8(&rec[16..24], 0), t)
 }
 

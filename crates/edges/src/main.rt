@@ -1,4 +1,6 @@
 // Runs the edges (01, Edges to run) through the libraries, and writes each answer on a line.
+#![tactic(auto)]
+
 use books::{open_book, seal_book};
 use libc::STDOUT_FILENO;
 use mixing::tb1;

@@ -1,5 +1,7 @@
 // The calls for hosts in other languages (include/taa1.h), each with the contract of the library call that it makes. A byte string comes
 // as a pointer and a length.
+#![tactic(auto)]
+
 ghost use Rattle.std.specs.Prelude.{◌≡◌};
 ghost use Rattle.standard.specs.Books.{seal_book, open_book, check_plain};
 ghost use Rattle.standard.specs.Cards.{restore_call};

@@ -1,4 +1,6 @@
 // The forms of the algorithms: BL1's data input from a body of 12 bytes, and the check and the body of BL2's 15 bytes.
+#![tactic(auto)]
+
 ghost use Rattle.std.specs.Prelude.{◌≡◌, ◌≤◌, eqb};
 ghost use Rattle.standard.specs.Bytes.{part, choose};
 ghost use Rattle.standard.specs.Seals.{checks, failed_of, failed, or_on, or_of, form_of, form31, form51, form81};

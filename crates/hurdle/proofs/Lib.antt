@@ -1,2 +1,3 @@
+pub mod LaneLaws
 pub mod RoundLaws
 pub mod ScheduleLaws

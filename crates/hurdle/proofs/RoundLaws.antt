@@ -4,10 +4,9 @@ use Rattle.standard.proofs.Prelude.{div-one, mod-eq_of_lt, add-one, arith, xor_z
 use Rattle.std.proofs.Common.{map}
 use lib.Bits.{bit_xor, xor_shr, xor_mod}
 use Rattle.hurdle.specs.declared.round.Halves.{Halves as Words}
-use Rattle.hurdle.specs.declared.round.Part.{Part}
-use Rattle.standard.specs.Bytes.{◌!◌, byte, bit, ◌⊕◌, ◌⊞◌, table, xors, bytes_of}
+use Rattle.standard.specs.Bytes.{◌!◌, byte, bit, ◌⊞◌, xors, bytes_of}
 use Rattle.standard.specs.Hurdle.{S, E, T, of_bits, f, Halves, round, rounds, crypt, round_key}
-use Rattle.hurdle.specs.RoundSteps.{bytes4, half_bytes, link_over, linked, four_over, links_over, nibbles_over, second_over, third_over, f_over, spread_of, spreads}
+use Rattle.hurdle.specs.RoundSteps.{bytes4, half_bytes, links_over, nibbles_over, second_over, third_over, f_over, spread_of, spreads}
 use Rattle.hurdle.specs.RoundSteps.{exchanged_by, round_over, rounds_over, HalvesOf, place}
 
 -- ---- the bits
@@ -71,12 +70,6 @@ xor_raised a t ha ht =
     let high : x / 2 ^ 8 ≡ 1 = xor_shr (a + 256) t 8 ∙ ap₂ bit_xor a-high t-high in
     omega (arith, low, high)
 
--- four links after t, one after the other
-pub four_linked : (s w : List ℕ) (t : ℕ) (e k : List ℕ) {a b c d : Part} → a ≡ link_over s w ((e ! 0 ⊞ k ! 0) ⊕ t)
-    → b ≡ link_over s w ((e ! 1 ⊞ k ! 1) ⊕ a.t) → c ≡ link_over s w ((e ! 2 ⊞ k ! 2) ⊕ b.t) → d ≡ link_over s w ((e ! 3 ⊞ k ! 3) ⊕ c.t)
-    → record { t = d.t; y = (a.y + 2 * b.y + 4 * c.y + 8 * d.y) % 4294967296 } ≡ four_over s w (table 4 (linked s t (◌!◌ e) (◌!◌ k)))
-four_linked s w t e k p q r v = rw (v, r, q, p)
-
 -- S at four indexes is u
 record Found (i : List ℕ) (u : ℕ → ℕ) : Type 0 where
   at_0 : S ! (i ! 0) ≡ u 0
@@ -136,15 +129,16 @@ rounds_word back keys zero h = refl
 rounds_word back keys (suc n) h = round_word _ _ ∙ ap (round (round_key keys (place back n))) (rounds_word back keys n h)
 
 -- one round more
-pub round_more : (back : Bool) (keys : List ℕ) (i : ℕ) (h : Words)
-    → round_over S spreads (round_key keys (place back i)) (rounds_over back keys i h) ≡ rounds_over back keys (i + 1) h
+pub round_more : (back : Bool) (keys : List ℕ) (i n : ℕ) (h : Words) → n ≡ place back i
+    → round_over S spreads (round_key keys n) (rounds_over back keys i h) ≡ rounds_over back keys (i + 1) h
 unfolding rounds_over
-round_more back keys i h = ap (λ (m : ℕ). rounds_over back keys m h) (sym (add-one i))
+round_more back keys i n h e = rw e (ap (λ (m : ℕ). rounds_over back keys m h) (sym (add-one i)))
 
 -- the same, in the code's two steps
-pub rounds_more : (back : Bool) (keys : List ℕ) (i : ℕ) (h : Words) {state next : Words} {y : ℕ} → state ≡ rounds_over back keys i h
-    → y ≡ f_over S spreads (bytes4 state.r) (round_key keys (place back i)) → next ≡ exchanged_by state y → next ≡ rounds_over back keys (i + 1) h
-rounds_more back keys i h p q r = r ∙ rw (q, p) (round_more back keys i h)
+pub rounds_more : (back : Bool) (keys : List ℕ) (i n : ℕ) (h : Words) {state next : Words} {y : ℕ} → n ≡ place back i
+    → state ≡ rounds_over back keys i h → y ≡ f_over S spreads (bytes4 state.r) (round_key keys n) → next ≡ exchanged_by state y
+    → next ≡ rounds_over back keys (i + 1) h
+rounds_more back keys i n h e p q r = r ∙ rw (q, p) (round_more back keys i n h e)
 
 -- the halves, the rounds and the halves exchanged are the block
 pub crypted : (back : Bool) (keys : List ℕ) {b : List ℕ} {h o : Words} → HalvesOf b h → o ≡ rounds_over back keys 16 h

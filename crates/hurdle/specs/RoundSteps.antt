@@ -1,5 +1,5 @@
 -- What the steps of a round compute, on words of 32 bits, on their way to the definitions.
-use Rattle.std.specs.Prelude.{◌≡◌, ℕ, zero, suc, ◌+◌, ◌-◌, ◌*◌, ◌/◌, ◌%◌, ◌^◌, Bool, true, false, ◌&&◌, List, [], ◌∷◌, map}
+use Rattle.std.specs.Prelude.{◌≡◌, ℕ, zero, suc, ◌+◌, ◌-◌, ◌*◌, ◌/◌, ◌%◌, ◌^◌, Bool, true, false, ◌&&◌, List, [], ◌∷◌, map, slice_index_or}
 use Rattle.hurdle.specs.declared.round.Halves.{Halves as Words}
 use Rattle.hurdle.specs.declared.round.Part.{Part}
 use Rattle.standard.specs.Bytes.{◌!◌, byte, bit, ◌⊕◌, ◌⊞◌, table, part}
@@ -77,6 +77,13 @@ spreads = map spread_of S
 unfoldable pub rounds_over : Bool → List ℕ → ℕ → Words → Words
 rounds_over back keys zero h = h
 rounds_over back keys (suc n) h = round_over S spreads (round_key keys (place back n)) (rounds_over back keys n h)
+
+-- of four pairs of halves, or of four parts of the chain, lane j's
+abbrev pub halves_at : List Words → ℕ → Words
+halves_at hs j = slice_index_or hs j (record { l = 0; r = 0 })
+
+abbrev pub part_at : List Part → ℕ → Part
+part_at ps j = slice_index_or ps j (record { t = 0; y = 0 })
 
 -- the bytes of both halves
 abbrev pub half_bytes : Words → Halves

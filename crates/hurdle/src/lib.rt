@@ -1,22 +1,27 @@
 // HURDLE-II, the block cipher of TAA1 (000, clause 6). Strings have the leftmost byte first.
+#![tactic(auto)]
+
 mod key_schedule;
+mod lanes;
 mod round;
 mod tables;
 
 ghost use Rattle.std.specs.Prelude.{◌≡◌};
 ghost use Rattle.standard.specs.Bytes.{◌!◌, table};
+ghost use Rattle.hurdle.specs.Lanes.{lanes, lane, by_lane};
 ghost use Rattle.hurdle.specs.RoundSteps.{crypt_call};
 ghost use Rattle.standard.specs.Hurdle.{S as s_of, S⁻¹ as s_inverse_of, schedule as schedule_of, encrypt_with, decrypt_with};
 ghost use Rattle.standard.specs.Hurdle.{encrypt as encrypt_of, encrypt_call, decrypt_call};
 
 use crate::key_schedule::lay_out_round_keys;
+use crate::lanes::crypt_x4;
 use crate::round::crypt;
-use crate::tables::{S_INVERSE, entry};
+use crate::tables::{S_INVERSE, entry, s_copy};
 use arrays::{have_lengths, part8, part16};
 pub use key_schedule::doubled;
-pub use round::{Halves, Part, block_of, first, round_key, round_under, second, split, third};
+pub use round::{Halves, block_of, round_under, split};
 use standard::{Bytes8, WRONG_LENGTH};
-pub use tables::{A, D, S, SPREAD, s_copy, spread_copy};
+pub use tables::{A, D, S, SPREAD};
 
 // All sixteen round keys, the first one first.
 pub fn schedule(key: [u8; 16]) -> [u8; 192]
@@ -36,6 +41,31 @@ pub fn decrypt_with(keys: &[u8; 192], block: [u8; 8]) -> [u8; 8]
     ensures { result ≡ decrypt_with keys.now block }
 {
     crypt(keys, block, true)
+}
+
+// Four blocks side by side, each under its own round keys. One set of keys may be lent to all four.
+pub fn encrypt_with_x4(
+    ka: &[u8; 192],
+    kb: &[u8; 192],
+    kc: &[u8; 192],
+    kd: &[u8; 192],
+    x: [[u8; 8]; 4],
+) -> [[u8; 8]; 4]
+    ensures { result ≡ lanes (λ j. encrypt_with (by_lane ka.now kb.now kc.now kd.now j) (lane x j)) }
+{
+    crypt_x4(ka, kb, kc, kd, x, false)
+}
+
+pub fn decrypt_with_x4(
+    ka: &[u8; 192],
+    kb: &[u8; 192],
+    kc: &[u8; 192],
+    kd: &[u8; 192],
+    x: [[u8; 8]; 4],
+) -> [[u8; 8]; 4]
+    ensures { result ≡ lanes (λ j. decrypt_with (by_lane ka.now kb.now kc.now kd.now j) (lane x j)) }
+{
+    crypt_x4(ka, kb, kc, kd, x, true)
 }
 
 // A block under a key.

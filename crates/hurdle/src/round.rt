@@ -1,5 +1,5 @@
 // f, and the sixteen rounds on the halves L and R, which are words here.
-ghost use Rattle.std.specs.Prelude.{◌≡◌, ◌+◌, ◌%◌, ◌<◌, ◌≤◌, ◌++◌, length};
+ghost use Rattle.std.specs.Prelude.{◌≡◌, ◌+◌, ◌-◌, ◌<◌, ◌≤◌, ◌++◌, length};
 ghost use Rattle.standard.specs.Bytes.{◌!◌, byte, ◌⊕◌, ◌⊞◌, table, part};
 ghost use Rattle.standard.specs.Hurdle.{crypt as crypt_of, round_key};
 ghost use Rattle.hurdle.specs.RoundSteps.{bytes4, link_over, linked, four_over, first_over, second_over, third_over, f_over, exchanged_by, round_over, rounds_over};
@@ -23,7 +23,7 @@ fn half_bytes(x: u32) -> [u8; 4]
 
 // A byte of f's chain, and the bits of it or of four, spread.
 #[derive(Drop)]
-pub struct Part {
+pub(crate) struct Part {
     pub t: u8,
     pub y: u32,
 }
@@ -60,68 +60,56 @@ fn links(s: &[u8; 256], w: &[u32; 256], t: u8, e: [u8; 4], k: [u8; 4]) -> Part
     }
 }
 
-// f's chain in three fours of links, under a round key's twelve bytes. The first ends with T3; T0 is a link after 0.
-pub fn first(s: &[u8; 256], w: &[u32; 256], x: u32, k: [u8; 12]) -> u8
-    ensures { result ≡ first_over s.now (bytes4 x) k }
+// Of the round key from index `at` on, the four bytes at n to n + 3, the rightmost first.
+fn key_bytes(k: &[u8], at: usize, n: usize) -> [u8; 4]
+    requires { (at + 12 ≤ length k.now) × (n ≤ 8) }
+    ensures { result ≡ table 4 (λ j. k.now ! (at + (n + (3 - j)))) }
 {
-    let p = links(s, w, 0, half_bytes(x), [k[11], k[10], k[9], k[8]]);
+    [
+        k[at + (n + 3)],
+        k[at + (n + 2)],
+        k[at + (n + 1)],
+        k[at + (n + 0)],
+    ]
+}
+
+// f's chain in three fours of links, under the round key of twelve bytes from index `at` on. The first ends with T3; T0 is a link after 0.
+pub(crate) fn first(s: &[u8; 256], w: &[u32; 256], x: u32, k: &[u8], at: usize) -> u8
+    requires { at + 12 ≤ length k.now }
+    ensures { result ≡ first_over s.now (bytes4 x) (part at 12 k.now) }
+{
+    let p = links(s, w, 0, half_bytes(x), key_bytes(k, at, 8));
     p.t
 }
 
 // T7, and the bits of T4 to T7.
-pub fn second(s: &[u8; 256], w: &[u32; 256], t: u8, x: u32, k: [u8; 12]) -> Part
-    ensures { result ≡ second_over s.now w.now t (bytes4 x) k }
+pub(crate) fn second(s: &[u8; 256], w: &[u32; 256], t: u8, x: u32, k: &[u8], at: usize) -> Part
+    requires { at + 12 ≤ length k.now }
+    ensures { result ≡ second_over s.now w.now t (bytes4 x) (part at 12 k.now) }
 {
     let e = half_bytes(x);
-    links(s, w, t, [e[0], e[2], e[1], e[3]], [k[7], k[6], k[5], k[4]])
+    links(s, w, t, [e[0], e[2], e[1], e[3]], key_bytes(k, at, 4))
 }
 
 // T8 to T11, after T7: byte n of the result has bit n of T(m+4) as its bit m.
-pub fn third(s: &[u8; 256], w: &[u32; 256], p: Part, x: u32, k: [u8; 12]) -> u32
-    ensures { result ≡ third_over s.now w.now p (bytes4 x) k }
+pub(crate) fn third(s: &[u8; 256], w: &[u32; 256], p: Part, x: u32, k: &[u8], at: usize) -> u32
+    requires { at + 12 ≤ length k.now }
+    ensures { result ≡ third_over s.now w.now p (bytes4 x) (part at 12 k.now) }
 {
     let e = half_bytes(x);
-    let q = links(
-        s,
-        w,
-        p.t,
-        [e[2], e[0], e[3], e[1]],
-        [k[3], k[2], k[1], k[0]],
-    );
+    let q = links(s, w, p.t, [e[2], e[0], e[3], e[1]], key_bytes(k, at, 0));
     let high = q.y as u64;
     ((p.y as u64 + 16 * high) % 4294967296) as u32
 }
 
-// A round key: twelve bytes from index `at` on.
-fn key_at(k: &[u8], at: usize) -> [u8; 12]
-    requires { at + 12 ≤ length k.now }
-    ensures { result ≡ part at 12 k.now }
-{
-    [
-        k[at + 0],
-        k[at + 1],
-        k[at + 2],
-        k[at + 3],
-        k[at + 4],
-        k[at + 5],
-        k[at + 6],
-        k[at + 7],
-        k[at + 8],
-        k[at + 9],
-        k[at + 10],
-        k[at + 11],
-    ]
-}
-
-// f of a half and the round key from index `at` on. Each four of links asks for the key anew, so that its bytes are read where they are
-// needed and not kept.
+// f of a half and the round key from index `at` on.
 fn f(s: &[u8; 256], w: &[u32; 256], x: u32, k: &[u8], at: usize) -> u32
     requires { at + 12 ≤ length k.now }
     ensures { result ≡ f_over s.now w.now (bytes4 x) (part at 12 k.now) }
 {
-    let t = first(s, w, x, key_at(k, at));
-    let p = second(s, w, t, x, key_at(k, at));
-    third(s, w, p, x, key_at(k, at))
+    let t = first(s, w, x, k, at);
+    let p = second(s, w, t, x, k, at);
+    third(s, w, p, x, k, at)
 }
 
 #[derive(Drop)]
@@ -144,19 +132,12 @@ pub fn round_under(s: &[u8; 256], w: &[u32; 256], h: Halves, q: &[u8; 16]) -> Ha
     exchanged(h, f(s, w, h.r, &q[..], 4))
 }
 
-// The place of the round key that round i takes.
-fn place(back: bool, i: usize) -> usize
+// The round key that round i takes.
+pub(crate) fn place(back: bool, i: usize) -> usize
     requires { i < 16 }
     ensures { (result ≡ place_of back i) × (result < 16) }
 {
     if back { 15 - i } else { i }
-}
-
-// The round key that round i takes, of those laid out. Rounds are counted modulo 16, so that nothing is asked of i.
-pub fn round_key(keys: &[u8; 192], back: bool, i: usize) -> [u8; 12]
-    ensures { result ≡ round_key keys.now (place_of back (i % 16)) }
-{
-    key_at(&keys[..], place(back, i % 16) * 12)
 }
 
 pub fn split(block: [u8; 8]) -> Halves

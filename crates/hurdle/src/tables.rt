@@ -111,13 +111,13 @@ pub(crate) fn entry(s: &[u8; 256], x: u8) -> u8
 }
 
 // Copies of S and SPREAD, to be lent. A function that names a table is proved with all its entries in sight, so the others call these.
-pub fn s_copy() -> [u8; 256]
+pub(crate) fn s_copy() -> [u8; 256]
     ensures { result ≡ s_of }
 {
     S
 }
 
-pub fn spread_copy() -> [u32; 256]
+pub(crate) fn spread_copy() -> [u32; 256]
     ensures { result ≡ spreads }
 {
     SPREAD

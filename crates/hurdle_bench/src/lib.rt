@@ -1,4 +1,6 @@
 // The cipher's single steps for bench/, which times them. No host links this.
+#![tactic(auto)]
+
 ghost use Rattle.std.specs.Prelude.{◌≡◌};
 ghost use Rattle.standard.specs.Hurdle.{schedule, encrypt_with, decrypt_with};
 

@@ -1,4 +1,6 @@
 // TA61 and its inverse: the K strings, the permutation P, and the calls.
+#![tactic(auto)]
+
 ghost use Rattle.std.specs.Prelude.{◌≡◌, ◌+◌, ◌-◌, ◌%◌, [], ◌∷◌};
 ghost use Rattle.standard.specs.Bytes.{◌!◌, ◌⊕◌, table, xors, number3 as number3Of};
 ghost use Rattle.standard.specs.Identity.{mix as mix_of, unmix as unmix_of, P, P⁻¹, bc as bc_of, K1, K2, K3};

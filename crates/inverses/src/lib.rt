@@ -1,5 +1,7 @@
 // Which input gave a result: the inverses of TB1, TB3, TB5 and TB6. The fields are read off the first eight bytes, and answered if they
 // give the whole result again.
+#![tactic(auto)]
+
 mod bits;
 
 ghost use Rattle.std.specs.Prelude.{[], ◌∷◌, ◌≡◌};

@@ -1,4 +1,6 @@
 // Responses and derived keys: TA11, TA12, TA21, TA22, TA41, TA71, TA101 (000, 5.6, 5.7, 5.13, 5.18).
+#![tactic(auto)]
+
 mod derivation;
 mod masks;
 

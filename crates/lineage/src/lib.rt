@@ -1,4 +1,6 @@
 // The lineage sheet: a tree of keys, each given or derived from two others.
+#![tactic(auto)]
+
 mod fault;
 mod sheet;
 mod value;

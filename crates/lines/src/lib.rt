@@ -1,4 +1,6 @@
 // Text in the making: fixed words and numbers, put together in a line, and a line written into an output.
+#![tactic(auto)]
+
 ghost use Rattle.std.specs.Prelude.{[], ◌∷◌, ◌≡◌, ◌≤◌, length};
 ghost use Rattle.standard.specs.Lines.{digits as digits_of, decimal as decimal_of, hex_digit, hex_byte, hex as hex_of, text_call};
 ghost use Rattle.lines.specs.LineStates.{shown, empty_line, ◌▸◌};

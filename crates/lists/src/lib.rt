@@ -1,4 +1,6 @@
 // Lists of records: the tests of their lengths, over the bytes of a record.
+#![tactic(auto)]
+
 ghost use Rattle.std.specs.Prelude.{◌≡◌, ◌/◌};
 ghost use Rattle.standard.specs.Lists.{length_tests, list_tests};
 ghost use Rattle.standard.specs.Refusals.{first};

@@ -1,4 +1,6 @@
 // makering [SITTING]: makes the ring and both responses of a sitting, from a file or from standard input.
+#![tactic(auto)]
+
 ghost use Rattle.programs.specs.Reading.{Read};
 
 use libc::STDERR_FILENO;

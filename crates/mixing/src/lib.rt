@@ -1,4 +1,6 @@
 // TB1 to TB7, the mixing algorithms of TAA1 (000, clause 5).
+#![tactic(auto)]
+
 mod fields;
 
 ghost use Rattle.std.specs.Prelude.{[], ◌∷◌, ◌≡◌};

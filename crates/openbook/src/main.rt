@@ -1,4 +1,6 @@
 // openbook RING: opens the sealed book on standard input to standard output.
+#![tactic(auto)]
+
 use books::open_book;
 use programs::{answer_version, read_input, read_ring, report_counted_answer, write_output};
 use standard::{MOST_RECORDS, PLAIN_RECORD, SEALED_RECORD};

@@ -1,4 +1,6 @@
 // The listing of a plain book.
+#![tactic(auto)]
+
 ghost use Rattle.std.specs.Prelude.{◌++◌, ◌≡◌, ◌+◌, ◌-◌, ◌*◌, ◌≤◌, length, take, drop};
 ghost use Rattle.standard.specs.Bytes.{◌!◌};
 ghost use Rattle.standard.specs.Seals.{key_length};

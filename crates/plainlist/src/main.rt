@@ -1,4 +1,6 @@
 // Reads a plain book from standard input to its end, and prints its listing, or the line of its refusal.
+#![tactic(auto)]
+
 use libc::STDERR_FILENO;
 use plain_listing::{LISTING, list_plain};
 use programs::{answer_version, read_input, write_output};

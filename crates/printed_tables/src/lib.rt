@@ -1,4 +1,6 @@
 // The printed tables (02, 13): the inverse, made from S, and the running rotations, made from the sequence a.
+#![tactic(auto)]
+
 ghost use Rattle.std.specs.Prelude.{◌≡◌, ◌≤◌, length};
 ghost use Rattle.standard.specs.Hurdle.{S⁻¹};
 ghost use Rattle.standard.specs.PrintedTables.{rotations as rotations_of, spaced as spaced_of, table_line, table_lines, tables_call};

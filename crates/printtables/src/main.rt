@@ -1,4 +1,6 @@
 // Prints S's inverse and the key schedule's running rotations. Reads nothing.
+#![tactic(auto)]
+
 use libc::STDERR_FILENO;
 use printed_tables::{TABLES_TEXT, print_tables};
 use programs::{answer_version, write_output};

@@ -1,4 +1,6 @@
 // What the programs share: input read to its end, output written, and a line on standard error that says what went wrong.
+#![tactic(auto)]
+
 ghost use Rattle.std.specs.Prelude.{true, false, ◌⊎◌, ◌≡◌, ◌≤◌, eqb, length};
 ghost use Rattle.io.specs.Counts.{IsPrefixLen};
 ghost use Rattle.standard.specs.Bytes.{same as same_of};

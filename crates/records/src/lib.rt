@@ -1,5 +1,7 @@
 // One record, and no more: its refusal, and what it becomes. Kind 1, identity 3, version 2, then a body of 12 bytes (plain) or a
 // sealed text of 15.
+#![tactic(auto)]
+
 mod parts;
 
 ghost use Rattle.std.specs.Prelude.{[], ◌∷◌, ◌++◌, ◌≡◌, eqb, leb, length, take, drop};

@@ -1,5 +1,7 @@
 // HURDLE-II with the key schedule in sixteen bytes (02, 7): one register beside the block, which starts as the key and steps from round to
 // round until the key is back. The calls answer what those of `hurdle` do.
+#![tactic(auto)]
+
 ghost use Rattle.std.specs.Prelude.{◌≡◌, ◌-◌, ◌≤◌};
 ghost use Rattle.standard.specs.Bytes.{xors};
 ghost use Rattle.standard.specs.Hurdle.{D as d_of, rotl, next, encrypt_call, decrypt_call};

@@ -1,4 +1,6 @@
 // The line about an answer: the bytes written, or the refusal with its meaning; and the block cipher runs, if they are counted.
+#![tactic(auto)]
+
 ghost use Rattle.std.specs.Prelude.{◌≡◌, drop};
 ghost use Rattle.standard.specs.PlainListing.{refused_at};
 ghost use Rattle.standard.specs.Programs.{beside, meanings, meaning as meaning_of, meaning_text, wrote_text, answer_text};

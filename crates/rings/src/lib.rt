@@ -1,4 +1,6 @@
 // The ring recipe: D, O, C and G, and both responses (01, Responses and derived keys; 02, 1 and 4).
+#![tactic(auto)]
+
 mod recipe;
 mod sitting;
 

@@ -1,4 +1,6 @@
 // sealbook RING: seals the plain book on standard input to standard output.
+#![tactic(auto)]
+
 use books::seal_book;
 use programs::{answer_version, read_input, read_ring, report_counted_answer, write_output};
 use standard::{MOST_RECORDS, PLAIN_RECORD, SEALED_RECORD};

@@ -1,4 +1,6 @@
 // The calls that seal and unseal one key: TA31/TA32, TA51/TA52, TA81/TA82, TA91/TA92.
+#![tactic(auto)]
+
 ghost use Rattle.std.specs.Prelude.{◌&&◌, [], ◌∷◌, ◌≡◌};
 ghost use Rattle.standard.specs.Bytes.{bytes_of};
 ghost use Rattle.standard.specs.Refusals.{wrong_length, has_length, first, answer15, unsealed_body};

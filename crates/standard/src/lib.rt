@@ -1,5 +1,7 @@
 // What the calls take and answer with. An answer's first field is 0, or the number of the refusal; a refused answer has zeros
 // in all its other fields, but for a book's index and a refused opening's runs: `refused` makes such an answer.
+#![tactic(auto)]
+
 ghost use Rattle.std.specs.Prelude.{[], ◌∷◌, ◌≡◌, ◌+◌, ◌*◌};
 ghost use Rattle.standard.specs.Bytes.{zeros, bytes_of};
 ghost use Rattle.standard.specs.Lists.{refused};
@@ -474,6 +476,7 @@ impl Kind {
 
     pub const TA81_HIGHEST: u16 = 65535;
 
+    #[tactic(auto, unfolding(crate::specs::Seals::kind_of))]
     pub fn from_byte(b: u8) -> Named
         ensures { result ≡ kind_of b }
     {
@@ -521,6 +524,7 @@ fn known(algorithm: Algorithm, under: RingKey) -> Named
 }
 
 // The number that two bytes spell, the high one first.
+#[tactic(auto, using(crate::proofs::BytesLaws::pair_bytes))]
 pub fn pair(high: u8, low: u8) -> u16
     ensures { (result ≡ 256 * high + low) × (bytes_of 2 result ≡ high ∷ low ∷ []) }
 {

@@ -1,4 +1,6 @@
 // Sealed texts on typed arrays: a body of 12 bytes to a text of 15 under the core's key, and back.
+#![tactic(auto)]
+
 mod text;
 mod text_core;
 

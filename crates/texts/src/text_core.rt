@@ -3,7 +3,7 @@ ghost use Rattle.std.specs.Prelude.{◌≡◌};
 ghost use Rattle.cores.specs.CoreOutputs.{counted15};
 ghost use Rattle.cores_x4.specs.OutputLanes.{lane16};
 ghost use Rattle.standard.specs.Seals.{with8 as with8Of};
-ghost use Rattle.hurdle_x4.specs.Lanes.{lanes, lane};
+ghost use Rattle.hurdle.specs.Lanes.{lanes, lane};
 ghost use Rattle.texts.specs.TextCores.{shortened, seal_core};
 
 use arrays::{join_7_8, join_8_8, part7, part8};

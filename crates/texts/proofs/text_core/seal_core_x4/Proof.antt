@@ -1,8 +1,0 @@
-use Rattle.standard.proofs.Prelude.{needs}
-use Rattle.texts.proofs.text_core.seal_core_x4.Tie as tie
-
-returns : tie.Need-returns
-returns c = rw (c.without8-x4.ensures, c.before.bl1-x4.ensures)
-
-pub seal_core_x4_spec : {M : Type 1} → Rattle.texts.proofs.text_core.seal_core_x4.Statement.statement M
-seal_core_x4_spec = tie.close (tie.spec (λ c κs. search needs) (λ c κs. search needs) returns)
