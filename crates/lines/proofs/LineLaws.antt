@@ -17,6 +17,10 @@ pub line_none : (l : Line) → l ≡ l ▸ []
 unfolding ◌▸◌
 line_none l = refl
 
+pub line_push : (l : Line) (b : ℕ) → l ▸ (b ∷ []) ≡ push l b
+unfolding ◌▸◌
+line_push l b = refl
+
 pub line_append : (l : Line) (v w : List ℕ) → l ▸ (v ++ w) ≡ l ▸ v ▸ w
 unfolding ◌▸◌
 line_append l [] w = refl

@@ -12,12 +12,13 @@ use standard::{OUTPUT_SHORT, TextAnswer};
 pub const ROOM: usize = 160;
 
 // A line of text. What goes beyond its room is left out.
-#[derive(Drop)]
+#[derive(Clone, Copy)]
 pub struct Line {
     pub bytes: [u8; ROOM],
     pub len: usize,
 }
 
+#[tactic(auto, unfolding(standard::specs::Lines::hex_digit))]
 fn hex_digit(d: u8) -> u8
     requires { d ≤ 15 }
     ensures { result ≡ hex_digit d }
@@ -43,6 +44,7 @@ impl Line {
         if n < ROOM { n } else { ROOM }
     }
 
+    #[tactic(auto, using(crate::proofs::LineLaws::line_push))]
     fn byte(self, b: u8) -> Line
         ensures { result ≡ self ▸ (b ∷ []) }
     {
