@@ -1,13 +1,8 @@
--- A width that passes its test, and TB5 and TB6 made in two halves of 40 bits.
-use Rattle.standard.proofs.Prelude.{◌≡◌, sym, ap, ◌∙◌, true, List, ◌++◌, ℕ, ◌+◌, ◌*◌, ◌/◌, ◌%◌, ◌^◌, ◌≤◌, ◌<◌, arith, leb-true}
-use Rattle.standard.proofs.BytesLaws.{and_split}
+-- TB5 and TB6 made in two halves of 40 bits.
+use Rattle.standard.proofs.Prelude.{◌≡◌, sym, ap, ◌∙◌, List, ◌++◌, ℕ, ◌+◌, ◌*◌, ◌/◌, ◌%◌, ◌^◌, ◌<◌, arith}
 use Rattle.standard.proofs.MixingLaws.{bytes_cat}
 use Rattle.standard.specs.Bytes.{xors, bytes_of}
 use Rattle.standard.specs.Mixing.{tb5, tb6}
-use Rattle.standard.specs.Refusals.{valid_width}
-
-pub valid_width_split : (w : ℕ) → valid_width w ≡ true → (16 ≤ w) × (w ≤ 32)
-valid_width_split w t = let s = and_split _ _ t in (leb-true 16 w s.0, leb-true w 32 s.1)
 
 halves : (key : List ℕ) (left right n : ℕ) → right < 2 ^ 40 → left * 2 ^ 40 + right ≡ n
     → xors 10 key (bytes_of 5 left ++ bytes_of 5 right) ≡ xors 10 key (bytes_of 10 n)

@@ -54,6 +54,7 @@ fn halves10(left: u64, right: u64) -> [u8; 10]
 }
 
 // TB5 in two halves of 40 bits, the second carrier cut after 8 of its 12. A product makes room for the next field.
+#[tactic(auto, using(crate::proofs::FieldLaws::tb5_halves))]
 pub(crate) fn tb5_of(
     cipher_key: [u8; 10],
     location_area: u64,
@@ -70,6 +71,7 @@ pub(crate) fn tb5_of(
 }
 
 // TB6 in two halves of 40 bits, the second carrier cut after 4 of its 12.
+#[tactic(auto, using(crate::proofs::FieldLaws::tb6_halves))]
 pub(crate) fn tb6_of(cipher_key: [u8; 10], carrier: u64, identity: u64) -> [u8; 10]
     requires { (carrier < 2 ^ 12) × (identity < 2 ^ 24) }
     ensures { result ≡ tb6 cipher_key carrier identity }

@@ -43,6 +43,7 @@ pub fn tb7_of(b: [u8; 12]) -> [u8; 16]
 }
 
 // The calls, over strings of any length and numbers of any size.
+#[tactic(auto, unfolding(standard::specs::Mixing::tb1_call))]
 pub fn tb1(value: u64, width: u64) -> Bytes16
     ensures { result ≡ tb1_call value width }
 {
@@ -58,6 +59,7 @@ pub fn tb1(value: u64, width: u64) -> Bytes16
     }
 }
 
+#[tactic(auto, unfolding(standard::specs::Mixing::tb2_call))]
 pub fn tb2(input: &[u8]) -> Bytes16
     ensures { result ≡ tb2_call input.now }
 {
@@ -70,6 +72,7 @@ pub fn tb2(input: &[u8]) -> Bytes16
     }
 }
 
+#[tactic(auto, unfolding(standard::specs::Mixing::tb3_call, standard::specs::Mixing::tb3))]
 pub fn tb3(input: &[u8], value: u64, width: u64) -> Bytes16
     ensures { result ≡ tb3_call input.now value width }
 {
@@ -88,6 +91,7 @@ pub fn tb3(input: &[u8], value: u64, width: u64) -> Bytes16
     }
 }
 
+#[tactic(auto, unfolding(standard::specs::Mixing::tb4_call))]
 pub fn tb4(input1: &[u8], input2: &[u8]) -> Bytes10
     ensures { result ≡ tb4_call input1.now input2.now }
 {
@@ -100,6 +104,7 @@ pub fn tb4(input1: &[u8], input2: &[u8]) -> Bytes10
     }
 }
 
+#[tactic(auto, unfolding(standard::specs::Mixing::tb5_call))]
 pub fn tb5(cipher_key: &[u8], location_area: u64, carrier: u64, colour_code: u64) -> Bytes10
     ensures { result ≡ tb5_call cipher_key.now location_area carrier colour_code }
 {
@@ -116,6 +121,7 @@ pub fn tb5(cipher_key: &[u8], location_area: u64, carrier: u64, colour_code: u64
     }
 }
 
+#[tactic(auto, unfolding(standard::specs::Mixing::tb6_call))]
 pub fn tb6(cipher_key: &[u8], carrier: u64, identity: u64) -> Bytes10
     ensures { result ≡ tb6_call cipher_key.now carrier identity }
 {
@@ -132,6 +138,7 @@ pub fn tb6(cipher_key: &[u8], carrier: u64, identity: u64) -> Bytes10
     }
 }
 
+#[tactic(auto, unfolding(standard::specs::Mixing::tb7_call))]
 pub fn tb7(group_key: &[u8]) -> Bytes16
     ensures { result ≡ tb7_call group_key.now }
 {
