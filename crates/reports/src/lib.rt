@@ -22,6 +22,7 @@ pub fn refused_at(refusal: u32, index: usize) -> Line
 }
 
 // What a refusal's number means: those of 01, and those that the requests of 02 added.
+#[tactic(auto, unfolding(standard::specs::Programs::meaning))]
 fn meaning(l: Line, refusal: u32) -> Line
     ensures { result ≡ l ▸ meaning_of refusal }
 {
@@ -73,6 +74,7 @@ fn wrote_text(n: usize) -> Line
         .word(b" bytes")
 }
 
+#[tactic(auto, unfolding(standard::specs::Programs::answer_text))]
 fn answer_text(refusal: u32, index: usize, written: usize) -> Line
     ensures { result ≡ empty_line ▸ answer_text refusal index written }
 {
