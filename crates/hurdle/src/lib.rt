@@ -69,6 +69,7 @@ pub fn decrypt_with_x4(
 }
 
 // A block under a key.
+#[tactic(auto, unfolding(standard::specs::Hurdle::encrypt))]
 pub fn encrypt_block(key: [u8; 16], block: [u8; 8]) -> [u8; 8]
     ensures { result ≡ encrypt_of key block }
 {
@@ -110,12 +111,14 @@ fn crypted(key: &[u8], block: &[u8], back: bool) -> Bytes8
     }
 }
 
+#[tactic(auto, unfolding(crate::specs::RoundSteps::crypt_call, standard::specs::Hurdle::encrypt_call, standard::specs::Hurdle::encrypt))]
 pub fn encrypt(key: &[u8], block: &[u8]) -> Bytes8
     ensures { result ≡ encrypt_call key.now block.now }
 {
     crypted(key, block, false)
 }
 
+#[tactic(auto, unfolding(crate::specs::RoundSteps::crypt_call, standard::specs::Hurdle::decrypt_call, standard::specs::Hurdle::decrypt))]
 pub fn decrypt(key: &[u8], block: &[u8]) -> Bytes8
     ensures { result ≡ decrypt_call key.now block.now }
 {

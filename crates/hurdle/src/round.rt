@@ -22,7 +22,7 @@ fn half_bytes(x: u32) -> [u8; 4]
 }
 
 // A byte of f's chain, and the bits of it or of four, spread.
-#[derive(Drop)]
+#[derive(Clone, Copy)]
 pub(crate) struct Part {
     pub t: u8,
     pub y: u32,
@@ -103,6 +103,7 @@ pub(crate) fn third(s: &[u8; 256], w: &[u32; 256], p: Part, x: u32, k: &[u8], at
 }
 
 // f of a half and the round key from index `at` on.
+#[tactic(auto, unfolding(crate::specs::RoundSteps::f_over))]
 fn f(s: &[u8; 256], w: &[u32; 256], x: u32, k: &[u8], at: usize) -> u32
     requires { at + 12 ≤ length k.now }
     ensures { result ≡ f_over s.now w.now (bytes4 x) (part at 12 k.now) }
@@ -112,7 +113,7 @@ fn f(s: &[u8; 256], w: &[u32; 256], x: u32, k: &[u8], at: usize) -> u32
     third(s, w, p, x, k, at)
 }
 
-#[derive(Drop)]
+#[derive(Clone, Copy)]
 pub struct Halves {
     pub l: u32,
     pub r: u32,
