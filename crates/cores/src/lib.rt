@@ -3,8 +3,8 @@
 
 ghost use Rattle.std.specs.Prelude.{◌≡◌, [], ◌∷◌, ◌++◌};
 ghost use Rattle.standard.specs.Bytes.{◌!◌, ◌⊕◌, ◌⊞◌, part, xors};
-ghost use Rattle.standard.specs.Cores.{bl1_with, bl1 as bl1Of, bl2 as bl2_of};
-ghost use Rattle.standard.specs.Expansions.{exp1, exp2 as exp2Of, exp4 as exp4Of, xor_of};
+ghost use Rattle.standard.specs.Cores.{bl1_with, bl1 as bl1_of, bl2 as bl2_of};
+ghost use Rattle.standard.specs.Expansions.{exp1, exp2 as exp2_of, exp4 as exp4_of, xor_of};
 ghost use Rattle.cores.specs.CoreOutputs.{Sums as SumsOf, with_sums, bl2_with, counted16, counted15};
 
 use arrays::{join_8_8, part8, part15, xor8};
@@ -46,8 +46,9 @@ pub fn exp1_with(b: [u8; 10], last: u8) -> [u8; 16]
     ]
 }
 
+#[tactic(auto, unfolding(standard::specs::Expansions::exp2))]
 pub fn exp2(b: [u8; 10]) -> [u8; 16]
-    ensures { result ≡ exp2Of b }
+    ensures { result ≡ exp2_of b }
 {
     exp1_with(b, sum_of_xors(b))
 }
@@ -98,8 +99,9 @@ fn with_sums(x: [u8; 10], s: Sums) -> [u8; 16]
     ]
 }
 
+#[tactic(auto, unfolding(standard::specs::Expansions::exp4))]
 pub fn exp4(b: [u8; 10]) -> [u8; 16]
-    ensures { result ≡ exp4Of b }
+    ensures { result ≡ exp4_of b }
 {
     with_sums(b, pair_sums(b))
 }
@@ -157,7 +159,7 @@ pub fn bl1_with(keys: &[u8; 192], x: [u8; 16]) -> CoreOutput16
 }
 
 pub fn bl1(key: [u8; 16], x: [u8; 16]) -> CoreOutput16
-    ensures { result ≡ counted16 (bl1Of key x) }
+    ensures { result ≡ counted16 (bl1_of key x) }
 {
     let keys = schedule(key);
     bl1_with(&keys, x)
