@@ -1,6 +1,6 @@
 -- Lines that grow at the end, and texts written into an output one after the other.
 use Rattle.standard.proofs.Prelude.{◌≡◌, refl, sym, ap, ap₂, ◌∙◌, List, [], ◌∷◌, ◌++◌, append-nil, ℕ, zero, suc, ◌+◌, ◌-◌, ◌*◌, ◌≤◌, ◌<◌, zero-le, add-one}
-use Rattle.standard.proofs.Prelude.{arith, length, take, drop, set, length-append, length-set, length-take, length-drop, drop_of_length-le, take_all}
+use Rattle.standard.proofs.Prelude.{arith, length, take, drop, set, length-append, length-set, length-drop, drop_of_length-le, take_all}
 use Rattle.standard.proofs.Prelude.{take_at, drop_at, drop-drop, lt-ltb, le-ltb}
 use mathlib.Core.List.{append_assoc}
 use lib.Seq.{take-suc, take-suc-set, append_snoc}
@@ -54,21 +54,12 @@ fits (b ∷ w) l n h =
 pub line_whole : (w : List ℕ) {l : Line} → l ≡ empty_line ▸ w → length w ≤ room → shown l ≡ w
 line_whole w e h = ap shown e ∙ fits w empty_line refl (omega arith)
 
-pub size_room : (bytes : List ℕ) (n : ℕ) → length bytes ≡ room → n < room → n ≡ length (take n bytes)
-size_room bytes n l h = simp length-take (omega arith)
-
-pub size_full : (bytes : List ℕ) (n : ℕ) → length bytes ≡ room → room ≤ n → room ≡ length (take n bytes)
-size_full bytes n l h = rw (take_all n bytes (omega arith)) (sym l)
-
 -- ---- texts over an output
 
 take_taken : (m : ℕ) (xs : List ℕ) → take (length (take m xs)) xs ≡ take m xs
 take_taken zero xs = refl
 take_taken (suc m) [] = refl
 take_taken (suc m) (x ∷ xs) = ap (◌∷◌ x) (take_taken m xs)
-
-pub size_most : (bytes : List ℕ) (m n : ℕ) → n ≡ length (take m bytes) → n ≤ length bytes
-size_most bytes m n e = omega (arith, length-take m bytes)
 
 -- a lent part that goes to the end, `&mut xs[at..]`: it is the whole rest
 module _ (at : ℕ) (xs : List ℕ) where
