@@ -6,6 +6,7 @@ ghost use Rattle.standard.specs.Inverses.{field as field_of};
 use arrays::{part8, word, xor8};
 
 // The number that eight bytes spell.
+#[tactic(auto, using(crate::proofs::BitLaws::number8))]
 fn number(b: [u8; 8]) -> u64
     ensures { result ≡ number_of b }
 {
@@ -15,6 +16,7 @@ fn number(b: [u8; 8]) -> u64
 }
 
 // The `width` bits that stand `from` bits from the left end.
+#[tactic(auto, using(crate::proofs::BitLaws::shl_one), unfolding(standard::specs::Inverses::field))]
 pub(crate) fn field(b: [u8; 8], from: u64, width: u64) -> u32
     requires { (1 ≤ width) × (width ≤ 32) × (from + width ≤ 64) }
     ensures { result ≡ field_of from width b }
