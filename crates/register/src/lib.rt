@@ -126,12 +126,14 @@ fn crypted(key: &[u8], block: &[u8], back: bool) -> Bytes8
     }
 }
 
+#[tactic(auto, unfolding(crate::specs::RegisterStates::crypt_call, standard::specs::Hurdle::encrypt_call))]
 pub fn encrypt_register(key: &[u8], block: &[u8]) -> Bytes8
     ensures { result ≡ encrypt_call key.now block.now }
 {
     crypted(key, block, false)
 }
 
+#[tactic(auto, unfolding(crate::specs::RegisterStates::crypt_call, standard::specs::Hurdle::decrypt_call))]
 pub fn decrypt_register(key: &[u8], block: &[u8]) -> Bytes8
     ensures { result ≡ decrypt_call key.now block.now }
 {
