@@ -51,6 +51,7 @@ fn unmixed(a: [u8; 3]) -> [u8; 3]
     [unmix(x, y, z), unmix(x, z, y), unmix(y, z, x)]
 }
 
+#[tactic(auto, unfolding(standard::specs::Identity::P))]
 fn permuted(a: [u8; 3]) -> [u8; 3]
     ensures { result ≡ P a }
 {
@@ -102,6 +103,7 @@ pub struct IdentityStrings {
 }
 
 // The one cipher run under a common key.
+#[tactic(auto, unfolding(standard::specs::Identity::bc))]
 pub fn bc(common_key: [u8; 10]) -> IdentityStrings
     ensures { result ≡ record { bytes = bc_of common_key; runs = identity_runs } }
 {
@@ -112,6 +114,7 @@ pub fn bc(common_key: [u8; 10]) -> IdentityStrings
 }
 
 // Three bytes of identity, encrypted, from the cipher run's output.
+#[tactic(auto, unfolding(standard::specs::Identity::encrypt_identity))]
 pub fn encrypt_identity(b: [u8; 8], x: [u8; 3]) -> [u8; 3]
     ensures { result ≡ encrypt_identity b x }
 {
@@ -121,6 +124,7 @@ pub fn encrypt_identity(b: [u8; 8], x: [u8; 3]) -> [u8; 3]
 }
 
 // And recovered.
+#[tactic(auto, unfolding(standard::specs::Identity::decrypt_identity))]
 pub fn decrypt_identity(b: [u8; 8], y: [u8; 3]) -> [u8; 3]
     ensures { result ≡ decrypt_identity b y }
 {
@@ -135,6 +139,7 @@ fn number3(b: [u8; 3]) -> u32
     word(0, b[0], b[1], b[2])
 }
 
+#[tactic(auto, using(standard::proofs::BytesLaws::spelled), unfolding(standard::specs::Identity::ta61_call))]
 pub fn ta61(common_key: &[u8], identity: u64) -> Identity
     ensures { result ≡ ta61_call common_key.now identity }
 {
