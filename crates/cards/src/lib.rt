@@ -36,6 +36,7 @@ fn readable(card: [u8; 16], unreadable: u16) -> [u8; 16]
 }
 
 // How many bytes of the group from index a on are unreadable.
+#[tactic(auto, unfolding(standard::specs::Bytes::bit))]
 fn erasures(unreadable: u16, a: usize) -> u16
     requires { a ≤ 12 }
     ensures { result ≡ erasures_of unreadable a }
@@ -106,6 +107,7 @@ fn key_of(card: [u8; 16]) -> [u8; 12]
     ]
 }
 
+#[tactic(auto, unfolding(standard::specs::Cards::restore_call))]
 pub fn restore_card(card: &[u8], unreadable: u16) -> Card
     ensures { result ≡ restore_call card.now unreadable }
 {
