@@ -34,6 +34,7 @@ fn xor_number(block: [u8; 8], m: u64) -> [u8; 8]
     ]
 }
 
+#[tactic(auto, using(crate::proofs::CountLaws::one_bit), unfolding(standard::specs::Diffusion::flipped))]
 fn flip(block: [u8; 8], i: u32) -> [u8; 8]
     requires { i < 64 }
     ensures { result ≡ flipped i block }
