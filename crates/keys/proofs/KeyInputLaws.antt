@@ -1,5 +1,5 @@
 -- TA71's key input as the ⊕ of two strings that overlap.
-use Rattle.standard.proofs.Prelude.{◌≡◌, sym, ap, ap₂, ◌∙◌, List, ◌++◌, ℕ, ◌+◌, length, xor_zero_r, xor_comm}
+use Rattle.standard.proofs.Prelude.{◌≡◌, sym, ap, ◌∙◌, List, ◌++◌, ℕ, ◌+◌, length, xor_zero_r, xor_comm}
 use Rattle.standard.proofs.BytesLaws.{spelled}
 use Rattle.standard.specs.Bytes.{◌!◌, ◌⊕◌, table, part, xors, zeros}
 

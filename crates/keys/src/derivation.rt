@@ -34,6 +34,7 @@ fn key_input(a: [u8; 10], b: [u8; 10]) -> [u8; 16]
 }
 
 // TA71 on typed arrays. SHR3 leaves the three leftmost and the three rightmost bytes out.
+#[tactic(auto, unfolding(standard::specs::Keys::ta71, standard::specs::Keys::ta71_key, standard::specs::Expansions::shr3))]
 pub fn ta71_of(a: [u8; 10], b: [u8; 10]) -> [u8; 10]
     ensures { result ≡ ta71Of a b }
 {
@@ -48,6 +49,7 @@ fn copies(x: [u8; 3]) -> [u8; 10]
 }
 
 // TA101's INT.
+#[tactic(auto, unfolding(standard::specs::Keys::int))]
 pub(crate) fn int(gck0: [u8; 10], mni: u64) -> [u8; 10]
     ensures { result ≡ int_of gck0 mni }
 {

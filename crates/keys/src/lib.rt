@@ -30,12 +30,14 @@ fn under_root(root: &[u8], seed: [u8; 10], seed_has_length: bool) -> Bytes16
 }
 
 // The calls, over strings of any length and numbers of any size.
+#[tactic(auto, unfolding(standard::specs::Keys::ta11_call, standard::specs::Expansions::exp2))]
 pub fn ta11(root: &[u8], seed: &[u8]) -> Bytes16
     ensures { result ≡ ta11_call root.now seed.now }
 {
     under_root(root, part10(seed, 0), seed.len() == 10)
 }
 
+#[tactic(auto, unfolding(standard::specs::Keys::ta21_call))]
 pub fn ta21(root: &[u8], seed: &[u8]) -> Bytes16
     ensures { result ≡ ta21_call root.now seed.now }
 {
@@ -43,6 +45,7 @@ pub fn ta21(root: &[u8], seed: &[u8]) -> Bytes16
 }
 
 // TA41 does what TA11 does, with the seed RSO.
+#[tactic(auto, unfolding(standard::specs::Keys::ta11_call, standard::specs::Keys::ta41_call))]
 pub fn ta41(root: &[u8], seed: &[u8]) -> Bytes16
     ensures { result ≡ ta41_call root.now seed.now }
 {
@@ -83,6 +86,7 @@ pub fn ta22(
     ta12(session_key, challenge, response_mask, key_mask)
 }
 
+#[tactic(auto, unfolding(standard::specs::Keys::ta71_call, standard::specs::Keys::ta71, standard::specs::Keys::ta71_key))]
 pub fn ta71(key1: &[u8], key2: &[u8]) -> Bytes10
     ensures { result ≡ ta71_call key1.now key2.now }
 {
