@@ -1,35 +1,22 @@
 -- A transposition by code, column by column.
-use Rattle.standard.proofs.Prelude.{◌≡◌, ap, ◌∙◌, List, ◌++◌, ℕ, ◌+◌, ◌-◌, ◌*◌, ◌≤◌, ◌<◌, mul_comm, arith, length, take, drop}
-use Rattle.lists.proofs.WalkLaws.{ends, PrefixWritten, prefix_none, own_length, prefix_next}
+use Rattle.standard.proofs.Prelude.{◌≡◌, ap, ◌∙◌, List, ◌++◌, ℕ, ◌+◌, ◌-◌, ◌*◌, ◌≤◌, length, take, drop}
+use Rattle.lists.proofs.WalkLaws.{PrefixWritten, own_length, prefix_next}
 use Rattle.standard.proofs.ColumnsLaws.{column_length}
 use Rattle.standard.specs.Columns.{column}
 
--- byte j of row i stands within the rows
-pub in_rows : (width n i j : ℕ) → i < n → j < width → width * i + j < width * n
-in_rows width n i j h k = omega (arith, ends width i n h)
-
--- ---- the first j columns of n rows are written, and after them the output is as it was
-
+-- the first j columns of n rows are written, and after them the output is as it was
 abbrev pub Filed : (n width : ℕ) (rows out₀ : List ℕ) (j : ℕ) (out : List ℕ) → Type 0
 Filed n width rows out₀ j out = PrefixWritten n (column n width rows) out₀ j out
 
-module _ (n width : ℕ) (rows out₀ : List ℕ) where
-  pub filed_none : Filed n width rows out₀ 0 out₀
-  filed_none = prefix_none n (column n width rows) (column_length n width rows) out₀
+module _ (n width : ℕ) (rows out₀ : List ℕ) (j : ℕ) (out : List ℕ) (h : Filed n width rows out₀ j out) (room : n * j + n ≤ length out₀) where
+  abbrev own : List ℕ
+  own = take (n * j + n - n * j) (drop (n * j) out)
 
-  module _ (j : ℕ) (out : List ℕ) (h : Filed n width rows out₀ j out) (room : n * j + n ≤ length out₀) where
-    abbrev own : List ℕ
-    own = take (n * j + n - n * j) (drop (n * j) out)
+  own_rows : length own ≡ n
+  own_rows = own_length n (column n width rows) (column_length n width rows) out₀ j out h room
 
-    pub own_rows : length own ≡ n
-    own_rows = own_length n (column n width rows) (column_length n width rows) out₀ j out h room
-
-    -- the rows have a byte for each of the part's
-    pub rows_enough : n * width ≤ length rows → width * length own ≤ length rows
-    rows_enough e = rw (own_rows, mul_comm width n) e
-
-    pub filed_more : (exit : List ℕ) → exit ≡ column (length own) width rows j
-        → Filed n width rows out₀ (j + 1) (take (n * j) out ++ (exit ++ drop (n * j + n - n * j) (drop (n * j) out)))
-    filed_more exit e =
-        prefix_next n (column n width rows) (column_length n width rows) out₀ j out h room exit
-        (e ∙ ap (λ (k : ℕ). column k width rows j) own_rows)
+  pub filed_more : (exit : List ℕ) → exit ≡ column (length own) width rows j
+      → Filed n width rows out₀ (j + 1) (take (n * j) out ++ (exit ++ drop (n * j + n - n * j) (drop (n * j) out)))
+  filed_more exit e =
+      prefix_next n (column n width rows) (column_length n width rows) out₀ j out h room exit
+      (e ∙ ap (λ (k : ℕ). column k width rows j) own_rows)
