@@ -430,7 +430,7 @@ impl TextAnswer {
 }
 
 // The algorithms that seal a key, each with its inverse.
-#[derive(Drop)]
+#[derive(Clone, Copy)]
 pub enum Algorithm {
     Ta31,
     Ta51,
@@ -439,7 +439,7 @@ pub enum Algorithm {
 }
 
 // The keys of a ring that seal.
-#[derive(Drop)]
+#[derive(Clone, Copy)]
 pub enum RingKey {
     D,
     O,
@@ -447,7 +447,7 @@ pub enum RingKey {
 }
 
 // The kind of a record: the algorithm that seals its key, and the key of the ring that it is sealed under.
-#[derive(Drop)]
+#[derive(Clone, Copy)]
 pub struct Kind {
     pub algorithm: Algorithm,
     pub under: RingKey,
