@@ -130,7 +130,7 @@ pub either_way : EitherWay
 unfolding ta82_call ta82_at_end opened_at_end unseal_call unseal fails opened
 either_way = record {
   same = λ t s v e. rw (same_place t e);
-  opens = ap (number_answer Ta81) (answered Ta81 ends_in_zeros (upward 0 16) version7 _ refl refl computed.ends_in_zeros);
+  opens = ap (number_answer Ta81) (answered Ta81 ends_in_zeros (upward 0 16) version7 _ refl refl computed.ends_in_zeros_lem);
 }
 
 pub palindrome : Palindrome
