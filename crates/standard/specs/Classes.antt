@@ -1,5 +1,5 @@
 -- A whole class of challenges under one session key (02, 2).
-use Rattle.std.specs.Prelude.{List, [], ◌∷◌, ◌++◌, ℕ, ◌/◌, length}
+use Rattle.std.specs.Prelude.{List, ◌∷◌, ◌++◌, ℕ, ◌/◌, length}
 use Rattle.standard.specs.Bytes.{part}
 use Rattle.standard.specs.Keys.{ta12_call}
 use Rattle.standard.specs.Lists.{each, list_tests, records_call}

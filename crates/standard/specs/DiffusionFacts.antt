@@ -1,7 +1,7 @@
 -- The diffusion tally (02, 12): what the request asks of the figures, stated. The proofs are in proofs/DiffusionLaws.
 use Rattle.std.specs.Prelude.{List, [], ◌≡◌, ℕ, ◌*◌, ◌/◌, ◌<◌, ◌≤◌, length}
 use Rattle.standard.specs.Bytes.{◌!◌}
-use Rattle.standard.specs.Diffusion.{total, least, greatest, diffusion_call}
+use Rattle.standard.specs.Diffusion.{diffusion_call}
 use Rattle.standard.specs.Sizes.{diffusion_size}
 use Rattle.standard.specs.declared.Tally.{Tally}
 

@@ -1,5 +1,5 @@
 -- Lists of records (01, Books): records of w bytes, one after the other, at most 1,024 of them, and the calls that work on them.
-use Rattle.std.specs.Prelude.{Bool, List, [], ◌∷◌, ◌++◌, ℕ, zero, suc, ◌*◌, ◌/◌, ◌%◌, eqb, leb, length, drop}
+use Rattle.std.specs.Prelude.{Bool, List, [], ◌∷◌, ◌++◌, ℕ, zero, suc, ◌*◌, ◌/◌, ◌%◌, eqb, leb, drop}
 use Rattle.standard.specs.Bytes.{part, choose}
 use Rattle.standard.specs.Refusals.{book_too_long, book_not_whole, output_short, first}
 use Rattle.standard.specs.Sizes.{most_records}

@@ -1,6 +1,6 @@
 -- TB1 to TB7 (01, Responses and derived keys; 000, 5.19 to the end of clause 5).
-use Rattle.std.specs.Prelude.{◌&&◌, List, [], ◌∷◌, ℕ, ◌+◌, ◌-◌, ◌*◌, ◌/◌, ◌%◌, ◌^◌, leb, replicate}
-use Rattle.standard.specs.Bytes.{◌!◌, part, xors, bytes_of}
+use Rattle.std.specs.Prelude.{◌&&◌, List, [], ◌∷◌, ℕ, ◌+◌, ◌-◌, ◌*◌, ◌/◌, ◌%◌, ◌^◌, replicate}
+use Rattle.standard.specs.Bytes.{part, xors, bytes_of}
 use Rattle.standard.specs.Expansions.{grouped}
 use Rattle.standard.specs.Refusals.{wrong_length, wrong_width, value_wide, has_length, valid_width, fits, first, answer10, answer16}
 use Rattle.standard.specs.declared.Bytes10.{Bytes10}

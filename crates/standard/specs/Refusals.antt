@@ -2,7 +2,7 @@
 -- A book is tested for 11, 1, 2 and 12, and then each of its records for 3, and for 4 and 5 when it is sealed or for 6 when it is opened;
 -- a class for 11, 1, 2, 12, 7 and 8; a lineage sheet for 1, 2 and 12, and then each of its records for 14, 15 and 16; a book to be filed by
 -- column for 1, 2 and 12; a tally for 1 and 2. A single call tests 11, 13, 7, 8, 9, 10, 5, 17, 18, 19.
-use Rattle.std.specs.Prelude.{Bool, true, false, ◌&&◌, List, [], ◌∷◌, ℕ, ◌^◌, eqb, leb, ltb, length}
+use Rattle.std.specs.Prelude.{Bool, ◌&&◌, List, [], ◌∷◌, ℕ, ◌^◌, eqb, leb, ltb, length}
 use Rattle.std.specs.Int.Bits.{bit_and}
 use Rattle.std.specs.Int.Count.{ones}
 use Rattle.standard.specs.Bytes.{choose, zeros}
