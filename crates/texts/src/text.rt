@@ -2,7 +2,7 @@
 ghost use Rattle.std.specs.Prelude.{not, ◌≡◌};
 ghost use Rattle.standard.specs.Bytes.{bytes_of};
 ghost use Rattle.standard.specs.Runs.{text_runs};
-ghost use Rattle.standard.specs.Seals.{failed, clear, form_of, sealed as sealed_of, opened as opened_of, key10 as key10Of, key16 as key16Of, repeated};
+ghost use Rattle.standard.specs.Seals.{failed, clear, form_of, sealed as sealed_of, opened as opened_of, key10 as key10_of, key16 as key16_of, repeated};
 
 use crate::text_core::{seal_core, with8};
 use arrays::{join_8_8, xor10, xor16};
@@ -25,8 +25,9 @@ fn four_times(v: [u8; 2]) -> [u8; 8]
 }
 
 // The core's key for kinds 2 to 6: the version written eight times ⊕ the sealing key.
+#[tactic(auto, unfolding(standard::specs::Seals::key16))]
 pub fn key16(sealing_key: [u8; 16], version: Version) -> [u8; 16]
-    ensures { result ≡ key16Of sealing_key (bytes_of 2 version.0) }
+    ensures { result ≡ key16_of sealing_key (bytes_of 2 version.0) }
 {
     let copies = four_times(bytes_of(version));
     xor16(join_8_8(copies, copies), sealing_key)
@@ -40,13 +41,15 @@ fn five_times(v: [u8; 2]) -> [u8; 10]
 }
 
 // For kind 1 it is expanded: the version written five times ⊕ the sealing key of ten bytes.
+#[tactic(auto, unfolding(standard::specs::Seals::key10))]
 pub fn key10(sealing_key: [u8; 10], version: Version) -> [u8; 16]
-    ensures { result ≡ key10Of sealing_key (bytes_of 2 version.0) }
+    ensures { result ≡ key10_of sealing_key (bytes_of 2 version.0) }
 {
     exp4(xor10(five_times(bytes_of(version)), sealing_key))
 }
 
 // The sealed text of a body.
+#[tactic(auto, unfolding(standard::specs::Seals::sealed))]
 pub fn seal_body(algorithm: Algorithm, key: [u8; 16], body: [u8; 12]) -> [u8; 15]
     ensures { result ≡ sealed_of (form_of algorithm) key body }
 {
@@ -62,14 +65,27 @@ pub struct Opened {
     pub failed: u16,
 }
 
+// The same algorithm, for a second call that takes one.
+fn same_algorithm(algorithm: &Algorithm) -> Algorithm
+    ensures { result ≡ algorithm.now }
+{
+    match algorithm {
+        Algorithm::Ta31 => Algorithm::Ta31,
+        Algorithm::Ta51 => Algorithm::Ta51,
+        Algorithm::Ta81 => Algorithm::Ta81,
+        Algorithm::Ta91 => Algorithm::Ta91,
+    }
+}
+
 pub fn open_text(algorithm: Algorithm, key: [u8; 16], text: [u8; 15]) -> Opened
     ensures { result ≡ record { body = (form_of algorithm).shrink (opened_of key text); failed = failed (form_of algorithm) (opened_of key text) } }
 {
     let o = bl2(key, with8(text));
     let u = o.output;
+    let second = same_algorithm(&algorithm);
     Opened {
         body: body_of(algorithm, u),
-        failed: failed_of(algorithm, u),
+        failed: failed_of(second, u),
     }
 }
 

@@ -2,7 +2,7 @@
 ghost use Rattle.std.specs.Prelude.{◌≡◌};
 ghost use Rattle.cores.specs.CoreOutputs.{counted15};
 ghost use Rattle.cores_x4.specs.OutputLanes.{lane16};
-ghost use Rattle.standard.specs.Seals.{with8 as with8Of};
+ghost use Rattle.standard.specs.Seals.{with8 as with8_of};
 ghost use Rattle.hurdle.specs.Lanes.{lanes, lane};
 ghost use Rattle.texts.specs.TextCores.{shortened, seal_core};
 
@@ -23,7 +23,7 @@ fn without8(o: CoreOutput16) -> CoreOutput15
 
 // A sealed text with a zero byte in the eighth place, as BL2 takes it.
 pub fn with8(t: [u8; 15]) -> [u8; 16]
-    ensures { result ≡ with8Of t }
+    ensures { result ≡ with8_of t }
 {
     let mut left = part8(&t, 0);
     left[7] = 0;
@@ -39,12 +39,8 @@ pub fn seal_core(key: [u8; 16], input: [u8; 16]) -> CoreOutput15
 fn without8_x4(o: [CoreOutput16; 4]) -> [CoreOutput15; 4]
     ensures { result ≡ lanes (λ j. shortened (lane16 o j)) }
 {
-    [
-        without8(o[0]),
-        without8(o[1]),
-        without8(o[2]),
-        without8(o[3]),
-    ]
+    let [a, b, c, d] = o;
+    [without8(a), without8(b), without8(c), without8(d)]
 }
 
 pub fn seal_core_x4(keys: [[u8; 16]; 4], inputs: [[u8; 16]; 4]) -> [CoreOutput15; 4]
