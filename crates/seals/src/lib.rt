@@ -4,7 +4,7 @@
 ghost use Rattle.std.specs.Prelude.{◌&&◌, [], ◌∷◌, ◌≡◌};
 ghost use Rattle.standard.specs.Bytes.{bytes_of};
 ghost use Rattle.standard.specs.Refusals.{wrong_length, has_length, first, answer15, unsealed_body};
-ghost use Rattle.standard.specs.Seals.{form_of, failed, key16 as key16Of, sealed as sealed_of, opened as opened_of, body_number};
+ghost use Rattle.standard.specs.Seals.{form_of, failed, key16 as key16_of, sealed as sealed_of, opened as opened_of, body_number};
 ghost use Rattle.standard.specs.Seals.{ta31_call, ta32_call, ta51_call, ta52_call, ta81_call, ta82_call, ta91_call, ta92_call};
 ghost use Rattle.standard.specs.declared.Algorithm.TheVariants.{Ta51, Ta81};
 
@@ -65,7 +65,7 @@ fn open_if(right_lengths: bool, algorithm: Algorithm, key: [u8; 16], text: [u8; 
 
 // The same under a sealing key of kinds 2 to 6, from strings of any length.
 fn open16(algorithm: Algorithm, text: &[u8], sealing_key: &[u8], version: Version) -> UnsealedBody
-    ensures { result ≡ unsealed_body (first ((has_length 15 text.now && has_length 16 sealing_key.now, wrong_length) ∷ [])) ((form_of algorithm).shrink (opened_of (key16Of sealing_key.now (bytes_of 2 version.0)) text.now)) (failed (form_of algorithm) (opened_of (key16Of sealing_key.now (bytes_of 2 version.0)) text.now)) }
+    ensures { result ≡ unsealed_body (first ((has_length 15 text.now && has_length 16 sealing_key.now, wrong_length) ∷ [])) ((form_of algorithm).shrink (opened_of (key16_of sealing_key.now (bytes_of 2 version.0)) text.now)) (failed (form_of algorithm) (opened_of (key16_of sealing_key.now (bytes_of 2 version.0)) text.now)) }
 {
     let right_lengths = have_lengths(text, TEXT, sealing_key, Kind::SEALING_KEY);
     let key = key16(part16(sealing_key, 0), version);
@@ -122,6 +122,7 @@ pub fn ta51(cipher_key: &[u8], version: Version, sealing_key: &[u8], number: Key
     )
 }
 
+#[tactic(auto, unfolding(standard::specs::Seals::ta52_call, standard::specs::Seals::unseal_call, standard::specs::Seals::unseal, standard::specs::Seals::fails))]
 pub fn ta52(text: &[u8], sealing_key: &[u8], version: Version) -> UnsealedNumbered
     ensures { result ≡ ta52_call text.now sealing_key.now version }
 {
@@ -150,6 +151,7 @@ pub fn ta81(cipher_key: &[u8], version: Version, sealing_key: &[u8], number: Key
     )
 }
 
+#[tactic(auto, unfolding(standard::specs::Seals::ta82_call, standard::specs::Seals::unseal_call, standard::specs::Seals::unseal, standard::specs::Seals::fails))]
 pub fn ta82(text: &[u8], sealing_key: &[u8], version: Version) -> UnsealedNumbered
     ensures { result ≡ ta82_call text.now sealing_key.now version }
 {
@@ -171,6 +173,7 @@ pub fn ta91(group_key: &[u8], version: Version, sealing_key: &[u8]) -> Bytes15
     seal_if(right_lengths, Algorithm::Ta91, key, part12(group_key, 0))
 }
 
+#[tactic(auto, unfolding(standard::specs::Seals::ta92_call, standard::specs::Seals::unseal_call, standard::specs::Seals::unseal, standard::specs::Seals::fails))]
 pub fn ta92(text: &[u8], sealing_key: &[u8], version: Version) -> UnsealedGroup
     ensures { result ≡ ta92_call text.now sealing_key.now version }
 {
