@@ -140,9 +140,9 @@ pub fn ta81(cipher_key: &[u8], version: Version, sealing_key: &[u8], number: Key
     ensures { result ≡ ta81_call cipher_key.now version sealing_key.now number }
 {
     let right_lengths = have_lengths(cipher_key, Kind::CIPHER_KEY, sealing_key, Kind::SEALING_KEY);
-    let key = key16(part16(sealing_key, 0), version);
     let high = (number.0 / 256 % 256) as u8;
     let low = (number.0 % 256) as u8;
+    let key = key16(part16(sealing_key, 0), version);
     seal_if(
         right_lengths,
         Algorithm::Ta81,
