@@ -65,27 +65,14 @@ pub struct Opened {
     pub failed: u16,
 }
 
-// The same algorithm, for a second call that takes one.
-fn same_algorithm(algorithm: &Algorithm) -> Algorithm
-    ensures { result ≡ algorithm.now }
-{
-    match algorithm {
-        Algorithm::Ta31 => Algorithm::Ta31,
-        Algorithm::Ta51 => Algorithm::Ta51,
-        Algorithm::Ta81 => Algorithm::Ta81,
-        Algorithm::Ta91 => Algorithm::Ta91,
-    }
-}
-
 pub fn open_text(algorithm: Algorithm, key: [u8; 16], text: [u8; 15]) -> Opened
     ensures { result ≡ record { body = (form_of algorithm).shrink (opened_of key text); failed = failed (form_of algorithm) (opened_of key text) } }
 {
     let o = bl2(key, with8(text));
     let u = o.output;
-    let second = same_algorithm(&algorithm);
     Opened {
         body: body_of(algorithm, u),
-        failed: failed_of(second, u),
+        failed: failed_of(algorithm, u),
     }
 }
 

@@ -3,4 +3,4 @@ use Rattle.texts.proofs.text.open_text.Goals as goal
 
 pub returns : goal.returns
 unfolding opened
-returns c = rw (c.failed_of.ensures, c.body_of.ensures, c.same_algorithm-second.ensures, c.bl2-o.ensures, c.with8.ensures)
+returns c = rw (c.failed_of.ensures, c.body_of.ensures, c.bl2-o.ensures, c.with8.ensures)
