@@ -127,13 +127,13 @@ pub fn bl1_right_input(x: [u8; 16], l: [u8; 8]) -> [u8; 8]
 }
 
 // What a core gives, BL1 sixteen bytes and BL2 fifteen, and the block cipher runs that it took.
-#[derive(Drop)]
+#[derive(Clone, Copy)]
 pub struct CoreOutput16 {
     pub output: [u8; 16],
     pub runs: usize,
 }
 
-#[derive(Drop)]
+#[derive(Clone, Copy)]
 pub struct CoreOutput15 {
     pub output: [u8; 15],
     pub runs: usize,
