@@ -1,10 +1,7 @@
-use Rattle.std.proofs.Common.{◌≡◌, refl, arith}
-use Rattle.standard.proofs.PrintedTablesLaws.{placed_none, placed_more, placed_all}
+use Rattle.std.proofs.Common.{◌≡◌, arith}
+use Rattle.standard.proofs.PrintedTablesLaws.{placed_more, placed_all}
 use Rattle.standard.specs.Hurdle.{S}
 use Rattle.printed_tables.proofs.inverse.Goals as goal
-
-pub loop-i-init : goal.loop-i-init
-loop-i-init c = placed_none _ refl
 
 pub loop-i-preserved : goal.loop-i-preserved
 unfolding S

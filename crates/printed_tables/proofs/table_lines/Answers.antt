@@ -1,10 +1,9 @@
-use Rattle.std.proofs.Common.{◌≡◌, ap, ◌∙◌, suc, ◌+◌, ◌*◌, ◌≤◌, arith, length}
+use Rattle.std.proofs.Common.{ap, ◌∙◌, suc, ◌+◌, ◌*◌, ◌≤◌, arith, length}
 use Rattle.standard.proofs.BytesLaws.{lent_part}
 use Rattle.standard.proofs.PrintedTablesLaws.{lines_length}
 use Rattle.standard.specs.Lists.{record_at}
 use Rattle.standard.specs.PrintedTables.{table_line, table_lines}
 use Rattle.lines.proofs.LineLaws.{over_none, lines_next}
-use Rattle.lines.specs.LineStates.{Over}
 use Rattle.printed_tables.proofs.table_lines.Goals as goal
 
 pub loop-i-init : goal.loop-i-init
