@@ -30,7 +30,8 @@ pub fn choose(mask: u16, output: [u8; 16], out: &mut [u8])
     let mut k: usize = 0;
     while (i > 0) & (k < n) {
         i -= 1;
-        if (mask >> i) % 2 == 1 {
+        let chosen = (mask >> i) % 2 == 1;
+        if chosen {
             out[k] = output[15 - i];
             k += 1;
         }

@@ -6,16 +6,16 @@ use Rattle.keys.proofs.masks.choose.Goals as goal
 pub loop-i-init : goal.loop-i-init
 loop-i-init c = record { low = omega arith; gathered = gather_none c.args.mask c.args.output c.args.out.now }
 
-pub loop-i-preserved-then-mask-i-eq1 : goal.loop-i-preserved-then-mask-i-eq1
+pub loop-i-preserved-then-chosen : goal.loop-i-preserved-then-chosen
 unfolding bit
-loop-i-preserved-then-mask-i-eq1 c = record {
+loop-i-preserved-then-chosen c = record {
   low = omega arith;
-  gathered = gather_more c.loop-i.invariant.gathered (grind arith) c.if-mask-i-eq1.true (grind arith);
+  gathered = gather_more c.loop-i.invariant.gathered (grind arith) c.if-chosen.true (grind arith);
 }
 
 pub loop-i-preserved : goal.loop-i-preserved
 unfolding bit
 loop-i-preserved c = record {
   low = omega arith;
-  gathered = gather_past c.loop-i.invariant.gathered (grind arith) c.if-mask-i-eq1.false;
+  gathered = gather_past c.loop-i.invariant.gathered (grind arith) c.if-chosen.false;
 }
