@@ -1,9 +1,9 @@
 -- The loops of the code turn the register and the halves as the definitions do.
-use Rattle.standard.proofs.Prelude.{◌≡◌, sym, ap, ap₂, ◌∙◌, List, ◌++◌, ℕ, suc, ◌+◌, ◌-◌, ◌%◌, ◌≤◌, ◌<◌, mod-eq_of_lt, add-one, arith, length}
+use Rattle.standard.proofs.Prelude.{◌≡◌, sym, ap, ap₂, ◌∙◌, List, ◌++◌, ℕ, ◌+◌, ◌-◌, ◌%◌, ◌<◌, mod-eq_of_lt, add-one, length}
 use Rattle.hurdle.proofs.RoundLaws.{round_word}
 use Rattle.hurdle.specs.RoundSteps.{bytes4, half_bytes, round_over, spreads, HalvesOf}
 use Rattle.hurdle.specs.declared.round.Halves.{Halves as Words}
-use Rattle.standard.proofs.RegisterLaws.{a_most, same_cipher}
+use Rattle.standard.proofs.RegisterLaws.{same_cipher}
 use Rattle.standard.proofs.BytesLaws.{table_at}
 use Rattle.standard.specs.Bytes.{◌!◌, table, part, xors}
 use Rattle.standard.specs.Hurdle.{S, Halves, D, a, rotl, next, encrypt, decrypt}
@@ -16,10 +16,6 @@ state q h = record { register = q; halves = h }
 -- a round over the code's copies of S and its spread bits
 under : (q : List ℕ) (h o : Words) → o ≡ round_over S spreads (part 4 12 q) h → half_bytes o ≡ round_under q (half_bytes h)
 under q h o e = ap half_bytes e ∙ round_word (part 4 12 q) h
-
--- the code's rotations are those of the sequence a, so none goes beyond sixteen
-pub rotation_most : (rots : List ℕ) (i : ℕ) → rots ≡ a → i < 16 → rots ! i ≤ 16
-rotation_most rots i t h = rw t (a_most i h)
 
 -- a byte of the register twice over
 pub twice_byte : (q xs : List ℕ) (i n : ℕ) → xs ≡ table 32 (λ j. q ! (j % 16)) → i + n < 32 → xs ! (i + n) ≡ q ! ((i + n) % 16)

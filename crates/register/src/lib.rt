@@ -26,6 +26,7 @@ fn rotated(q: &[u8; 16], n: usize) -> [u8; 16]
 }
 
 // The step that rotates by n.
+#[tactic(auto, unfolding(standard::specs::Hurdle::D))]
 fn step(q: &[u8; 16], n: usize) -> [u8; 16]
     requires { n ≤ 16 }
     ensures { result ≡ next n q.now }
@@ -34,6 +35,7 @@ fn step(q: &[u8; 16], n: usize) -> [u8; 16]
 }
 
 // Undoes it.
+#[tactic(auto, unfolding(standard::specs::Hurdle::D))]
 fn step_back(q: &[u8; 16], n: usize) -> [u8; 16]
     requires { n ≤ 16 }
     ensures { result ≡ rotl (16 - n) (xors 16 q.now d_of) }

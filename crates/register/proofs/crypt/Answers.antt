@@ -9,4 +9,5 @@ returns-then-back c =
 
 pub returns-else-back : goal.returns-else-back
 returns-else-back c =
-    rw c.if-back.false (encrypted c.args.key c.args.block _ _ _ _ c.split-halves.ensures c.block_of-else-back.ensures c.onward-state.ensures)
+    rw c.if-back.false
+    (encrypted c.args.key c.args.block _ _ _ _ c.split-halves.ensures c.block_of-else-back.ensures c.onward-state.ensures)

@@ -11,5 +11,6 @@ returns-then-key-ne16 c = rw (c.refused.ensures, ne_eqb _ _ c.if-key-ne16.true)
 pub returns : goal.returns
 unfolding register_call
 returns c =
+    let x = c.args in
     let h = c.if-key-ne16.false in
-    rw (c.turned.ensures, c.part16.ensures, spelled 16 c.args.key.now h, eq-eqb _ _ h, begins_anew c.args.key.now c.args.steps h)
+    rw (c.turned.ensures, c.part16.ensures, spelled 16 x.key.now h, eq-eqb _ _ h, begins_anew x.key.now x.steps h)

@@ -1,15 +1,18 @@
-use Rattle.std.proofs.Common.{◌∙◌, arith, length-set}
+use Rattle.std.proofs.Common.{◌+◌, ◌%◌, arith, rules}
 use Rattle.standard.proofs.FillLaws.{fill_next, filled}
+use Rattle.standard.specs.Bytes.{◌!◌}
 use Rattle.register.proofs.RegisterStateLaws.{twice_byte}
 use Rattle.register.proofs.rotated.Goals as goal
 
 pub loop-i-preserved : goal.loop-i-preserved
 loop-i-preserved c =
-    let b = twice_byte c.args.q.now c.doubled-twice.result c.loop-i.i c.args.n c.doubled-twice.ensures (omega arith) in
-    record {
-      long = length-set c.loop-i.out _ _ ∙ c.loop-i.invariant.long;
-      turned = fill_next c.loop-i.out _ c.loop-i.i _ (omega arith) b c.loop-i.invariant.turned;
+    let x = c.args in
+    let b = twice_byte x.q.now c.doubled-twice.result c.loop-i.i x.n c.doubled-twice.ensures (omega arith) in record {
+      length_kept = search rules;
+      filled = fill_next c.loop-i.out (λ j. x.q.now ! ((j + x.n) % 16)) c.loop-i.i _ (omega arith) b c.loop-i.invariant.filled;
     }
 
 pub returns : goal.returns
-returns c = filled c.loop-i.out _ 16 c.loop-i.i c.loop-i.invariant.long (omega arith) c.loop-i.invariant.turned
+returns c =
+    let x = c.args in
+    filled c.loop-i.out (λ j. x.q.now ! ((j + x.n) % 16)) 16 c.loop-i.i (omega arith) (omega arith) c.loop-i.invariant.filled

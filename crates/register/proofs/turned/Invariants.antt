@@ -1,11 +1,7 @@
 -- The register has made i steps.
 use Rattle.std.proofs.Common.{◌≡◌}
-use Rattle.standard.specs.Hurdle.{a}
 use Rattle.standard.specs.Register.{turned}
 use Rattle.register.proofs.turned.Given as goal
 
 abbrev pub invariant-loop-i : goal.invariant-loop-i
-invariant-loop-i l = record {
-  rotations : l.a ≡ a;
-  steps : l.q ≡ turned l.initial.q l.i;
-}
+invariant-loop-i l = l.q ≡ turned l.fn.key l.i
