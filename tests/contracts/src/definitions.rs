@@ -44,7 +44,7 @@ struct File {
 }
 
 /// The tests that say what one argument must be.
-const NOTED: [&str; 3] = ["hasLength", "fits", "validWidth"];
+const NOTED: [&str; 3] = ["has_length", "fits", "valid_width"];
 /// The field with the refusal of a record or a body.
 const FAULT: &str = "fault";
 
@@ -139,6 +139,12 @@ impl Node {
         self.word().len() > 1 && self.word().starts_with('.')
     }
 
+    /// Whether a term begins after it: after an operator, a binder or a word such as `in`.
+    fn ends_a_head(&self) -> bool {
+        let word = self.word();
+        self.is_operator() || ["in", "λ"].contains(&word) || (word.len() > 1 && word.ends_with('.'))
+    }
+
     fn is_operator(&self) -> bool {
         let word = self.word();
         let is_letter = |c: char| c.is_alphanumeric() || c == '@';
@@ -146,16 +152,37 @@ impl Node {
     }
 }
 
-/// The nodes of a text, up to its end or a closing bracket.
+/// The value and the fields of a word such as `conversion.size` or `a.0.refusal`. A name
+/// that a `λ` binds, as `i.`, has none.
+fn fields(word: &str) -> Vec<Node> {
+    let inner = |&(at, c): &(usize, char)| c == '.' && at > 0 && at + 1 < word.len();
+    let starts = word.char_indices().filter(inner).map(|(at, _)| at);
+    let starts: Vec<usize> = [0].into_iter().chain(starts).chain([word.len()]).collect();
+    let part = |ends: &[usize]| Node::Word(word[ends[0]..ends[1]].to_string());
+    starts.windows(2).map(part).collect()
+}
+
+/// The nodes of a text, up to its end or a closing bracket. A field is written tight. It
+/// stays beside its value where these two are applied, as in `form.fault b`; else both are
+/// in parentheses, so that each argument is one node.
 fn nodes(words: &mut impl Iterator<Item = String>) -> Vec<Node> {
-    let mut found = Vec::new();
+    let mut found: Vec<Node> = Vec::new();
     while let Some(word) = words.next() {
-        found.push(match &word[..] {
-            "(" => Node::Parentheses(Rc::new(nodes(words))),
-            "{" => Node::Braces(Rc::new(nodes(words))),
+        let mut row = match &word[..] {
+            "(" => vec![Node::Parentheses(Rc::new(nodes(words)))],
+            "{" => vec![Node::Braces(Rc::new(nodes(words)))],
             ")" | "}" => break,
-            _ => Node::Word(word),
-        });
+            _ => fields(&word),
+        };
+        if row[0].is_field() {
+            row.splice(..0, found.pop());
+        }
+        match found.last() {
+            Some(before) if row.len() > 1 && !before.ends_a_head() => {
+                found.push(Node::Parentheses(Rc::new(row)));
+            }
+            _ => found.extend(row),
+        }
     }
     found
 }
@@ -165,7 +192,6 @@ fn parsed(text: &str) -> Vec<Node> {
     for c in text.chars() {
         match c {
             '(' | ')' | '{' | '}' | ',' | ';' => spaced.extend([' ', c, ' ']),
-            '«' | '»' => {}
             _ => spaced.push(c),
         }
     }
@@ -247,12 +273,13 @@ impl Definitions {
         }
     }
 
-    /// What a term in a file tests, of arguments with these names.
-    pub fn tests(&self, file: &str, term: &str, arguments: &[String]) -> Tests {
+    /// What a term in a file tests, of arguments with these names: in the term, and in
+    /// what comes out.
+    pub fn tests(&self, file: &str, term: &str, arguments: &[(&str, &str)]) -> Tests {
         let mut scope = Scope::of(file);
-        let mark = |name: &String| {
-            let marked = [Node::Word(format!("@{name}"))];
-            (name.clone(), Scope::of(file).closure(&marked))
+        let mark = |(name, shown): &(&str, &str)| {
+            let marked = [Node::Word(format!("@{shown}"))];
+            (name.to_string(), Scope::of(file).closure(&marked))
         };
         scope.bound = Rc::new(arguments.iter().map(mark).collect());
         let mut walk = Walk {
@@ -430,7 +457,7 @@ impl Walk<'_> {
                 }
             }
             ("choose", [test, this, that]) => self.each([test, that, this], scope),
-            ("answer", [head, _, fault, _]) | ("recordsCall", [head, _, fault, _, _, _]) => {
+            ("answer", [head, _, fault, _]) | ("records_call", [head, _, fault, _, _, _]) => {
                 self.each([head], scope);
                 let before = mem::replace(&mut self.in_records, true);
                 self.each([fault], scope);
@@ -531,9 +558,9 @@ impl Walk<'_> {
         };
         let (first, second, tests) = (value(0), value(1), &mut self.tests);
         match (name, first, second) {
-            ("hasLength", Number(bytes), Argument(of)) => drop(tests.lengths.insert(of, bytes)),
-            ("lengthTests", Number(bytes), LengthOf(of)) => tests.list = Some((of, bytes)),
-            ("listTests", _, Number(bytes)) => tests.written = Some(bytes),
+            ("has_length", Number(bytes), Argument(of)) => drop(tests.lengths.insert(of, bytes)),
+            ("length_tests", Number(bytes), LengthOf(of)) => tests.list = Some((of, bytes)),
+            ("list_tests", _, Number(bytes)) => tests.written = Some(bytes),
             ("fits", Number(bits), Argument(of)) => drop(tests.bits.insert(of, bits.to_string())),
             ("fits", Argument(bits), Argument(of)) => drop(tests.bits.insert(of, bits)),
             ("leb", Number(least), Argument(of)) => drop(tests.least.insert(of, least)),
@@ -659,84 +686,84 @@ mod tests {
 
     const REFUSALS: &str = "\
 -- the numbers
-abbrev pub wrongLength : ℕ
-wrongLength = 11
+abbrev pub wrong_length : ℕ
+wrong_length = 11
 
-abbrev pub tooLong : ℕ
-tooLong = 1
+abbrev pub too_long : ℕ
+too_long = 1
 
-abbrev pub notWhole : ℕ
-notWhole = 2
+abbrev pub not_whole : ℕ
+not_whole = 2
 
-abbrev pub outputShort : ℕ
-outputShort = 12
+abbrev pub output_short : ℕ
+output_short = 12
 
-abbrev pub wrongKind : ℕ
-wrongKind = 3
+abbrev pub wrong_kind : ℕ
+wrong_kind = 3
 
-abbrev pub notZero : ℕ
-notZero = 4
+abbrev pub not_zero : ℕ
+not_zero = 4
 
-abbrev pub hasLength : ℕ → List ℕ → Bool
-hasLength n xs = eqb (length xs) n
+abbrev pub has_length : ℕ → List ℕ → Bool
+has_length n xs = eqb (length xs) n
 
 abbrev pub fits : ℕ → ℕ → Bool
 fits w v = ltb v (2 ^ w)
 
 abbrev pub first : List (Bool × ℕ) → ℕ
 first [] = 0
-first (t ∷ ts) = choose (t .0) (first ts) (t .1)
+first (t ∷ ts) = choose t.0 (first ts) t.1
 
 abbrev pub answer8 : ℕ → List ℕ → Bytes8
 answer8 r b = record { refusal = r; bytes = choose (eqb r 0) b (zeros 8) }
 ";
 
     const BOOKS: &str = "\
-use Rattle·standard·specs.specs.Refusals.{wrongLength, tooLong, notWhole, outputShort, wrongKind, notZero, hasLength, fits, first, answer8}
+use Rattle.standard.specs.Refusals.{wrong_length, too_long, not_whole, output_short, wrong_kind, not_zero, has_length, fits, first, answer8}
 
 abbrev pub size : ℕ
 size = 18
 
-abbrev pub lengthTests : (w size : ℕ) → List (Bool × ℕ)
-lengthTests w size = (leb size (w * 1024), tooLong) ∷ (eqb (size % w) 0, notWhole) ∷ []
+abbrev pub length_tests : (w size : ℕ) → List (Bool × ℕ)
+length_tests w size = (leb size (w * 1024), too_long) ∷ (eqb (size % w) 0, not_whole) ∷ []
 
-abbrev pub listTests : (w v size room : ℕ) → List (Bool × ℕ)
-listTests w v size room = lengthTests w size ++ (leb (v * (size / w)) room, outputShort) ∷ []
+abbrev pub list_tests : (w v size room : ℕ) → List (Bool × ℕ)
+list_tests w v size room = length_tests w size ++ (leb (v * (size / w)) room, output_short) ∷ []
 
 -- a form whose fault counts only if it is asked for
 abbrev pub form1 : Form
 form1 = record {
   input = λ b. 0 ∷ b;
-  fault = λ b. first ((eqb (b ! 10) 0, notZero) ∷ []);
+  fault = λ b. first ((eqb (b ! 10) 0, not_zero) ∷ []);
 }
 
-abbrev pub formOf : Algorithm → Form
-formOf One = form1
-formOf Two = form1
+abbrev pub form_of : Algorithm → Form
+form_of One = form1
+form_of Two = form1
 
 abbrev pub fault : List ℕ → ℕ
-fault p = choose (isKnown p) (formOf (p .kind) .fault p) wrongKind
+fault p = choose (is_known p) ((form_of p.kind).fault p) wrong_kind
 
-abbrev pub bookCall : Way → List ℕ → List ℕ → List ℕ → Answer
-bookCall W r xs out =
-    let n = length xs / W .size in
-    let head = first ((hasLength 52 r, wrongLength) ∷ listTests (W .size) 21 (length xs) (length out)) in
-    let g : ℕ → ℕ = λ i. W .fault (recordAt (W .size) xs i) in
+abbrev pub book_call : Way → List ℕ → List ℕ → List ℕ → Answer
+book_call W r xs out =
+    let n = length xs / W.size in
+    let head = first ((has_length 52 r, wrong_length) ∷ list_tests W.size 21 (length xs) (length out)) in
+    let g : ℕ → ℕ = λ i. W.fault (record_at W.size xs i) in
     counted (answer head n g (21 * n)) (runs head n g)
 
-unfoldable pub sealBook : List ℕ → List ℕ → List ℕ → Answer
-sealBook r p out = bookCall (record { size = size; fault = fault }) r p out
+unfoldable pub seal_book : List ℕ → List ℕ → List ℕ → Answer
+seal_book r p out = book_call (record { size = size; fault = fault }) r p out
 
-unfoldable pub singleCall : List ℕ → ℕ → ℕ → Bytes8
-singleCall k n w =
-    answer8 (first ((hasLength 16 k, wrongLength) ∷ (fits w n, tooLong) ∷ (leb 1 w && leb w 3, notZero) ∷ [])) (seal form1 k)
+unfoldable pub single_call : List ℕ → ℕ → ℕ → Bytes8
+single_call k n w =
+    answer8 (first ((has_length 16 k, wrong_length) ∷ (fits w n, too_long) ∷ (leb 1 w && leb w 3, not_zero) ∷ [])) (seal form1 k)
 ";
 
-    const ENGINE: &str = "ghost use Rattle·standard.specs.Books.{sealBook, singleCall};\n";
+    const ENGINE: &str = "ghost use Rattle.standard.specs.Books.{seal_book, single_call};\n";
 
     fn tests(term: &str, arguments: &[&str]) -> Tests {
         let sources = [("Refusals", REFUSALS), ("Books", BOOKS), ("engine", ENGINE)];
-        let arguments: Vec<String> = arguments.iter().map(|name| name.to_string()).collect();
+        let arguments: Vec<(&str, &str)> = arguments.iter().map(|name| (*name, *name)).collect();
         Definitions::read(sources.into_iter()).tests("engine", term, &arguments)
     }
 
@@ -755,7 +782,7 @@ singleCall k n w =
             ..Tests::default()
         };
         let arguments = ["key", "number", "width"];
-        assert_eq!(tests("singleCall key number width", &arguments), wanted);
+        assert_eq!(tests("single_call key number width", &arguments), wanted);
     }
 
     /// The list's refusals come first, then those of a record, the kind before the body.
@@ -770,7 +797,7 @@ singleCall k n w =
             ..Tests::default()
         };
         let arguments = ["ring", "plain", "out"];
-        assert_eq!(tests("sealBook ring plain out", &arguments), wanted);
+        assert_eq!(tests("seal_book ring plain out", &arguments), wanted);
     }
 
     #[test]

@@ -1,11 +1,12 @@
 //! The must-fail edits, and the calls that they try. Each
 //! `crates/NAME/must-fail/LABEL.edit` begins with two comment lines, the mistake that it
-//! makes and the fact that refuses it; then come its file, the line that it changes and
-//! that line as it makes it.
+//! makes and the fact that refuses it; then come its file, what it changes in a line, what
+//! it makes of it, and maybe more such pairs.
 
 use crate::graph::Graph;
 use crate::items::items;
 use crate::project::Crate;
+use std::collections::HashMap;
 
 pub struct Edit {
     /// Its crate and its label.
@@ -45,11 +46,26 @@ fn function(one: &Crate, edit: &str) -> Option<String> {
     Some(format!("{}::{}", one.name, found.name))
 }
 
-/// Whether an edit of code changes a line that stands there once.
+/// Whether what an edit of code changes stands there once: each text in what the earlier
+/// ones made.
 fn is_aimed(one: &Crate, edit: &str) -> bool {
-    let file = after(edit, "file: src/");
-    let source = one.source(file).unwrap_or("");
-    file.is_empty() || source.matches(after(edit, "old: ")).count() == 1
+    let mut texts: HashMap<&str, String> = HashMap::new();
+    let (mut file, mut old) = (None, "");
+    for line in edit.lines() {
+        if let Some(path) = line.strip_prefix("file: ") {
+            file = path.strip_prefix("src/");
+        } else if let Some(text) = line.strip_prefix("old: ") {
+            old = text;
+        } else if let (Some(new), Some(file)) = (line.strip_prefix("new:"), file) {
+            let source = || one.source(file).unwrap_or("").to_string();
+            let text = texts.entry(file).or_insert_with(source);
+            if text.matches(old).count() != 1 {
+                return false;
+            }
+            *text = text.replace(old, new.strip_prefix(' ').unwrap_or(new));
+        }
+    }
+    true
 }
 
 /// The edits of all crates, by their labels; and the files that are not understood.
@@ -188,6 +204,9 @@ mod tests {
         let fault = "a/e.edit: the line to be changed does not stand there once";
         assert_eq!(odd("    1"), [fault]);
         assert_eq!(odd("    2"), [fault]);
+        let more = |old: &str| odd(&format!("    12\nnew:     34\nold: {old}"));
+        assert_eq!(more("    34"), [""; 0]);
+        assert_eq!(more("    12"), [fault]);
     }
 
     fn one(name: &str, uses: &[&str], source: &str, edited: &[(&str, &str)]) -> Crate {

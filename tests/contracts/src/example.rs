@@ -1,22 +1,30 @@
-//! The proof that docs/PROVING.md explains line by line: what it quotes stands in the crate.
+//! The proofs that docs/PROVING.md explains line by line: what it quotes stands in the crate.
 
 use crate::project::{read, section};
 use std::path::Path;
 
 const HEADING: &str = "## A proof file, line by line\n";
-const FILES: [&str; 2] = ["src/lib.rt", "proofs/count/Proof.antt"];
+const CRATE: &str = "crates/arrays";
+const FILES: [&str; 6] = [
+    "src/parts.rt",
+    "src/xors.rt",
+    "proofs/parts/copy/Invariants.antt",
+    "proofs/xors/xor_into/Invariants.antt",
+    "proofs/xors/xor_into/Answers.antt",
+    "proofs/joins/join/Answers.antt",
+];
 
 /// Whether each indented line stands in one of the files. One that has `..` leaves
 /// something out, and is not looked for.
 pub fn check(root: &Path) -> (usize, Vec<String>) {
     let guide = read(&root.join("docs/PROVING.md"));
-    let files = FILES.map(|file| read(&root.join("crates/diffusion").join(file)));
+    let files = FILES.map(|file| read(&root.join(CRATE).join(file)));
     let quoted = section(&guide, HEADING)
         .lines()
         .filter(|line| line.starts_with("    ") && !line.contains(".."));
     let untold = quoted.filter(|line| !files.iter().any(|file| file.contains(line.trim())));
     let faults: Vec<String> = untold
-        .map(|line| format!("docs/PROVING.md: not in crates/diffusion: {line}"))
+        .map(|line| format!("docs/PROVING.md: not in {CRATE}: {line}"))
         .collect();
     (usize::from(faults.is_empty()), faults)
 }

@@ -74,7 +74,7 @@ mod tests {
     const SOURCE: &str = "\
 // &mut out[a..b], as told
 fn write(out: &mut [u8])
-    ensures { λ _. ⌜ out .exit ≡ fill(out) ⌝ }
+    ensures { out.new ≡ fill(out) }
 {
     // the whole output, not out[a..]
     fill(

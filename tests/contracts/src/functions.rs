@@ -2,11 +2,14 @@
 //! `ensures` and no `requires`, one that stays in its crate is `pub(crate)`, and what
 //! hosts call cites definitions of `standard` alone.
 
+use crate::imports::{imports, Import};
+use crate::items::is_clause;
 use crate::project::Crate;
 
-/// A public function's path and contract.
+/// A public function's path, its parameters and its contract.
 pub struct Function {
     pub name: String,
+    pub parameters: Vec<String>,
     requires: Vec<String>,
     pub ensures: Vec<String>,
     /// What it cites outside `standard`: definition and file.
@@ -41,67 +44,62 @@ fn words(text: &str) -> Vec<&str> {
     found
 }
 
-/// `name as alias` in a file's imports: the pairs of alias and name.
-fn aliases(source: &str) -> Vec<(&str, &str)> {
-    let imports = source.lines().filter(|line| line.starts_with("ghost use "));
-    imports
-        .flat_map(|line| line.split(['{', '}', ',']))
-        .filter_map(|item| item.trim().split_once(" as "))
-        .map(|(name, alias)| (alias, name))
-        .collect()
+/// The names of the parameters in a function's head, which is in one line.
+fn parameters(head: &str) -> Vec<String> {
+    let list = head.split_once('(').map_or("", |(_, rest)| rest);
+    let list = list.rsplit_once(')').map_or("", |(list, _)| list);
+    let named = list.split(',').filter_map(|one| one.split_once(": "));
+    named.map(|(name, _)| name.trim().to_string()).collect()
 }
 
-/// The definitions that a file imports from another crate than `standard`, or from
-/// its own: the pairs of name and file.
-fn elsewhere(source: &str) -> Vec<(String, String)> {
-    let mut found = Vec::new();
-    for line in source.lines() {
-        let import = line.strip_prefix("ghost use Rattle·");
-        let (place, names) = match import.and_then(|line| line.split_once(".{")) {
-            Some(parts) => parts,
-            None => continue,
-        };
-        let (owner, file) = match place.split_once(".specs.") {
-            Some(parts) => parts,
-            None => continue,
-        };
-        let owner = owner.trim_end_matches("·specs");
-        if owner == "standard" {
-            continue;
-        }
-        for item in names.trim_end_matches("};").split(',') {
-            let name = item.split(" as ").next().unwrap_or("").trim();
-            let file = format!("crates/{owner}/specs/{file}.antt");
-            found.push((name.trim_matches('_').to_string(), file));
-        }
+/// What a file imports from a crate other than `standard`, or from its own: the alias,
+/// the definition's own name and its file.
+fn elsewhere(imports: &[Import]) -> Vec<(&str, &str, String)> {
+    let place = |one: &Import| {
+        let place = one.path.strip_prefix("Rattle.")?;
+        let (owner, file) = place.split_once(".specs.")?;
+        let outside = !["std", "standard"].contains(&owner);
+        outside.then(|| format!("crates/{owner}/specs/{file}.antt"))
+    };
+    fn bare(name: &str) -> &str {
+        name.trim_matches('◌')
     }
-    found
+    let ghosts = imports.iter().filter(|one| one.kind == "ghost");
+    let found = ghosts.filter_map(|one| Some((bare(&one.alias), bare(&one.name), place(one)?)));
+    found.collect()
 }
 
-/// A contract's statement as a reader would say it: the values at entry by the
-/// arguments' names, those at exit marked, each definition by its own name.
-fn statement(clause: &str, aliases: &[(&str, &str)]) -> String {
-    let inner = clause
-        .split_once('⌜')
-        .and_then(|(_, rest)| rest.rsplit_once('⌝'));
-    let mut text = inner.unwrap_or(("", "")).0.trim().replace(['«', '»'], "");
-    for (moment, mark) in [(" .entry)", ""), (" .exit)", "′")] {
-        while let Some(end) = text.find(moment) {
-            let start = match text[..end].rfind("now (") {
-                Some(start) => start,
-                None => break,
-            };
-            let plain = format!("{}{mark}", &text[start + "now (".len()..end]);
-            text.replace_range(start..end + moment.len(), &plain);
+/// A word without the moment at which it is meant: the values at entry by the
+/// arguments' names, those at exit marked.
+fn timeless(word: &str) -> String {
+    let mut parts = word.split('.');
+    let mut said = parts.next().unwrap_or("").to_string();
+    for part in parts {
+        match part {
+            "now" | "old" => {}
+            "new" => said.push('′'),
+            _ => said.push_str(&format!(".{part}")),
         }
     }
+    said
+}
+
+/// What stands between a clause's braces.
+fn inner(clause: &str) -> &str {
+    let inner = clause.split_once('{');
+    let inner = inner.and_then(|(_, rest)| rest.rsplit_once('}'));
+    inner.map_or("", |(inner, _)| inner.trim())
+}
+
+/// A contract's statement as a reader would say it, each definition by its own name.
+fn statement(clause: &str, imports: &[Import]) -> String {
+    let ghosts = || imports.iter().filter(|one| one.kind == "ghost");
     let mut said = String::new();
-    for word in words(&text) {
-        let own = aliases.iter().find(|(alias, _)| *alias == word);
-        said.push_str(own.map_or(word, |(_, name)| name));
-    }
-    for word in words(&said.clone()) {
-        said = said.replace(&format!("({word})"), word);
+    for word in words(inner(clause)) {
+        match ghosts().find(|one| one.alias == word) {
+            Some(Import { name, .. }) => said.push_str(name),
+            None => said.push_str(&timeless(word)),
+        }
     }
     said
 }
@@ -114,8 +112,8 @@ fn functions(
     exported: &dyn Fn(&str) -> bool,
     all: &mut Vec<Function>,
 ) -> Vec<String> {
-    let aliases = aliases(source);
-    let imports = elsewhere(source);
+    let imports = imports(source);
+    let outside = elsewhere(&imports);
     let mut hidden = Vec::new();
     let mut owner = None;
     let mut lines = source.lines().peekable();
@@ -131,31 +129,37 @@ fn functions(
         // The body starts at a brace of its own, or after the head if there is
         // no contract.
         let mut clauses: Vec<String> = Vec::new();
+        let mut head = line.to_string();
         let mut last = line.trim();
         while last != "{" && !(clauses.is_empty() && last.ends_with(['{', '}'])) {
             last = lines.next().expect("a function has a body").trim();
-            if last.starts_with("requires") || last.starts_with("ensures") {
+            if is_clause(last) {
                 clauses.push(last.to_string());
             } else if let Some(clause) = clauses.last_mut() {
                 *clause = format!("{clause} {last}");
+            } else {
+                head = format!("{head} {last}");
             }
         }
         if !exported(owner.unwrap_or(name)) {
             hidden.push(format!("{path}: {name} is pub, but not exported"));
         }
-        let said = |word: &str| {
-            let of_word = clauses.iter().filter(|clause| clause.starts_with(word));
-            of_word.map(|clause| statement(clause, &aliases)).collect()
+        let of_word = |word: &'static str| clauses.iter().filter(move |it| it.starts_with(word));
+        let said = |word| {
+            of_word(word)
+                .map(|clause| statement(clause, &imports))
+                .collect()
         };
-        let ensures: Vec<String> = said("ensures");
-        let cited = |name: &str| ensures.iter().any(|text| words(text).contains(&name));
-        let elsewhere = imports.iter().filter(|(name, _)| cited(name)).cloned();
+        let cited = |name: &str| of_word("ensures").any(|it| words(inner(it)).contains(&name));
+        let cited = outside.iter().filter(|(alias, ..)| cited(alias));
+        let elsewhere = cited.map(|(_, name, file)| (name.to_string(), file.clone()));
         let owner = owner.map_or(String::new(), |owner| format!("{owner}::"));
         all.push(Function {
             name: format!("{path}::{owner}{name}"),
+            parameters: parameters(&head),
             requires: said("requires"),
             elsewhere: elsewhere.collect(),
-            ensures,
+            ensures: said("ensures"),
         });
     }
     hidden
@@ -163,18 +167,26 @@ fn functions(
 
 /// Whether a line makes something public in a way that is not understood here.
 fn is_odd(line: &str) -> bool {
-    if let Some(item) = line.strip_prefix("pub use ") {
-        let letters = item.trim_end_matches(';').replace("::", "");
-        let is_name = letters.chars().all(|c| c.is_alphanumeric() || c == '_');
-        return !is_name || item.matches("::").count() != 1;
-    }
     let head = line.split('(').next().unwrap_or("");
     line.starts_with("pub") && head.contains(" fn ") && function_name(line).is_none()
 }
 
-fn odd_lines<'a>(path: &'a str, source: &'a str) -> impl Iterator<Item = String> + 'a {
-    let odd = source.lines().map(str::trim).filter(|line| is_odd(line));
-    odd.map(move |line| format!("{path}: not understood: {line}"))
+/// Whether an item is let out of the crate otherwise than by `pub use module::item`.
+fn is_odd_use(one: &Import) -> bool {
+    let plain = |word: &str| word.chars().all(|c| c.is_alphanumeric() || c == '_');
+    let understood = [&one.path, &one.name]
+        .iter()
+        .all(|word| !word.is_empty() && plain(word));
+    one.kind == "pub" && !(understood && one.alias == one.name)
+}
+
+fn odd_lines(path: &str, source: &str) -> Vec<String> {
+    let lines = source.lines().map(str::trim).filter(|line| is_odd(line));
+    let uses = imports(source).into_iter().filter(is_odd_use);
+    let uses = uses.map(|one| format!("pub use {}::{} as {}", one.path, one.name, one.alias));
+    let odd = lines.map(str::to_string).chain(uses);
+    odd.map(|line| format!("{path}: not understood: {line}"))
+        .collect()
 }
 
 /// Adds the public functions of a library, in the order of its files. The answer is
@@ -189,6 +201,7 @@ fn of_crate(one: &Crate, all: &mut Vec<Function>) -> Vec<String> {
         odd.extend(odd_lines(&one.path(file), source));
     }
     odd.extend(functions(&one.name, main, &|_| true, all));
+    let uses = imports(main);
     for line in main.lines() {
         let open = name_after(line, "pub mod ");
         let module = match open.or(name_after(line, "mod ")) {
@@ -197,10 +210,9 @@ fn of_crate(one: &Crate, all: &mut Vec<Function>) -> Vec<String> {
         };
         let path = open.map_or(one.name.clone(), |module| format!("{}::{module}", one.name));
         let source = one.source(&format!("{module}.rt")).unwrap_or("");
-        let exported = |item: &str| {
-            let uses = format!("pub use {module}::{item};");
-            open.is_some() || main.lines().any(|line| line == uses)
-        };
+        let let_out =
+            |one: &Import, item: &str| one.kind == "pub" && one.path == module && one.name == item;
+        let exported = |item: &str| open.is_some() || uses.iter().any(|one| let_out(one, item));
         odd.extend(functions(&path, source, &exported, all));
     }
     odd
@@ -263,4 +275,65 @@ pub fn outside(all: &[Function]) -> String {
         text.push_str(&format!("| `{name}` | `{file}` | {} |\n", by.join(", ")));
     }
     text
+}
+
+#[cfg(test)]
+mod tests {
+    use super::*;
+
+    const SOURCE: &str = "\
+ghost use Rattle.std.specs.Prelude.{◌≡◌, length};
+ghost use Rattle.standard.specs.Bytes.{same as same_of};
+ghost use Rattle.arrays.specs.Least.{Least};
+ghost use Rattle.lines.specs.LineStates.{◌▸◌};
+
+// both
+#[tactic(auto)]
+pub fn copy(
+    s: &[u8],
+    out: &mut [u8],
+) -> bool
+    requires fits { length s.now ≡ length out.old }
+    ensures copied { (result, out.new)
+        ≡ same_of s.now out.old }
+    ensures least { Least (length out.new) s.now.0 }
+{
+    true
+}
+
+pub fn hidden() {}
+";
+
+    #[test]
+    fn a_contract_with_its_moments_and_names() {
+        let mut all = Vec::new();
+        let odd = functions("a", SOURCE, &|item| item != "hidden", &mut all);
+        assert_eq!(odd, ["a: hidden is pub, but not exported"]);
+        let found = &all[0];
+        assert_eq!(found.name, "a::copy");
+        assert_eq!(found.parameters, ["s", "out"]);
+        assert_eq!(found.requires, ["length s ≡ length out"]);
+        let ensures = ["(result, out′) ≡ same s out", "Least (length out′) s.0"];
+        assert_eq!(found.ensures, ensures);
+        let least = (
+            "Least".to_string(),
+            "crates/arrays/specs/Least.antt".to_string(),
+        );
+        assert_eq!(found.elsewhere, [least]);
+        let faults = [
+            "a::copy: a requires, or no ensures",
+            "a::hidden: a requires, or no ensures",
+        ];
+        assert_eq!(check(&all), (0, faults.map(str::to_string).to_vec()));
+    }
+
+    #[test]
+    fn only_plain_lines_let_something_out() {
+        let odd = |line: &str| odd_lines("a", line).len();
+        assert_eq!(odd("pub use joins::{join, part};"), 0);
+        assert_eq!(odd("pub use joins::inner::join;"), 1);
+        assert_eq!(odd("pub use joins::join as other;"), 1);
+        assert_eq!(odd("pub unsafe fn f() {}"), 1);
+        assert_eq!(odd("pub(crate) fn f() {}"), 0);
+    }
 }

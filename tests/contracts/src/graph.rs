@@ -1,5 +1,6 @@
 //! Which functions a function calls, in its own crate and in the crates below.
 
+use crate::imports::imports;
 use crate::items::{code_of, items};
 use crate::project::Crate;
 use std::collections::{BTreeMap, BTreeSet, HashMap};
@@ -14,8 +15,8 @@ pub struct Graph {
 /// The code of a function, and what surrounds it.
 struct Body<'a> {
     own: &'a Crate,
-    /// The crate of each name that the file imports.
-    imports: HashMap<&'a str, &'a str>,
+    /// The crate of each name that the file brings in.
+    owners: HashMap<String, String>,
     name: Name,
     code: String,
 }
@@ -28,14 +29,16 @@ fn called(code: &str) -> impl Iterator<Item = &str> {
     before.map(move |text| &text[text.trim_end_matches(part).len()..])
 }
 
-fn imports<'a>(own: &'a str, source: &'a str) -> HashMap<&'a str, &'a str> {
-    let imported = source.lines().filter_map(|line| {
-        let path = line.strip_prefix("use ")?.strip_suffix(';')?;
-        let (owner, rest) = path.split_once("::")?;
-        let owner = if owner == "crate" { own } else { owner };
-        Some((rest.rsplit("::").next()?, owner))
-    });
-    imported.collect()
+/// The crate of each name that a file brings in.
+fn owners(own: &str, source: &str) -> HashMap<String, String> {
+    let code = imports(source)
+        .into_iter()
+        .filter(|one| one.kind.is_empty());
+    let owner = |path: &str| match path.split("::").next() {
+        Some("crate") | None => own.to_string(),
+        Some(first) => first.to_string(),
+    };
+    code.map(|one| (one.alias, owner(&one.path))).collect()
 }
 
 fn bodies(crates: &[Crate]) -> Vec<Body<'_>> {
@@ -45,7 +48,7 @@ fn bodies(crates: &[Crate]) -> Vec<Body<'_>> {
             for item in items(source).iter().filter(|item| item.kind == "fn") {
                 found.push(Body {
                     own,
-                    imports: imports(&own.name, source),
+                    owners: owners(&own.name, source),
                     name: format!("{}::{}", own.name, item.name),
                     code: code_of(source, &item.name).unwrap_or_default(),
                 });
@@ -58,7 +61,7 @@ fn bodies(crates: &[Crate]) -> Vec<Body<'_>> {
 impl Body<'_> {
     /// The crate that a name of the file comes from.
     fn owner(&self, name: &str) -> &str {
-        self.imports.get(name).copied().unwrap_or(&self.own.name)
+        self.owners.get(name).unwrap_or(&self.own.name)
     }
 
     /// Whether a method is one of this crate or of those that it uses. Of which type it

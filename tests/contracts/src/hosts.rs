@@ -12,19 +12,23 @@ pub struct Described<'a> {
 }
 
 /// The calls of the header. A call's contract is found by its name: the term after ≡ in
-/// the file `engine`.
+/// the file `engine`, and the function's parameters, which are the call's arguments in
+/// their order. Some have other names, since `result` is a word of contracts.
 pub fn described<'a>(
     header: &'a Header,
     definitions: &Definitions,
-    contract: impl Fn(&str) -> Option<String>,
+    contract: impl Fn(&str) -> Option<(String, Vec<String>)>,
 ) -> Vec<Described<'a>> {
     let one = |call: &'a Call| {
-        let names = call.arguments.iter().map(|a| a.name().to_string());
-        let names: Vec<String> = names.collect();
-        let term = contract(&call.name).unwrap_or_default();
-        let tests = match names.is_empty() {
-            true => Tests::default(), // what takes nothing tests nothing
-            false => definitions.tests("engine", &term, &names),
+        let names: Vec<&str> = call.arguments.iter().map(Argument::name).collect();
+        let (term, parameters) = contract(&call.name).unwrap_or_default();
+        let tests = match parameters.len() == names.len() && !names.is_empty() {
+            true => {
+                let parameters = parameters.iter().map(|name| &name[..]);
+                let named: Vec<(&str, &str)> = parameters.zip(names).collect();
+                definitions.tests("engine", &term, &named)
+            }
+            false => Tests::default(), // what takes nothing tests nothing
         };
         Described { call, tests }
     };
@@ -159,17 +163,17 @@ taa1_book_answer taa1_two(const uint8_t *key, size_t key_length, uint8_t *TAA1_R
 taa1_numbers taa1_three(void);
 ";
     const REFUSALS: &str = "\
-abbrev pub wrongLength : ℕ
-wrongLength = 11
+abbrev pub wrong_length : ℕ
+wrong_length = 11
 
-abbrev pub hasLength : ℕ → List ℕ → Bool
-hasLength n xs = eqb (length xs) n
+abbrev pub has_length : ℕ → List ℕ → Bool
+has_length n xs = eqb (length xs) n
 
-unfoldable pub oneCall : List ℕ → ℕ → Value
-oneCall k n = value (first ((hasLength 16 k && leb n 31, wrongLength) ∷ []))
+unfoldable pub one_call : List ℕ → ℕ → Value
+one_call k n = value (first ((has_length 16 k && leb n 31, wrong_length) ∷ []))
 
-unfoldable pub twoCall : List ℕ → List ℕ → BookAnswer
-twoCall k out = value (first ((wrongLength) ∷ []))
+unfoldable pub two_call : List ℕ → List ℕ → BookAnswer
+two_call k out = value (first ((wrong_length) ∷ []))
 ";
 
     #[test]
@@ -185,12 +189,15 @@ twoCall k out = value (first ((wrongLength) ∷ []))
     /// test asks for; the third takes nothing, and has a wrong comment.
     #[test]
     fn rows_and_faults() {
-        let engine = "ghost use Rattle·standard.specs.Refusals.{oneCall, twoCall};";
+        let engine = "ghost use Rattle.standard.specs.Refusals.{one_call, two_call};";
         let sources = [("Refusals", REFUSALS), ("engine", engine)];
         let definitions = Definitions::read(sources.into_iter());
-        let contract = |name: &str| match name {
-            "taa1_one" => Some("oneCall key steps".to_string()),
-            _ => Some("twoCall key out".to_string()),
+        let contract = |name: &str| {
+            let (term, parameters) = match name {
+                "taa1_one" => ("one_call key n", ["key", "n"]),
+                _ => ("two_call key out", ["key", "out"]),
+            };
+            Some((term.to_string(), parameters.map(str::to_string).to_vec()))
         };
         let header = Header::read(HEADER);
         let calls = described(&header, &definitions, contract);

@@ -68,14 +68,22 @@ pub fn items(source: &str) -> Vec<Item> {
     found
 }
 
+/// Whether a line begins a clause of a contract, which may have a name:
+/// `ensures { .. }`, `requires fits { .. }`.
+pub fn is_clause(line: &str) -> bool {
+    let words = line.split_once(" {").map_or("", |(words, _)| words);
+    let (word, name) = words.split_once(' ').unwrap_or((words, "a"));
+    let is_name = name.chars().all(|c| c.is_alphanumeric() || c == '_');
+    ["requires", "ensures"].contains(&word) && is_name
+}
+
 /// Lines as code in one row: without comments, contracts and breaks.
 fn code<'a>(lines: impl Iterator<Item = &'a str>) -> String {
     let mut words = Vec::new();
     let mut contract = false;
     for line in lines {
         let line = line.split("//").next().unwrap_or("").trim();
-        let clause = line.starts_with("requires {") || line.starts_with("ensures {");
-        contract = (contract || clause) && line != "{";
+        contract = (contract || is_clause(line)) && line != "{";
         if !contract {
             words.extend(line.split_whitespace());
         }
@@ -123,8 +131,8 @@ impl Kind {
     pub const LONG: u8 = 12;
 
     pub fn size(self) -> u8
-        ensures { λ r. ⌜ r ≡ size
-            self ⌝ }
+        ensures { result ≡ size
+            self }
     {
         Self::LONG // and no other
     }
@@ -135,7 +143,8 @@ fn same() {}
 pub extern \"C\" fn taa1_size(
     a: &[u8],
 ) -> u8
-    requires { ⌜ a ≡ b ⌝ }
+    requires same_bytes { a.now ≡ b }
+    ensures { result ≡ 1 }
 {
     match a {
         _ => 1,
@@ -156,7 +165,7 @@ pub extern \"C\" fn taa1_size(
             ("Kind::LONG", 10..11),
             ("Kind::size", 12..18),
             ("same", 20..21),
-            ("taa1_size", 22..31),
+            ("taa1_size", 22..32),
         ];
         assert_eq!(found, wanted.map(|(name, at)| (name.to_string(), at)));
     }

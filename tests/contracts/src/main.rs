@@ -18,6 +18,7 @@ mod generated;
 mod graph;
 mod header;
 mod hosts;
+mod imports;
 mod items;
 mod layers;
 mod layout;
@@ -95,7 +96,7 @@ impl Sources {
             let name = format!("engine::{name}");
             let function = self.functions.iter().find(|f| f.name == name)?;
             let (_, right) = function.ensures.first()?.split_once("≡ ")?;
-            Some(right.to_string())
+            Some((right.to_string(), function.parameters.clone()))
         })
     }
 

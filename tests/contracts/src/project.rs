@@ -68,7 +68,9 @@ impl Project {
         for line in read(&root.join("crates.txt")).lines() {
             if let Some(said) = line.strip_prefix("# ") {
                 comment = said.to_string();
-            } else if let Some((name, uses)) = line.split_once(':') {
+            } else if let Some((head, uses)) = line.split_once(':') {
+                // after the name may stand what kind of crate it is
+                let name = head.split_whitespace().next().unwrap_or("");
                 let (layer, purpose) = comment.split_once(": ").unwrap_or_default();
                 let folder = root.join("crates").join(name);
                 crates.push(Crate {
