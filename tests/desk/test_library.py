@@ -71,12 +71,13 @@ class Finding(Case):
 class Making(Case):
     """./build in a small repository of its own, with stand-ins for rt and cc that say they ran."""
 
-    # No two archives are the same.
+    # It is called in a crate's folder. No two archives are the same.
     RT = """#!/bin/sh
-flock -n crates.txt echo "without the lock" >>ran
-echo "rt $*" >>ran
-mkdir -p target/staticlib
-cat crates/engine/src/*.rt /proc/sys/kernel/random/uuid >target/staticlib/libengine.a
+name=${PWD##*/}
+flock -n ../../crates.txt echo "without the lock" >>../../ran
+echo "rt $* in $name" >>../../ran
+mkdir -p out
+cat src/*.rt /proc/sys/kernel/random/uuid >out/libengine.a
 """
     CC = '#!/bin/sh\necho cc >>ran\ncp target/staticlib/libengine.a "$3"\n'
     TOOLS = (
@@ -84,7 +85,7 @@ cat crates/engine/src/*.rt /proc/sys/kernel/random/uuid >target/staticlib/libeng
         "sort", "tee",
     )  # fmt: skip
     OLD = "target/staticlib/libengine.a is missing, or not made from these sources"
-    MADE = ["rt staticlib engine", "cc"], (
+    MADE = ["rt lib in engine", "cc"], (
         f"{OLD}: proving and compiling, half a minute to some minutes; the prover's lines go to target/build.log\n"
     )
     NOTHING: tuple[list[str], str] = [], ""
@@ -161,7 +162,7 @@ cat crates/engine/src/*.rt /proc/sys/kernel/random/uuid >target/staticlib/libeng
         self.assertEqual(self.made(), self.NOTHING)
 
     def test_changed_meanwhile(self) -> None:
-        self.put("rt", self.RT + "echo more >>crates/engine/src/lib.rt\n")
+        self.put("rt", self.RT + "echo more >>src/lib.rt\n")
         self.made()
         self.put("rt", self.RT)
         self.anew()
@@ -209,19 +210,21 @@ cat crates/engine/src/*.rt /proc/sys/kernel/random/uuid >target/staticlib/libeng
         self.put("rt", "#!/bin/sh\nexit 1\n")
         for _ in range(2):
             said = self.made(1)[1].splitlines()
-            self.assertEqual(said[1:], ["build: target/staticlib/libengine.a is not made: rt staticlib engine failed"])
+            self.assertEqual(said[1:], ["build: target/staticlib/libengine.a is not made: rt failed in crates/engine"])
         self.assertEqual(self.library.read_bytes(), before)
 
     def test_progress(self) -> None:
         """A line for each crate; the prover's others are in the log, and shown of one that fails."""
-        said = 'echo "fn one: proved"; echo "rt: arrays proved"; echo "error: a goal" >&2\n'
+        proved = ("fn one: proved", "crate arrays: modules loaded=1 checked=2", "logic=proved functions=1", "error: a goal")
+        said = "".join(f'echo "{line}"\n' for line in proved)
         self.put("rt", self.RT + said)
         self.assertEqual(self.made(), (self.MADE[0], self.MADE[1] + "arrays proved\n"))
         log = self.folder / "target" / "build.log"
-        self.assertEqual(log.read_text(), "fn one: proved\nrt: arrays proved\nerror: a goal\n")
+        self.assertEqual(log.read_text(), "".join(f"{line}\n" for line in proved))
         self.source.write_text("other\n")
-        self.put("rt", "#!/bin/sh\n" + said + 'echo "rt: hurdle NOT PROVED"; exit 1\n')
-        shown = ["arrays proved", "hurdle NOT PROVED", "error: a goal", "rt: hurdle NOT PROVED"]
+        self.put("rt", "#!/bin/sh\n" + said + 'echo "fn two: proved"; echo "rt: the library hurdle did not build" >&2; exit 1\n')
+        failed = "the library hurdle did not build"
+        shown = ["arrays proved", failed, "error: a goal", f"rt: {failed}"]
         self.assertEqual(self.made(1)[1].splitlines()[1:-1], shown)
 
     def test_not_linked(self) -> None:
@@ -236,7 +239,7 @@ cat crates/engine/src/*.rt /proc/sys/kernel/random/uuid >target/staticlib/libeng
     def test_at_once(self) -> None:
         """Of several, one makes it, and the others say that they wait."""
         os.mkfifo(self.folder / "go")
-        self.put("rt", self.RT + "cat go\n")
+        self.put("rt", self.RT + "cat ../../go\n")
         waits = "rt: waiting for another rt in this repository, which holds the lock on crates.txt\n"
         self.file("ran", "")
         runs = []
@@ -255,15 +258,31 @@ cat crates/engine/src/*.rt /proc/sys/kernel/random/uuid >target/staticlib/libeng
 
     def test_use(self) -> None:
         """`./build` alone makes the archive; programs are made by name, and nothing else is."""
-        for words, status, ran in (
-            ("", 0, "rt staticlib engine\n"), ("archive", 0, ""), ("--help", 0, ""),
-            ("printtables makering", 1, "rt check printtables makering\n"), ("all", 2, ""),
+        for name in ("makering", "printtables"):
+            (self.folder / "crates" / name).mkdir()
+        program = self.RT.replace("cat src/*.rt", "cat").replace("libengine.a", "$name")
+        running = 'echo "rt: running out/$name; to give it other input, run that file yourself" >&2\n'
+        for words, status, rt, ran in (
+            ("", 0, self.RT, "rt lib in engine\n"), ("archive", 0, self.RT, ""), ("--help", 0, self.RT, ""),
+            # A program that ends with a status of its own was made, and one that did not run was not.
+            ("printtables makering", 0, program + running + "exit 2\n", "rt run in printtables\nrt run in makering\n"),
+            ("printtables makering", 0, program, ""), ("all", 2, self.RT, ""),
         ):  # fmt: skip
             with self.subTest(words):
+                self.put("rt", rt)
                 self.file("ran", "")
                 command, path = [str(self.folder / "build"), *words.split()], {"PATH": str(self.commands)}
                 done = subprocess.run(command, capture_output=True, env=path, check=False)
                 self.assertEqual((done.returncode, (self.folder / "ran").read_text()), (status, ran), done.stderr)
+        for name in ("makering", "printtables"):
+            (self.folder / "target" / "bin" / name).unlink()
+        self.file("ran", "")
+        self.put("rt", program + "exit 1\n")
+        command = [str(self.folder / "build"), "printtables", "makering"]
+        done = subprocess.run(command, capture_output=True, env={"PATH": str(self.commands)}, check=False, text=True)
+        self.assertEqual((done.returncode, (self.folder / "ran").read_text()), (1, "rt run in printtables\n"))
+        said = "build: target/bin/printtables is not made: rt failed in crates/printtables\n"
+        self.assertTrue(done.stderr.endswith(said), done.stderr)
 
     def test_desk(self) -> None:
         """The desk has it made, once in a process, unless another library is used."""
