@@ -1,17 +1,14 @@
-//! The proofs that docs/PROVING.md explains line by line: what it quotes stands in the crate.
+//! The proof that docs/PROVING.md explains line by line: what it quotes stands in the crate.
 
 use crate::project::{read, section};
 use std::path::Path;
 
 const HEADING: &str = "## A proof file, line by line\n";
-const CRATE: &str = "crates/arrays";
-const FILES: [&str; 6] = [
-    "src/parts.rt",
-    "src/xors.rt",
-    "proofs/parts/copy/Invariants.antt",
-    "proofs/xors/xor_into/Invariants.antt",
-    "proofs/xors/xor_into/Answers.antt",
-    "proofs/joins/join/Answers.antt",
+const CRATE: &str = "crates/diffusion";
+const FILES: [&str; 3] = [
+    "src/lib.rt",
+    "proofs/count/Invariants.antt",
+    "proofs/count/Answers.antt",
 ];
 
 /// Whether each indented line stands in one of the files. One that has `..` leaves
