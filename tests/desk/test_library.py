@@ -264,7 +264,7 @@ cat src/*.rt /proc/sys/kernel/random/uuid >out/libengine.a
         running = 'echo "rt: running out/$name; to give it other input, run that file yourself" >&2\n'
         for words, status, rt, ran in (
             ("", 0, self.RT, "rt lib in engine\n"), ("archive", 0, self.RT, ""), ("--help", 0, self.RT, ""),
-            # A program that ends with a status of its own was made, and one that did not run was not.
+            # The status is the program's own.
             ("printtables makering", 0, program + running + "exit 2\n", "rt run in printtables\nrt run in makering\n"),
             ("printtables makering", 0, program, ""), ("all", 2, self.RT, ""),
         ):  # fmt: skip
@@ -272,8 +272,9 @@ cat src/*.rt /proc/sys/kernel/random/uuid >out/libengine.a
                 self.put("rt", rt)
                 self.file("ran", "")
                 command, path = [str(self.folder / "build"), *words.split()], {"PATH": str(self.commands)}
-                done = subprocess.run(command, capture_output=True, env=path, check=False)
+                done = subprocess.run(command, capture_output=True, env=path, check=False, text=True)
                 self.assertEqual((done.returncode, (self.folder / "ran").read_text()), (status, ran), done.stderr)
+        # One that was not run was not made.
         for name in ("makering", "printtables"):
             (self.folder / "target" / "bin" / name).unlink()
         self.file("ran", "")
