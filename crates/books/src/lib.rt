@@ -43,12 +43,14 @@ fn book_call(direction: Direction, ring: &[u8], book: &[u8], out: &mut [u8]) -> 
     }
 }
 
+#[tactic(auto, unfolding(standard::specs::Books::seal_book))]
 pub fn seal_book(ring: &[u8], plain: &[u8], out: &mut [u8]) -> CountedAnswer
     ensures { (result, out.new) ≡ seal_book ring.now plain.now out.old }
 {
     book_call(Direction::Sealing, ring, plain, out)
 }
 
+#[tactic(auto, unfolding(standard::specs::Books::open_book))]
 pub fn open_book(ring: &[u8], sealed: &[u8], out: &mut [u8]) -> CountedAnswer
     ensures { (result, out.new) ≡ open_book ring.now sealed.now out.old }
 {
