@@ -1,10 +1,18 @@
 -- What a read leaves in the buffer that is lent to it. The bytes counted come from the system, and no contract knows them.
-use Rattle.std.specs.Prelude.{true, false, List, ◌≡◌, ℕ, drop}
-use Rattle.io.specs.Counts.{IsPrefixLen}
+use Rattle.std.specs.Prelude.{true, false, List, Result, Ok, Err, ◌≡◌, ℕ, ◌≤◌, length, take, drop}
 use Rattle.standard.specs.Bytes.{zeros}
 use Rattle.standard.specs.Sizes.{ring_size}
 use Rattle.programs.specs.declared.Input.{Input}
 use Rattle.programs.specs.declared.RingInput.{RingInput}
+
+-- `&xs[..n]` lies within xs, and has n bytes
+abbrev pub IsPrefixLen : ℕ → List ℕ → Type 0
+IsPrefixLen n xs = (n ≤ length xs) × (n ≡ length (take n xs))
+
+-- what a read came to: one that fails counts no byte
+abbrev pub input_of : {E : Type 0} → Result ℕ E → Input
+input_of (Ok n) = record { len = n; failed = false }
+input_of (Err e) = record { len = 0; failed = true }
 
 -- pieces, one after the other: after the bytes counted the buffer is as it was; where a read fails no piece counts
 pub record Gathered (r : Input) (buf exit : List ℕ) : Type 0 where

@@ -1,33 +1,38 @@
 // What the programs share: input read to its end, output written, and a line on standard error that says what went wrong.
 #![tactic(auto)]
 
-ghost use Rattle.std.specs.Prelude.{true, false, ◌⊎◌, ◌≡◌, ◌≤◌, eqb, length};
-ghost use Rattle.io.specs.Counts.{IsPrefixLen};
+ghost use Rattle.std.specs.Prelude.{true, ◌⊎◌, ◌≡◌, ◌≤◌, eqb, length, take, IfOk, OnOk};
+ghost use Rattle.std.specs.Io.KnownBytes.{Appends};
 ghost use Rattle.standard.specs.Bytes.{same as same_of};
 ghost use Rattle.standard.specs.Lines.{ascii};
 ghost use Rattle.lines.specs.LineStates.{empty_line, ◌▸◌};
-ghost use Rattle.programs.specs.Reading.{Gathered, Read, RingRead};
+ghost use Rattle.programs.specs.Reading.{input_of, Gathered, Read, RingRead};
 
 use arrays::{copy, same};
-use libc::{STDERR_FILENO, STDIN_FILENO, STDOUT_FILENO};
 use lines::{Line, ROOM};
 use reports::{report, report_counted};
 use standard::{BookAnswer, CountedAnswer, MOST_RECORDS, RING, RingBytes, SEALED_RECORD};
+use std::env::FillError;
+use std::fmt::InlineText;
+use std::fs::File;
+use std::io;
+use std::io::{ErrorKind, Write};
+use std::rt::Env;
 
 // What was read: how many bytes, and whether reading failed. Standard error then has a line about it.
-#[derive(Drop)]
+#[derive(Clone, Copy)]
 pub struct Input {
     pub len: usize,
     pub failed: bool,
 }
 
-const FAILED: Input = Input {
+pub const FAILED: Input = Input {
     len: 0,
     failed: true,
 };
 
 // The bytes of a ring, as far as they were read.
-#[derive(Drop)]
+#[derive(Clone, Copy)]
 pub struct RingInput {
     pub ring: RingBytes,
     pub len: usize,
@@ -37,125 +42,194 @@ pub struct RingInput {
 // The longest input that a program has room for: a byte more than the longest sealed book.
 const LONGEST: usize = SEALED_RECORD * MOST_RECORDS + 1;
 
+// The bytes of a piece of input, and those of an argument. Linux takes no longer path.
+const PIECE: usize = 4096;
+
+// The system's numbers for an argument that is missing, one that is too long, and a path that is not in UTF-8.
+const EINVAL: i32 = 22;
+
+const ENAMETOOLONG: i32 = 36;
+
+const EILSEQ: i32 = 84;
+
+// The most bytes of an error's text.
+const ERROR_TEXT: usize = 320;
+
 fn least(a: usize, b: usize) -> usize
     ensures { (result ≤ a) × (result ≤ b) }
 {
     if a < b { a } else { b }
 }
 
-// One read. Of the bytes after those counted the system promises nothing.
-fn read_some(fd: i32, bytes: &mut [u8]) -> Input
-    ensures { IsPrefixLen result.len bytes.new × (result.len ≤ length bytes.old) × (result.failed ≡ true → result.len ≡ 0) }
-{
-    let got = libc::read(fd, bytes);
-    if got < 0 {
-        return FAILED;
-    }
-    Input {
-        len: io::count(got, bytes),
-        failed: false,
-    }
-}
-
 // One piece of the input, by way of an array of its own, so that the bytes after it stay as they are.
-fn read_piece(fd: i32, buf: &mut [u8]) -> Input
-    ensures { Read result buf.old buf.new }
+fn read_piece<R: io::Read>(from: &mut R, buf: &mut [u8]) -> io::Result<usize>
+    ensures { Read (input_of result) buf.old buf.new }
 {
-    let mut bytes = io::buffer();
+    let mut bytes = [0u8; PIECE];
     let most = least(buf.len(), bytes.len());
-    let piece = read_some(fd, &mut bytes[..most]);
-    let n = piece.len;
+    let n = from.read(&mut bytes[..most])?;
     copy(&bytes[..n], buf);
-    piece
+    Ok(n)
 }
 
 // Input that comes in pieces is read until it ends or the buffer is full.
-fn read_all(fd: i32, buf: &mut [u8]) -> Input
-    ensures { Gathered result buf.old buf.new }
+fn read_all<R: io::Read>(from: &mut R, buf: &mut [u8]) -> io::Result<usize>
+    ensures { Gathered (input_of result) buf.old buf.new }
 {
     let mut n = 0;
     while n < buf.len() {
-        let piece = read_piece(fd, &mut buf[n..]);
-        if piece.failed {
-            return FAILED;
+        let m = read_piece(from, &mut buf[n..])?;
+        if m == 0 {
+            return Ok(n);
         }
-        if piece.len == 0 {
-            return Input {
-                len: n,
-                failed: false,
-            };
-        }
-        n += piece.len;
+        n += m;
     }
-    Input {
-        len: n,
-        failed: false,
-    }
+    Ok(n)
 }
 
 // The same by way of an array of the longest input, copied once at the end: where a read fails, the pieces before it do not reach the buffer.
-fn read_whole(fd: i32, buf: &mut [u8]) -> Input
-    ensures { Read result buf.old buf.new }
+fn read_whole<R: io::Read>(from: &mut R, buf: &mut [u8]) -> io::Result<usize>
+    ensures { Read (input_of result) buf.old buf.new }
 {
     let mut bytes = [0u8; LONGEST];
     let most = least(buf.len(), bytes.len());
-    let input = read_all(fd, &mut bytes[..most]);
-    let len = input.len;
-    copy(&bytes[..len], buf);
-    input
+    let n = read_all(from, &mut bytes[..most])?;
+    copy(&bytes[..n], buf);
+    Ok(n)
+}
+
+// All the bytes, or the reason why not. A write that takes none has failed.
+fn write_whole<W: Write>(to: &mut W, bytes: &[u8]) -> io::Result<()>
+    ensures { OnOk result (Appends (W.contents to.old) (W.contents to.new) bytes.now) }
+{
+    let mut done = 0;
+    while done < bytes.len() {
+        let n = to.write(&bytes[done..])?;
+        if n == 0 {
+            return Err(io::Error::from(ErrorKind::WriteZero));
+        }
+        done += n;
+    }
+    Ok(())
+}
+
+// The first n bytes, or the reason why not. `Ok` only where there are so many.
+fn put<W: Write>(to: &mut W, bytes: &[u8], n: usize) -> io::Result<()>
+    ensures within { OnOk result (n ≤ length bytes.now) }
+    ensures written { OnOk result (Appends (W.contents to.old) (W.contents to.new) (take n bytes.now)) }
+{
+    if n > bytes.len() {
+        return Err(io::Error::from(ErrorKind::InvalidInput));
+    }
+    write_whole(to, &bytes[..n])
+}
+
+// Words to standard error. If they cannot be written, there is no place left to say so.
+pub fn write_error(rt: &HostRuntime, words: &[u8]) {
+    let _ = write_whole(&mut rt.stderr(), words);
+}
+
+// An error's text without its number.
+fn reason(text: &str) -> &str {
+    match text.rsplit_once(" (os error ") {
+        Some((words, _)) => words,
+        None => text,
+    }
 }
 
 // Program, what it could not do, and the system's reason.
-fn fail(program: &[u8], what: &[u8]) {
-    io::write_all(STDERR_FILENO, program);
-    io::write_all(STDERR_FILENO, b": ");
-    os::fail(what);
+fn fail(rt: &HostRuntime, program: &[u8], what: &[u8], error: io::Error) {
+    let text = InlineText::<ERROR_TEXT>::of(error);
+    write_error(rt, program);
+    write_error(rt, b": ");
+    write_error(rt, what);
+    write_error(rt, b": ");
+    write_error(rt, reason(text.as_str()).as_bytes());
+    write_error(rt, b"\n");
 }
 
-pub fn read_input(program: &[u8], buf: &mut [u8]) -> Input
-    ensures { Read result buf.old buf.new }
+// What a read came to. Where it failed, a line on standard error says why.
+fn told(rt: &HostRuntime, program: &[u8], what: &[u8], read: io::Result<usize>) -> Input
+    ensures { result ≡ input_of read }
 {
-    let input = read_whole(STDIN_FILENO, buf);
-    if input.failed {
-        fail(program, b"standard input");
+    match read {
+        Ok(len) => Input { len, failed: false },
+        Err(error) => {
+            fail(rt, program, what, error);
+            FAILED
+        }
     }
-    input
 }
 
-fn read_file(program: &[u8], path: &[u8], buf: &mut [u8]) -> Input
+pub fn read_input(rt: &HostRuntime, program: &[u8], buf: &mut [u8]) -> Input
     ensures { Read result buf.old buf.new }
 {
-    let fd = os::open_read(path);
-    if fd < 0 {
-        fail(program, path);
-        return FAILED;
+    let read = read_whole(&mut rt.stdin(), buf);
+    told(rt, program, b"standard input", read)
+}
+
+fn open(rt: &HostRuntime, path: &[u8]) -> io::Result<File> {
+    match str::from_utf8(path) {
+        Ok(text) => File::open(rt, text),
+        Err(_) => Err(io::Error::from_raw_os_error(EILSEQ)),
     }
-    let input = read_whole(fd, buf);
-    if input.failed {
-        fail(program, path);
+}
+
+fn read_path(rt: &HostRuntime, path: &[u8], buf: &mut [u8]) -> io::Result<usize>
+    ensures { Read (input_of result) buf.old buf.new }
+{
+    let mut file = open(rt, path)?;
+    read_whole(&mut file, buf)
+}
+
+fn read_file(rt: &HostRuntime, program: &[u8], path: &[u8], buf: &mut [u8]) -> Input
+    ensures { Read result buf.old buf.new }
+{
+    let read = read_path(rt, path, buf);
+    told(rt, program, path, read)
+}
+
+// Argument i, where it is there and fits. The program's own name is argument 0.
+fn argument(rt: &HostRuntime, i: usize, buf: &mut [u8]) -> io::Result<usize>
+    ensures { IfOk result (λ n. n ≤ length buf.new) }
+{
+    match rt.arg(i, buf) {
+        Ok(n) => Ok(n),
+        Err(FillError::TooLong) => Err(io::Error::from_raw_os_error(ENAMETOOLONG)),
+        Err(FillError::NotPresent) => Err(io::Error::from_raw_os_error(EINVAL)),
     }
-    libc::close(fd);
-    input
 }
 
 // The file that the first argument names.
-pub fn read_argument(program: &[u8], buf: &mut [u8]) -> Input
+pub fn read_argument(rt: &HostRuntime, program: &[u8], buf: &mut [u8]) -> Input
     ensures { Read result buf.old buf.new }
 {
-    let mut path = io::buffer();
-    let n = os::arg(1, &mut path);
-    if os::errno() != 0 {
-        fail(program, b"first argument");
-        return FAILED;
+    let mut path = [0u8; PIECE];
+    match argument(rt, 1, &mut path) {
+        Ok(n) => read_file(rt, program, &path[..n], buf),
+        Err(error) => {
+            fail(rt, program, b"first argument", error);
+            FAILED
+        }
     }
-    read_file(program, &path[..n], buf)
+}
+
+// Whether there is an argument i, however long. The program's own name is argument 0.
+pub fn has_argument(rt: &HostRuntime, i: usize) -> bool {
+    match rt.arg(i, &mut []) {
+        Err(FillError::NotPresent) => false,
+        _ => true,
+    }
+}
+
+fn has_one_argument(rt: &HostRuntime) -> bool {
+    has_argument(rt, 1) && !has_argument(rt, 2)
 }
 
 // A line to standard error.
-fn write_stderr(l: Line) -> bool {
-    let n = l.size();
+fn write_line(rt: &HostRuntime, l: Line) {
     let bytes = l.bytes;
-    put(STDERR_FILENO, &bytes, n)
+    let _ = put(&mut rt.stderr(), &bytes, l.size());
 }
 
 fn usage(program: &[u8]) -> Line {
@@ -176,63 +250,57 @@ fn ring_input(ring: RingBytes, input: Input) -> RingInput
 }
 
 // The ring, from the first bytes of the file that the only argument names. A shorter file is left to the calls, which refuse it.
-pub fn read_ring(program: &[u8]) -> RingInput
+pub fn read_ring(rt: &HostRuntime, program: &[u8]) -> RingInput
     ensures { RingRead result }
 {
     let mut ring = [0u8; RING];
-    if os::arg_count() != 2 {
-        write_stderr(usage(program));
+    if !has_one_argument(rt) {
+        write_line(rt, usage(program));
         return ring_input(ring, FAILED);
     }
-    let input = read_argument(program, &mut ring);
+    let input = read_argument(rt, program, &mut ring);
     ring_input(ring, input)
 }
 
-// The first n bytes. True only where there are so many.
-fn put(fd: i32, bytes: &[u8], n: usize) -> bool
-    ensures { result ≡ true → n ≤ length bytes.now }
-{
-    if n > bytes.len() {
-        return false;
-    }
-    io::write_all(fd, &bytes[..n])
-}
-
 // The first n bytes to standard output. True only where there are so many, and all were taken.
-pub fn write_output(program: &[u8], bytes: &[u8], n: usize) -> bool
+pub fn write_output(rt: &HostRuntime, program: &[u8], bytes: &[u8], n: usize) -> bool
     ensures { result ≡ true → n ≤ length bytes.now }
 {
-    let written = put(STDOUT_FILENO, bytes, n);
-    if !written {
-        fail(program, b"standard output");
+    match put(&mut rt.stdout(), bytes, n) {
+        Ok(()) => true,
+        Err(error) => {
+            fail(rt, program, b"standard output", error);
+            false
+        }
     }
-    written
 }
 
 // The first n bytes of a line about an answer, on standard error. Whether there was no refusal.
-fn report_line(refusal: u32, line: &[u8], n: usize) -> bool
+fn report_line(rt: &HostRuntime, refusal: u32, line: &[u8], n: usize) -> bool
     ensures { result ≡ eqb refusal 0 }
 {
-    put(STDERR_FILENO, line, n);
+    let _ = put(&mut rt.stderr(), line, n);
     refusal == 0
 }
 
 // The line about an answer, on standard error. Whether it is no refusal.
-pub fn report_answer(answer: BookAnswer) -> bool
+pub fn report_answer(rt: &HostRuntime, answer: BookAnswer) -> bool
     ensures { result ≡ eqb answer.refusal 0 }
 {
+    let refusal = answer.refusal;
     let mut line = [0u8; ROOM];
     let reported = report(answer, &mut line);
-    report_line(answer.refusal, &line, reported.written)
+    report_line(rt, refusal, &line, reported.written)
 }
 
 // The same for sealing and opening a book, with the block cipher runs.
-pub fn report_counted_answer(answer: CountedAnswer) -> bool
+pub fn report_counted_answer(rt: &HostRuntime, answer: CountedAnswer) -> bool
     ensures { result ≡ eqb answer.refusal 0 }
 {
+    let refusal = answer.refusal;
     let mut line = [0u8; ROOM];
     let reported = report_counted(answer, &mut line);
-    report_line(answer.refusal, &line, reported.written)
+    report_line(rt, refusal, &line, reported.written)
 }
 
 // The program's name and the release.
@@ -249,24 +317,26 @@ fn is_version(argument: &[u8]) -> bool
 }
 
 // Whether `--version` is the only argument.
-fn version_asked() -> bool {
-    if os::arg_count() != 2 {
+fn version_asked(rt: &HostRuntime) -> bool {
+    if !has_one_argument(rt) {
         return false;
     }
-    let mut argument = io::buffer();
-    let n = os::arg(1, &mut argument);
-    is_version(&argument[..n])
+    let mut bytes = [0u8; PIECE];
+    match argument(rt, 1, &mut bytes) {
+        Ok(n) => is_version(&bytes[..n]),
+        Err(_) => false,
+    }
 }
 
 // What was written about the release, on standard output: a line if `--version` is the only argument, else nothing.
-pub fn answer_version(program: &[u8]) -> Line
+pub fn answer_version(rt: &HostRuntime, program: &[u8]) -> Line
     ensures { (result ≡ empty_line) ⊎ (result ≡ empty_line ▸ program.now ▸ ascii " 1.1.0\n") }
 {
-    if !version_asked() {
+    if !version_asked(rt) {
         return Line::empty();
     }
     let l = version_line(program);
     let bytes = l.bytes;
-    write_output(program, &bytes, l.size());
+    write_output(rt, program, &bytes, l.size());
     l
 }
