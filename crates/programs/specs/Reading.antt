@@ -1,5 +1,6 @@
 -- What a read leaves in the buffer that is lent to it. The bytes counted come from the system, and no contract knows them.
-use Rattle.std.specs.Prelude.{true, false, List, Result, Ok, Err, ◌≡◌, ℕ, ◌≤◌, length, take, drop}
+use Rattle.std.specs.Prelude.{true, false, List, Option, Result, Ok, Err, ◌≡◌, ℕ, ◌<◌, ◌≤◌, length, take, drop}
+use Rattle.std.specs.Io.KnownBytes.{Consumes, IsAtEnd}
 use Rattle.standard.specs.Bytes.{zeros}
 use Rattle.standard.specs.Sizes.{ring_size}
 use Rattle.programs.specs.declared.Input.{Input}
@@ -30,3 +31,7 @@ pub record Read (r : Input) (buf exit : List ℕ) : Type 0 where
 -- a ring is read over zeros, as far as the file goes
 abbrev pub RingRead : RingInput → Type 0
 RingRead r = Read (record { len = r.len; failed = r.failed }) (zeros ring_size) r.ring
+
+-- where a reader's bytes are known: the n counted are the first of those that were left, and none is left if they are fewer than there was room for
+abbrev pub ReadToEnd : Option (List ℕ) → Option (List ℕ) → ℕ → List ℕ → ℕ → Type 0
+ReadToEnd old new room exit n = Consumes old new (take n exit) × (n < room → IsAtEnd new)

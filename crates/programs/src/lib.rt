@@ -1,12 +1,13 @@
 // What the programs share: input read to its end, output written, and a line on standard error that says what went wrong.
 #![tactic(auto)]
 
-ghost use Rattle.std.specs.Prelude.{true, ◌⊎◌, ◌≡◌, ◌≤◌, eqb, length, take, IfOk, OnOk};
-ghost use Rattle.std.specs.Io.KnownBytes.{Appends};
+ghost use Rattle.std.specs.Prelude.{true, ◌⊎◌, ◌≡◌, ◌≤◌, eqb, length, min, take, IfOk, OnOk};
+ghost use Rattle.std.specs.Io.{StartsWith};
+ghost use Rattle.std.specs.Io.KnownBytes.{Appends, ReadConsumes};
 ghost use Rattle.standard.specs.Bytes.{same as same_of};
 ghost use Rattle.standard.specs.Lines.{ascii};
 ghost use Rattle.lines.specs.LineStates.{empty_line, ◌▸◌};
-ghost use Rattle.programs.specs.Reading.{input_of, Gathered, Read, RingRead};
+ghost use Rattle.programs.specs.Reading.{input_of, Gathered, Read, RingRead, ReadToEnd};
 
 use arrays::{copy, same};
 use lines::{Line, ROOM};
@@ -56,14 +57,15 @@ const EILSEQ: i32 = 84;
 const ERROR_TEXT: usize = 320;
 
 fn least(a: usize, b: usize) -> usize
-    ensures { (result ≤ a) × (result ≤ b) }
+    ensures { result ≡ min a b }
 {
     if a < b { a } else { b }
 }
 
 // One piece of the input, by way of an array of its own, so that the bytes after it stay as they are.
 fn read_piece<R: io::Read>(from: &mut R, buf: &mut [u8]) -> io::Result<usize>
-    ensures { Read (input_of result) buf.old buf.new }
+    ensures left { Read (input_of result) buf.old buf.new }
+    ensures known { ReadConsumes (R.remaining from.old) (R.remaining from.new) result buf.new }
 {
     let mut bytes = [0u8; PIECE];
     let most = least(buf.len(), bytes.len());
@@ -74,7 +76,8 @@ fn read_piece<R: io::Read>(from: &mut R, buf: &mut [u8]) -> io::Result<usize>
 
 // Input that comes in pieces is read until it ends or the buffer is full.
 fn read_all<R: io::Read>(from: &mut R, buf: &mut [u8]) -> io::Result<usize>
-    ensures { Gathered (input_of result) buf.old buf.new }
+    ensures left { Gathered (input_of result) buf.old buf.new }
+    ensures known { IfOk result (ReadToEnd (R.remaining from.old) (R.remaining from.new) (length buf.new) buf.new) }
 {
     let mut n = 0;
     while n < buf.len() {
@@ -89,12 +92,13 @@ fn read_all<R: io::Read>(from: &mut R, buf: &mut [u8]) -> io::Result<usize>
 
 // The same by way of an array of the longest input, copied once at the end: where a read fails, the pieces before it do not reach the buffer.
 fn read_whole<R: io::Read>(from: &mut R, buf: &mut [u8]) -> io::Result<usize>
-    ensures { Read (input_of result) buf.old buf.new }
+    ensures left { Read (input_of result) buf.old buf.new }
+    ensures known { IfOk result (ReadToEnd (R.remaining from.old) (R.remaining from.new) (min (length buf.new) LONGEST) buf.new) }
 {
-    let mut bytes = [0u8; LONGEST];
-    let most = least(buf.len(), bytes.len());
-    let n = read_all(from, &mut bytes[..most])?;
-    copy(&bytes[..n], buf);
+    let mut all = [0u8; LONGEST];
+    let most = least(buf.len(), all.len());
+    let n = read_all(from, &mut all[..most])?;
+    copy(&all[..n], buf);
     Ok(n)
 }
 
@@ -130,7 +134,9 @@ pub fn write_error(rt: &HostRuntime, words: &[u8]) {
 }
 
 // An error's text without its number.
-fn reason(text: &str) -> &str {
+fn reason(text: &str) -> &str
+    ensures { StartsWith text.now result.now }
+{
     match text.rsplit_once(" (os error ") {
         Some((words, _)) => words,
         None => text,
