@@ -1,17 +1,17 @@
 -- A sheet's records and values as code comes to them.
-use Rattle.standard.proofs.Prelude.{◌≡◌, refl, sym, ap, ap₂, ◌∙◌, Bool, true, false, ◌&&◌, List, ◌++◌, ℕ, ◌-◌, ◌*◌, ◌/◌, ◌≤◌, ◌<◌, eqb, ltb, length}
-use Rattle.standard.proofs.Prelude.{◌⊎◌, inl, inr, eq-eqb, ne_eqb, ltb-true}
+use Rattle.standard.proofs.Prelude.{◌≡◌, sym, ap, ◌∙◌, true, false, List, ℕ, ◌-◌, ◌<◌, length}
+use Rattle.standard.proofs.Prelude.{◌⊎◌, inl, inr, eq-eqb, ne_eqb}
 use Rattle.lists.proofs.WalkLaws.{PrefixWritten, prefix_at}
 use Rattle.lists.specs.Walks.{Clean}
-use Rattle.standard.proofs.BytesLaws.{spelled, and_split}
+use Rattle.standard.proofs.BytesLaws.{spelled}
 use Rattle.standard.proofs.LineageLaws.{from_same, value_length, parents_before, value_step}
-use Rattle.standard.specs.Bytes.{◌!◌, table, part, choose}
+use Rattle.standard.specs.Bytes.{◌!◌, table, part}
 use Rattle.standard.specs.Keys.{core, ta71}
-use Rattle.standard.specs.Lineage.{operation, parent1, parent2, derived_length, key_length, filled, parent_tests, lineage_fault}
+use Rattle.standard.specs.Lineage.{operation, parent1, parent2, filled, parent_tests, lineage_fault}
 use Rattle.standard.specs.Lineage.{derived, value_from, value_of}
 use Rattle.standard.specs.Lists.{record_at}
 use Rattle.standard.specs.Mixing.{tb4}
-use Rattle.standard.specs.Refusals.{wrong_filling, wrong_parent, parent_length, first}
+use Rattle.standard.specs.Refusals.{wrong_filling, first}
 use Rattle.standard.specs.Sizes.{sheet_size, value_size}
 use Rattle.lineage.specs.SheetValues.{from_values}
 
@@ -32,28 +32,6 @@ module _ (s : List ℕ) (i : ℕ) where
   pub fault_parents : filled p ≡ true → (operation p ≡ 0 → ⊥) → first (parent_tests s p i) ≡ lineage_fault s i
   unfolding lineage_fault
   fault_parents e z = rw (e, ne_eqb (operation p) 0 z)
-
-pub both_below : (a b i : ℕ) → ltb a i && ltb b i ≡ true → (a < i) × (b < i)
-both_below a b i t = let q = and_split _ _ t in (ltb-true _ _ q.0, ltb-true _ _ q.1)
-
--- 15, by the parents' indexes a and b, then 16, by their lengths k and l and what the operation takes, d
-module _ (s p : List ℕ) (i : ℕ) {a b : ℕ} (ea : a ≡ parent1 p) (eb : b ≡ parent2 p) where
-  before_test : ltb a i && ltb b i ≡ (ltb (parent1 p) i && ltb (parent2 p) i)
-  before_test = ap₂ (λ (x y : ℕ). ltb x i && ltb y i) ea eb
-
-  pub not_before : ltb a i && ltb b i ≡ false → wrong_parent ≡ first (parent_tests s p i)
-  not_before t = rw (sym before_test ∙ t)
-
-  module _ (t : ltb a i && ltb b i ≡ true) {k l d : ℕ} {q r : List ℕ} (ek : k ≡ key_length q) (eq : q ≡ record_at sheet_size s a)
-      (el : l ≡ key_length r) (er : r ≡ record_at sheet_size s b) (ed : d ≡ derived_length (operation p)) where
-    fit_test : eqb k d && eqb l 10
-        ≡ (eqb (key_length (record_at sheet_size s (parent1 p))) (derived_length (operation p)) && eqb (key_length (record_at sheet_size s (parent2 p))) 10)
-    fit_test =
-        ap₂ (λ (x y : Bool). x && y) (ap₂ eqb (ek ∙ ap key_length (eq ∙ ap (record_at sheet_size s) ea)) ed)
-        (ap (λ (x : ℕ). eqb x 10) (el ∙ ap key_length (er ∙ ap (record_at sheet_size s) eb)))
-
-    pub lengths_tested : choose (eqb k d && eqb l 10) 0 parent_length ≡ first (parent_tests s p i)
-    lengths_tested = rw (sym before_test ∙ t, ← fit_test)
 
 -- ---- the value o of an operation k, as code makes it of two values and the ten bytes t of the second
 
