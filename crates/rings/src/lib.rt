@@ -14,6 +14,7 @@ pub use sitting::sitting_ring;
 use standard::{RingInputs, RingMade, WRONG_LENGTH, WRONG_SIDES};
 
 // On typed arrays.
+#[tactic(auto, unfolding(standard::specs::Keys::ring_of))]
 pub fn ring_of(x: RingInputs) -> RingMade
     ensures { result ≡ ring_of x }
 {

@@ -10,6 +10,7 @@ use standard::{Authentication, RingInputs, RingMade};
 
 // One half of the recipe: a session key from root and seed, and what TA12 (or TA22) answers under it. A half that does not run answers zero bytes,
 // with no cipher run.
+#[tactic(auto, unfolding(standard::specs::Keys::ta12_call))]
 fn half(
     runs: bool,
     root: [u8; 16],
