@@ -241,7 +241,7 @@ CLAIMS: tuple[Claim, ...] = (
         "Kinds 3 and 4 open the same texts, to the same twelve bytes.",
         "claims",
         "FalseClaims.ThreeAndFour",
-        "KindClaims.three-and-four",
+        "KindClaims.three_and_four",
     ),
     Claim(
         "1b",
@@ -254,7 +254,7 @@ CLAIMS: tuple[Claim, ...] = (
         " different entries.",
         "claims",
         "FalseClaims.AsThreeKinds",
-        "KindClaims.as-three-kinds",
+        "KindClaims.as_three_kinds",
     ),
     Claim(
         "1c",
@@ -267,7 +267,7 @@ CLAIMS: tuple[Claim, ...] = (
         " all six kinds.",
         "example_claims",
         "Examples.OtherKinds",
-        "ComputedClaims.other-kinds",
+        "ComputedClaims.other_kinds",
     ),
     Claim(
         "1d",
@@ -280,7 +280,7 @@ CLAIMS: tuple[Claim, ...] = (
         " to two keys each.",
         "example_claims",
         "Examples.ConfusedKinds",
-        "ComputedClaims.confused-kinds",
+        "ComputedClaims.confused_kinds",
     ),
     Claim(
         "1e",
@@ -292,7 +292,7 @@ CLAIMS: tuple[Claim, ...] = (
         "",
         "book_claims",
         "RecordSentences.SameOAndG",
-        "RecordClaims.same-o-and-g",
+        "RecordClaims.same_o_and_g",
     ),
     Claim(
         "1f",
@@ -305,7 +305,7 @@ CLAIMS: tuple[Claim, ...] = (
         " as this key does with the other.",
         "claims",
         "FalseClaims.KeyAndVersion",
-        "KeyClaims.key-and-version",
+        "KeyClaims.key_and_version",
     ),
     Claim(
         "1g",
@@ -318,7 +318,7 @@ CLAIMS: tuple[Claim, ...] = (
         " 1 nothing is said here.",
         "claims",
         "FalseClaims.TwoKeys",
-        "KeyClaims.two-keys",
+        "KeyClaims.two_keys",
     ),
     Claim(
         "1h",
@@ -331,7 +331,7 @@ CLAIMS: tuple[Claim, ...] = (
         "There are other rings that give them, with other versions.",
         "claims",
         "FalseClaims.RingAndVersions",
-        "RingClaims.ring-and-versions",
+        "RingClaims.ring_and_versions",
     ),
     Claim(
         "1i",
@@ -344,7 +344,7 @@ CLAIMS: tuple[Claim, ...] = (
         " opens with every other D in it, too, to the same book.",
         "book_claims",
         "BookSentences.ManyRings",
-        "BookClaims.many-rings",
+        "BookClaims.many_rings",
     ),
     Claim(
         "1j",
@@ -358,7 +358,7 @@ CLAIMS: tuple[Claim, ...] = (
         "Under two rings a text may open to two entries.",
         "claims",
         "FalseClaims.TwoRings",
-        "ExampleClaims.two-rings",
+        "ExampleClaims.two_rings",
     ),
     Claim(
         "1k",
@@ -371,7 +371,7 @@ CLAIMS: tuple[Claim, ...] = (
         "With two versions a text may open to two entries.",
         "claims",
         "FalseClaims.TwoVersions",
-        "ExampleClaims.two-versions",
+        "ExampleClaims.two_versions",
     ),
     Claim(
         "1l",
@@ -397,7 +397,7 @@ CLAIMS: tuple[Claim, ...] = (
         "TA22 takes the challenge as it is.",
         "claims",
         "Variants.ChallengeReversed",
-        "VariantClaims.challenge-reversed",
+        "VariantClaims.challenge_reversed",
     ),
     Claim(
         "1n",
@@ -423,7 +423,7 @@ CLAIMS: tuple[Claim, ...] = (
         "It is their sum, without the carry out of eight bits.",
         "claims",
         "Variants.LastByteXored",
-        "VariantClaims.last-byte-xored",
+        "VariantClaims.last_byte_xored",
     ),
     Claim(
         "1p",
@@ -436,7 +436,7 @@ CLAIMS: tuple[Claim, ...] = (
         " kind and version given.",
         "claims",
         "Variants.StillHolds",
-        "VariantClaims.still-holds",
+        "VariantClaims.still_holds",
     ),
     Claim(
         "2a",
@@ -460,7 +460,7 @@ CLAIMS: tuple[Claim, ...] = (
         "",
         "example_claims",
         "Examples.FBytes",
-        "ComputedClaims.f-bytes",
+        "ComputedClaims.f_bytes",
     ),
     Claim(
         "2c",
@@ -472,7 +472,7 @@ CLAIMS: tuple[Claim, ...] = (
         "Nothing undoes f; a round is undone by working f again.",
         "claims",
         "FalseClaims.FCollides",
-        "CipherClaims.f-collides",
+        "CipherClaims.f_collides",
     ),
     Claim(
         "2d",
@@ -484,7 +484,7 @@ CLAIMS: tuple[Claim, ...] = (
         "Sixteen such rounds can be undone whatever f is.",
         "claims",
         "Reasons.WhateverF",
-        "RoundClaims.whatever-f",
+        "RoundClaims.whatever_f",
     ),
     Claim(
         "2e",
@@ -497,7 +497,7 @@ CLAIMS: tuple[Claim, ...] = (
         "",
         "claims",
         "TrueClaims.CipherNotUndone",
-        "CoreClaims.cipher-not-undone",
+        "CoreClaims.cipher_not_undone",
     ),
     Claim(
         "2f",
@@ -523,7 +523,7 @@ CLAIMS: tuple[Claim, ...] = (
         "",
         "claims",
         "TrueClaims.NothingLost",
-        "CoreClaims.nothing-lost",
+        "CoreClaims.nothing_lost",
     ),
     Claim(
         "3b",
@@ -562,7 +562,7 @@ CLAIMS: tuple[Claim, ...] = (
         " zero does (3a).",
         "claims",
         "Reasons.FewerInputs",
-        "CoreClaims.fewer-inputs",
+        "CoreClaims.fewer_inputs",
     ),
     Claim(
         "3e",
@@ -575,7 +575,7 @@ CLAIMS: tuple[Claim, ...] = (
         " a zero byte have it as the dropped byte.",
         "claims",
         "FalseClaims.DroppedByte",
-        "DroppedClaims.dropped-byte",
+        "DroppedClaims.dropped_byte",
     ),
     Claim(
         "3f",
@@ -587,7 +587,7 @@ CLAIMS: tuple[Claim, ...] = (
         "Another byte there gives another left part of BL2's output.",
         "claims",
         "FalseClaims.OtherByte",
-        "DroppedClaims.other-byte",
+        "DroppedClaims.other_byte",
     ),
     Claim(
         "3g",
@@ -601,7 +601,7 @@ CLAIMS: tuple[Claim, ...] = (
         " input's last.",
         "claims",
         "FalseClaims.NotBackwards",
-        "DroppedClaims.not-backwards",
+        "DroppedClaims.not_backwards",
     ),
     Claim(
         "3h",
@@ -614,7 +614,7 @@ CLAIMS: tuple[Claim, ...] = (
         "It belongs where byte 8 was dropped.",
         "claims",
         "Variants.ZeroAtEnd",
-        "VariantClaims.zero-at-end",
+        "VariantClaims.zero_at_end",
     ),
     Claim(
         "3i",
@@ -627,7 +627,7 @@ CLAIMS: tuple[Claim, ...] = (
         "A text whose last eight bytes are zeros is the same either way.",
         "example_claims",
         "Examples.EitherWay",
-        "ComputedClaims.either-way",
+        "ComputedClaims.either_way",
     ),
     Claim(
         "4a",
@@ -639,7 +639,7 @@ CLAIMS: tuple[Claim, ...] = (
         "",
         "claims",
         "TrueClaims.SealingUndone",
-        "EntryClaims.sealing-undone",
+        "EntryClaims.sealing_undone",
     ),
     Claim(
         "4b",
@@ -651,7 +651,7 @@ CLAIMS: tuple[Claim, ...] = (
         "",
         "claims",
         "TrueClaims.EntriesApart",
-        "EntryClaims.entries-apart",
+        "EntryClaims.entries_apart",
     ),
     Claim(
         "4c",
@@ -664,7 +664,7 @@ CLAIMS: tuple[Claim, ...] = (
         " they stand and whatever their identities.",
         "claims",
         "FalseClaims.SealedTwice",
-        "IdentityClaims.sealed-twice",
+        "IdentityClaims.sealed_twice",
     ),
     Claim(
         "4d",
@@ -677,7 +677,7 @@ CLAIMS: tuple[Claim, ...] = (
         " leaves the text's first seven bytes as they were.",
         "claims",
         "FalseClaims.EveryBit",
-        "FrontClaims.every-bit",
+        "FrontClaims.every_bit",
     ),
     Claim(
         "5a",
@@ -690,7 +690,7 @@ CLAIMS: tuple[Claim, ...] = (
         "",
         "claims",
         "TrueClaims.ChecksExactly",
-        "EntryClaims.checks-exactly",
+        "EntryClaims.checks_exactly",
     ),
     Claim(
         "5b",
@@ -702,7 +702,7 @@ CLAIMS: tuple[Claim, ...] = (
         "",
         "claims",
         "TrueClaims.UnsealsAllTheSame",
-        "FlagClaims.unseals-all-the-same",
+        "FlagClaims.unseals_all_the_same",
     ),
     Claim(
         "5c",
@@ -715,7 +715,7 @@ CLAIMS: tuple[Claim, ...] = (
         "",
         "claims",
         "TrueClaims.WithoutChecks",
-        "UncheckedClaims.without-checks",
+        "UncheckedClaims.without_checks",
     ),
     Claim(
         "5d",
@@ -728,7 +728,7 @@ CLAIMS: tuple[Claim, ...] = (
         "",
         "claims",
         "TrueClaims.SevenOthers",
-        "BitsClaims.seven-others",
+        "BitsClaims.seven_others",
     ),
     Claim(
         "5e",
@@ -741,7 +741,7 @@ CLAIMS: tuple[Claim, ...] = (
         "",
         "claims",
         "TrueClaims.EightWithout",
-        "BitsClaims.eight-without",
+        "BitsClaims.eight_without",
     ),
     Claim(
         "5f",
@@ -754,7 +754,7 @@ CLAIMS: tuple[Claim, ...] = (
         " is the sealed text of no entry of theirs, key and version given.",
         "claims",
         "Variants.BitsUnchecked",
-        "BitsClaims.bits-unchecked",
+        "BitsClaims.bits_unchecked",
     ),
     Claim(
         "5g",
@@ -766,7 +766,7 @@ CLAIMS: tuple[Claim, ...] = (
         "",
         "claims",
         "TrueClaims.OneOfOutput",
-        "ChangeClaims.one-of-output",
+        "ChangeClaims.one_of_output",
     ),
     Claim(
         "5h",
@@ -779,7 +779,7 @@ CLAIMS: tuple[Claim, ...] = (
         " the top three bits of the number byte.",
         "claims",
         "FalseClaims.EqualChanges",
-        "ChangeClaims.equal-changes",
+        "ChangeClaims.equal_changes",
     ),
     Claim(
         "6a",
@@ -792,7 +792,7 @@ CLAIMS: tuple[Claim, ...] = (
         "",
         "claims",
         "TrueClaims.OneText",
-        "EntryClaims.one-text",
+        "EntryClaims.one_text",
     ),
     Claim(
         "6b",
@@ -804,7 +804,7 @@ CLAIMS: tuple[Claim, ...] = (
         "",
         "claims",
         "TrueClaims.TextsApart",
-        "EntryClaims.texts-apart",
+        "EntryClaims.texts_apart",
     ),
     Claim(
         "6c",
@@ -818,7 +818,7 @@ CLAIMS: tuple[Claim, ...] = (
         " text of no entry of that kind, key and version given.",
         "claims",
         "Reasons.OneResult",
-        "BitsClaims.one-result",
+        "BitsClaims.one_result",
     ),
     Claim(
         "6d",
@@ -832,7 +832,7 @@ CLAIMS: tuple[Claim, ...] = (
         "",
         "claims",
         "TrueClaims.HowMany",
-        "CountClaims.how-many",
+        "CountClaims.how_many_lem",
     ),
     Claim(
         "7a",
@@ -845,7 +845,7 @@ CLAIMS: tuple[Claim, ...] = (
         "",
         "claims",
         "TrueClaims.OneRecord",
-        "EntryClaims.one-record",
+        "EntryClaims.one_record_lem",
     ),
     Claim(
         "7b",
@@ -857,7 +857,7 @@ CLAIMS: tuple[Claim, ...] = (
         "",
         "claims",
         "TrueClaims.RecordAlone",
-        "EntryClaims.record-alone",
+        "EntryClaims.record_alone",
     ),
     Claim(
         "7c",
@@ -872,7 +872,7 @@ CLAIMS: tuple[Claim, ...] = (
         " opening.",
         "claims",
         "FalseClaims.IdentityFree",
-        "IdentityClaims.identity-free",
+        "IdentityClaims.identity_free",
     ),
     Claim(
         "7d",
@@ -885,7 +885,7 @@ CLAIMS: tuple[Claim, ...] = (
         " that does not open does not; of the identity nothing is said here.",
         "book_claims",
         "RecordSentences.CommonKeyFree",
-        "RecordClaims.common-key-free",
+        "RecordClaims.common_key_free",
     ),
     Claim(
         "7e",
@@ -899,7 +899,7 @@ CLAIMS: tuple[Claim, ...] = (
         " texts: each opens to its own identity with the other's body.",
         "claims",
         "FalseClaims.TextsExchanged",
-        "IdentityClaims.texts-exchanged",
+        "IdentityClaims.texts_exchanged",
     ),
     Claim(
         "7f",
@@ -913,7 +913,7 @@ CLAIMS: tuple[Claim, ...] = (
         " version and body.",
         "book_claims",
         "RecordSentences.KindByteFree",
-        "RecordClaims.kind-byte-free",
+        "RecordClaims.kind_byte_free",
     ),
     Claim(
         "8a",
@@ -926,7 +926,7 @@ CLAIMS: tuple[Claim, ...] = (
         "",
         "claims",
         "TrueClaims.OneBook",
-        "EntryClaims.one-book",
+        "EntryClaims.one_book",
     ),
     Claim(
         "8b",
@@ -939,7 +939,7 @@ CLAIMS: tuple[Claim, ...] = (
         "",
         "book_claims",
         "BookSentences.WithinABook",
-        "BookClaims.within-a-book",
+        "BookClaims.within_a_book",
     ),
     Claim(
         "8c",
@@ -988,7 +988,7 @@ CLAIMS: tuple[Claim, ...] = (
         " in that order.",
         "book_claims",
         "BookSentences.OrderChanged",
-        "BookClaims.order-changed",
+        "BookClaims.order_changed",
     ),
     Claim(
         "9a",
@@ -1043,7 +1043,7 @@ CLAIMS: tuple[Claim, ...] = (
         "From a text that opens, a change of one bit may lead to another that opens.",
         "claims",
         "FalseClaims.OneBit",
-        "ExampleClaims.one-bit",
+        "ExampleClaims.one_bit",
     ),
     Claim(
         "9e",
@@ -1058,7 +1058,7 @@ CLAIMS: tuple[Claim, ...] = (
         " and 5.",
         "example_claims",
         "Examples.OneByte",
-        "ComputedClaims.one-byte",
+        "ComputedClaims.one_byte",
     ),
     Claim(
         "9f",
@@ -1071,7 +1071,7 @@ CLAIMS: tuple[Claim, ...] = (
         " bytes.",
         "claims",
         "FalseClaims.LastEight",
-        "FrontClaims.last-eight",
+        "FrontClaims.last_eight",
     ),
     Claim(
         "10a",
@@ -1085,7 +1085,7 @@ CLAIMS: tuple[Claim, ...] = (
         "",
         "book_claims",
         "Marking.MostPaired",
-        "MarkingClaims.most-paired",
+        "MarkingClaims.most_paired",
     ),
     Claim(
         "10b",
@@ -1097,7 +1097,7 @@ CLAIMS: tuple[Claim, ...] = (
         "",
         "book_claims",
         "Marking.AnyOrder",
-        "MarkingClaims.any-order",
+        "MarkingClaims.any_order",
     ),
     Claim(
         "10c",
@@ -1109,7 +1109,7 @@ CLAIMS: tuple[Claim, ...] = (
         "",
         "book_claims",
         "Marking.CopiesAddNothing",
-        "MarkingClaims.copies-add-nothing",
+        "MarkingClaims.copies_add_nothing",
     ),
     Claim(
         "10d",
@@ -1123,7 +1123,7 @@ CLAIMS: tuple[Claim, ...] = (
         "",
         "book_claims",
         "Marking.FullMark",
-        "MarkingClaims.full-mark",
+        "MarkingClaims.full_mark",
     ),
     # end claims
 )
