@@ -21,6 +21,7 @@ use lists::lengths_and_output;
 use standard::{AUTHENTICATION, BookAnswer, CHALLENGE, WRONG_LENGTH};
 
 // The record of an output of the core: the response and the key, each in the part that as many bytes fill as its mask has ones.
+#[tactic(auto, using(crate::proofs::ClassLaws::record_filled))]
 fn write_record(output: [u8; 16], response_mask: u16, key_mask: u16, out: &mut [u8])
     requires out_len { length out.old ≡ authentication_size }
     requires counted { Counted response_mask key_mask }
@@ -58,6 +59,7 @@ fn input_at(challenges: &[u8], i: usize) -> [u8; 16]
 }
 
 // The record of challenge i, under the session key's round keys.
+#[tactic(auto, using(crate::proofs::ClassLaws::record_by))]
 fn write_one(
     keys: &[u8; 192],
     challenges: &[u8],
@@ -100,6 +102,7 @@ fn write_at_x4(o: [CoreOutput16; 4], response_mask: u16, key_mask: u16, i: usize
 }
 
 // The records of challenges i to i + 3.
+#[tactic(auto, unfolding(crate::specs::ClassRecords::record_with))]
 fn write_x4(
     keys: &[u8; 192],
     challenges: &[u8],
@@ -146,6 +149,7 @@ fn write(
     }
 }
 
+#[tactic(auto, using(crate::proofs::ClassLaws::key_refused, crate::proofs::ClassLaws::lengths_refused, crate::proofs::ClassLaws::masks_refused))]
 pub fn ta12_class(
     session_key: &[u8],
     challenges: &[u8],
