@@ -2,126 +2,109 @@
 #![tactic(auto)]
 
 use books::{open_book, seal_book};
-use libc::STDOUT_FILENO;
 use mixing::tb1;
 use seals::ta51;
 use standard::{CountedAnswer, KeyNumber, RING, RingBytes, Version};
 
 const KEYS: RingBytes = [90; RING];
 
-fn name(words: &[u8]) {
-    io::write_all(STDOUT_FILENO, words);
-}
-
-fn number(n: u64) {
-    io::write_all(STDOUT_FILENO, b" ");
-    io::print_decimal(STDOUT_FILENO, n);
-}
-
-fn end() {
-    io::write_all(STDOUT_FILENO, b"\n");
-}
-
 // A book call's refusal, index, bytes written and cipher runs.
-fn book(words: &[u8], a: CountedAnswer) {
-    name(words);
-    number(a.refusal as u64);
-    number(a.index as u64);
-    number(a.written as u64);
-    number(a.runs as u64);
-    end();
+fn book(rt: &impl Print, words: &str, a: CountedAnswer) {
+    let refusal = a.refusal;
+    let index = a.index;
+    let written = a.written;
+    let runs = a.runs;
+    let _ = println!(rt; "{words} {refusal} {index} {written} {runs}");
 }
 
-fn seal(words: &[u8], plain: &[u8], out: &mut [u8]) {
-    book(words, seal_book(&KEYS, plain, out));
+fn seal(rt: &impl Print, words: &str, plain: &[u8], out: &mut [u8]) {
+    book(rt, words, seal_book(&KEYS, plain, out));
 }
 
-fn open(words: &[u8], sealed: &[u8], out: &mut [u8]) {
-    book(words, open_book(&KEYS, sealed, out));
+fn open(rt: &impl Print, words: &str, sealed: &[u8], out: &mut [u8]) {
+    book(rt, words, open_book(&KEYS, sealed, out));
 }
 
 // A single call's refusal.
-fn single(words: &[u8], refusal: u32) {
-    name(words);
-    number(refusal as u64);
-    end();
+fn single(rt: &impl Print, words: &str, refusal: u32) {
+    let _ = println!(rt; "{words} {refusal}");
 }
 
 // Records of kind 4, each byte of a body by its place.
 fn fill(book: &mut [u8]) {
-    let mut i = 0;
-    while i < book.len() {
+    for i in 0..book.len() {
         book[i] = if i % 18 == 0 { 4 } else { (i % 251) as u8 };
-        i += 1;
     }
 }
 
-fn longest() {
+fn longest(rt: &impl Print) {
     let mut plain = [0u8; 18432];
     let mut sealed = [0u8; 21504];
     let mut again = [0u8; 18432];
     fill(&mut plain);
-    seal(b"seal 1024 records", &plain, &mut sealed);
-    open(b"open 1024 records", &sealed, &mut again);
+    seal(rt, "seal 1024 records", &plain, &mut sealed);
+    open(rt, "open 1024 records", &sealed, &mut again);
     if check::same(&plain, &again) {
-        io::write_all(STDOUT_FILENO, b"the same book\n");
+        let _ = println!(rt; "the same book");
     }
 }
 
-fn too_long() {
+fn too_long(rt: &impl Print) {
     let mut plain = [0u8; 18450];
     let mut sealed = [0u8; 21525];
     fill(&mut plain);
-    seal(b"seal 1025 records", &plain, &mut sealed);
-    open(b"open 1025 records", &sealed, &mut plain);
+    seal(rt, "seal 1025 records", &plain, &mut sealed);
+    open(rt, "open 1025 records", &sealed, &mut plain);
 }
 
-fn no_records() {
+fn no_records(rt: &impl Print) {
     let none = [0u8; 0];
     let mut out = [0u8; 1];
-    seal(b"seal no records", &none, &mut out);
-    open(b"open no records", &none, &mut out);
+    seal(rt, "seal no records", &none, &mut out);
+    open(rt, "open no records", &none, &mut out);
 }
 
-fn numbers() {
+fn numbers(rt: &impl Print) {
     let mut sealed = [0u8; 21];
     let mut again = [0u8; 18];
     let mut rec = [0u8; 18];
     rec[0] = 2;
     rec[17] = 31;
-    seal(b"seal number 31", &rec, &mut sealed);
-    open(b"open number 31", &sealed, &mut again);
+    seal(rt, "seal number 31", &rec, &mut sealed);
+    open(rt, "open number 31", &sealed, &mut again);
     sealed[20] = sealed[20] ^ 1;
-    open(b"open a flipped bit", &sealed, &mut again);
+    open(rt, "open a flipped bit", &sealed, &mut again);
     rec[17] = 32;
-    seal(b"seal number 32", &rec, &mut sealed);
+    seal(rt, "seal number 32", &rec, &mut sealed);
 }
 
-fn single_numbers() {
+fn single_numbers(rt: &impl Print) {
     let key = [1u8; 10];
     let sealing = [2u8; 16];
     single(
-        b"TA51 number 31",
+        rt,
+        "TA51 number 31",
         ta51(&key, Version(7), &sealing, KeyNumber(31)).refusal,
     );
     single(
-        b"TA51 number 32",
+        rt,
+        "TA51 number 32",
         ta51(&key, Version(7), &sealing, KeyNumber(32)).refusal,
     );
 }
 
-fn widths() {
-    single(b"TB1 width 15", tb1(1, 15).refusal);
-    single(b"TB1 width 16", tb1(1, 16).refusal);
-    single(b"TB1 width 32", tb1(1, 32).refusal);
-    single(b"TB1 width 33", tb1(1, 33).refusal);
+fn widths(rt: &impl Print) {
+    single(rt, "TB1 width 15", tb1(1, 15).refusal);
+    single(rt, "TB1 width 16", tb1(1, 16).refusal);
+    single(rt, "TB1 width 32", tb1(1, 32).refusal);
+    single(rt, "TB1 width 33", tb1(1, 33).refusal);
 }
 
-fn main() {
-    longest();
-    too_long();
-    no_records();
-    numbers();
-    single_numbers();
-    widths();
+fn main(rt: HostRuntime) {
+    longest(&rt);
+    too_long(&rt);
+    no_records(&rt);
+    numbers(&rt);
+    single_numbers(&rt);
+    widths(&rt);
 }

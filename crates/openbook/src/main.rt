@@ -7,18 +7,18 @@ use standard::{MOST_RECORDS, PLAIN_RECORD, SEALED_RECORD};
 
 // The input has one byte more than the longest book, so that a longer one is seen to be longer. The ring goes to the call as far as it was
 // read, so that a file that is too short is refused there.
-fn main() {
-    if answer_version(b"openbook").len > 0 {
+fn main(rt: HostRuntime) {
+    if answer_version(&rt, b"openbook").len > 0 {
         return;
     }
-    let read = read_ring(b"openbook");
+    let read = read_ring(&rt, b"openbook");
     if read.failed {
         return;
     }
     let ring = read.ring;
     let m = read.len;
     let mut sealed = [0u8; SEALED_RECORD * MOST_RECORDS + 1];
-    let input = read_input(b"openbook", &mut sealed);
+    let input = read_input(&rt, b"openbook", &mut sealed);
     if input.failed {
         return;
     }
@@ -26,7 +26,7 @@ fn main() {
     let mut plain = [0u8; PLAIN_RECORD * MOST_RECORDS];
     let answer = open_book(&ring[..m], &sealed[..n], &mut plain);
     // A refused book has no byte written.
-    if write_output(b"openbook", &plain, answer.written) {
-        report_counted_answer(answer);
+    if write_output(&rt, b"openbook", &plain, answer.written) {
+        report_counted_answer(&rt, answer);
     }
 }

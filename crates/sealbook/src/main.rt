@@ -7,18 +7,18 @@ use standard::{MOST_RECORDS, PLAIN_RECORD, SEALED_RECORD};
 
 // The input has one byte more than the longest book, so that a longer one is seen to be longer. The ring goes to the call as far as it was
 // read, so that a file that is too short is refused there.
-fn main() {
-    if answer_version(b"sealbook").len > 0 {
+fn main(rt: HostRuntime) {
+    if answer_version(&rt, b"sealbook").len > 0 {
         return;
     }
-    let read = read_ring(b"sealbook");
+    let read = read_ring(&rt, b"sealbook");
     if read.failed {
         return;
     }
     let ring = read.ring;
     let m = read.len;
     let mut plain = [0u8; PLAIN_RECORD * MOST_RECORDS + 1];
-    let input = read_input(b"sealbook", &mut plain);
+    let input = read_input(&rt, b"sealbook", &mut plain);
     if input.failed {
         return;
     }
@@ -26,7 +26,7 @@ fn main() {
     let mut sealed = [0u8; SEALED_RECORD * MOST_RECORDS];
     let answer = seal_book(&ring[..m], &plain[..n], &mut sealed);
     // A refused book has no byte written.
-    if write_output(b"sealbook", &sealed, answer.written) {
-        report_counted_answer(answer);
+    if write_output(&rt, b"sealbook", &sealed, answer.written) {
+        report_counted_answer(&rt, answer);
     }
 }
