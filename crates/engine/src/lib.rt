@@ -338,7 +338,7 @@ pub extern "C" fn taa1_ring(
         ≡ ring_call root.now rs.now rso.now rand1.now rand2.now c.now
         group_key.now sides response_mask key_mask }
 {
-    rings::ring(
+    keys::ring(
         root,
         rs,
         rso,

@@ -1,2 +1,4 @@
 pub mod KeyInputLaws
 pub mod MaskLaws
+pub mod RingLaws
+pub mod SittingLaws

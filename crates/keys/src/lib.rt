@@ -1,19 +1,25 @@
-// Responses and derived keys: TA11, TA12, TA21, TA22, TA41, TA71, TA101 (000, 5.6, 5.7, 5.13, 5.18).
+// Responses and derived keys: TA11, TA12, TA21, TA22, TA41, TA71, TA101, and the ring recipe (000, 5.6, 5.7, 5.13, 5.18).
 #![tactic(auto)]
 
 mod derivation;
 mod masks;
+mod recipe;
+mod sitting;
 
 ghost use Rattle.std.specs.Prelude.{◌&&◌, [], ◌∷◌, ◌≡◌};
-ghost use Rattle.standard.specs.Keys.{core as core_of, ta11_call, ta21_call, ta41_call, ta12_call, ta22_call, ta71_call, ta101_call};
+ghost use Rattle.standard.specs.Keys.{core as core_of, ta11_call, ta21_call, ta41_call, ta12_call, ta22_call, ta71_call, ta101_call, ring_of, ring_call};
 ghost use Rattle.standard.specs.Refusals.{wrong_length, has_length, first, answer16};
 
 use crate::derivation::int;
 use crate::masks::split;
-use arrays::{have_lengths, part10, part16};
+use crate::recipe::make;
+use arrays::{have_lengths, part10, part12, part16};
 pub use derivation::{core, reversed, ta71_of};
 pub use masks::{choose, mask_refusal};
-use standard::{Authentication, Bytes10, Bytes16, VALUE_WIDE, WRONG_LENGTH};
+pub use sitting::sitting_ring;
+use standard::{
+    Authentication, Bytes10, Bytes16, RingInputs, RingMade, VALUE_WIDE, WRONG_LENGTH, WRONG_SIDES,
+};
 
 // The core under a root of any length; `seed_has_length` says that the seed had its length.
 fn under_root(root: &[u8], seed: [u8; 10], seed_has_length: bool) -> Bytes16
@@ -112,4 +118,59 @@ pub fn ta101(ks: &[u8], gck0: &[u8], mni: u64) -> Bytes16
         refusal: 0,
         bytes: core(part16(ks, 0), int(part10(gck0, 0), mni)),
     }
+}
+
+// The ring recipe on typed arrays.
+#[tactic(auto, unfolding(standard::specs::Keys::ring_of))]
+pub fn ring_of(x: RingInputs) -> RingMade
+    ensures { result ≡ ring_of x }
+{
+    let known = (x.sides >= 1) & (x.sides <= 3);
+    if !known {
+        return RingMade::refused(WRONG_SIDES);
+    }
+    let refusal = mask_refusal(x.response_mask, x.key_mask);
+    if refusal != 0 {
+        return RingMade::refused(refusal);
+    }
+    make(x)
+}
+
+pub fn ring(
+    root: &[u8],
+    rs: &[u8],
+    rso: &[u8],
+    rand1: &[u8],
+    rand2: &[u8],
+    c: &[u8],
+    group_key: &[u8],
+    sides: u64,
+    response_mask: u16,
+    key_mask: u16,
+) -> RingMade
+    ensures { result ≡ ring_call root.now rs.now rso.now rand1.now rand2.now c.now
+        group_key.now sides response_mask key_mask }
+{
+    let right_lengths = (root.len() == 16)
+        & (rs.len() == 10)
+        & (rso.len() == 10)
+        & (rand1.len() == 10)
+        & (rand2.len() == 10)
+        & (c.len() == 10)
+        & (group_key.len() == 12);
+    if !right_lengths {
+        return RingMade::refused(WRONG_LENGTH);
+    }
+    ring_of(RingInputs {
+        root: part16(root, 0),
+        rs: part10(rs, 0),
+        rso: part10(rso, 0),
+        rand1: part10(rand1, 0),
+        rand2: part10(rand2, 0),
+        c: part10(c, 0),
+        group_key: part12(group_key, 0),
+        sides,
+        response_mask,
+        key_mask,
+    })
 }

@@ -7,7 +7,7 @@ use programs::{
     FAILED, Input, answer_version, has_argument, read_argument, read_input, report_answer,
     write_error, write_output,
 };
-use rings::sitting_ring;
+use keys::sitting_ring;
 use standard::{BookAnswer, RING, RingMade, SITTING};
 
 fn read_sitting(rt: &HostRuntime, buf: &mut [u8]) -> Input

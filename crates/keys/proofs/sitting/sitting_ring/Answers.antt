@@ -1,7 +1,7 @@
 use Rattle.standard.proofs.Prelude.{ne_eqb}
 use Rattle.standard.specs.Programs.{sitting_ring}
-use Rattle.rings.proofs.SittingLaws.{sitting_recipe}
-use Rattle.rings.proofs.sitting.sitting_ring.Goals as goal
+use Rattle.keys.proofs.SittingLaws.{sitting_recipe}
+use Rattle.keys.proofs.sitting.sitting_ring.Goals as goal
 
 pub returns-then-s-ne-SITTING : goal.returns-then-s-ne-SITTING
 unfolding sitting_ring

@@ -1,7 +1,7 @@
 use Rattle.std.proofs.Common.{◌≡◌, false}
 use Rattle.standard.proofs.KeysLaws.{ring_long}
 use Rattle.standard.specs.Keys.{have_lengths, ring_call}
-use Rattle.rings.proofs.ring.Goals as goal
+use Rattle.keys.proofs.ring.Goals as goal
 
 pub returns-then-not-right_lengths : goal.returns-then-not-right_lengths
 unfolding ring_call

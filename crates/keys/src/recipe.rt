@@ -1,16 +1,16 @@
 // The ring recipe on typed arrays.
 ghost use Rattle.std.specs.Prelude.{◌≡◌};
 ghost use Rattle.standard.specs.Keys.{core as core_of, half as half_of, ring_answer};
-ghost use Rattle.standard.specs.Refusals.{mask_tests, first};
+ghost use Rattle.keys.specs.Masks.{Counted};
 
+use crate::derivation::{core, reversed};
+use crate::masks::split;
 use arrays::{join_10_16, join_26_26};
-use keys::{core, reversed, ta12};
 use mixing::{tb4_of, tb7_of};
 use standard::{Authentication, RingInputs, RingMade};
 
-// One half of the recipe: a session key from root and seed, and what TA12 (or TA22) answers under it. A half that does not run answers zero bytes,
+// One half of the recipe: a session key from root and seed, and what it answers to a challenge. A half that does not run answers zero bytes,
 // with no cipher run.
-#[tactic(auto, unfolding(standard::specs::Keys::ta12_call))]
 fn half(
     runs: bool,
     root: [u8; 16],
@@ -19,7 +19,7 @@ fn half(
     response_mask: u16,
     key_mask: u16,
 ) -> Authentication
-    requires { first (mask_tests response_mask key_mask) ≡ 0 }
+    requires { Counted response_mask key_mask }
     ensures { result ≡ half_of runs response_mask key_mask (core_of (core_of root seed) challenge) }
 {
     if !runs {
@@ -29,13 +29,12 @@ fn half(
             key: [0; 10],
         };
     }
-    let session_key = core(root, seed);
-    ta12(&session_key, &challenge, response_mask, key_mask)
+    split(core(core(root, seed), challenge), response_mask, key_mask)
 }
 
 // D, O, C and G, and both responses.
 pub(crate) fn make(x: RingInputs) -> RingMade
-    requires { first (mask_tests x.response_mask x.key_mask) ≡ 0 }
+    requires { Counted x.response_mask x.key_mask }
     ensures { result ≡ ring_answer 0 x }
 {
     let root = x.root;

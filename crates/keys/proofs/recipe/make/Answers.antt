@@ -1,8 +1,8 @@
 use Rattle.std.proofs.Common.{◌≡◌}
 use Rattle.standard.specs.Keys.{half1, half2}
 use Rattle.standard.specs.Mixing.{tb4}
-use Rattle.rings.proofs.RingLaws.{ring_made_lem}
-use Rattle.rings.proofs.recipe.make.Goals as goal
+use Rattle.keys.proofs.RingLaws.{ring_made_lem}
+use Rattle.keys.proofs.recipe.make.Goals as goal
 
 pub returns : goal.returns
 returns c =

@@ -1,2 +1,0 @@
-pub mod RingLaws
-pub mod SittingLaws
