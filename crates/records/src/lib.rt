@@ -16,13 +16,12 @@ ghost use Rattle.records.specs.RecordForms.{sealed_with, opened_with};
 
 use crate::parts::{head_with, ring_c};
 use arrays::{byte_at, copy, join_6_12, join_6_15, part3, part12, part15};
-use forms::{body_of, input_of};
 use identity::{IdentityStrings, bc, decrypt_identity, encrypt_identity};
 pub use parts::{core_key, ring_bytes};
 use standard::{
     Algorithm, FLAG_SET, Kind, NOT_ZERO, Named, RingBytes, RingKey, WRONG_KIND, WRONG_NUMBER,
 };
-use texts::{flag_of, with8};
+use texts::{body_of, flag_of, input_of, with8};
 
 // A ring's identity strings, and the cipher run that they took.
 pub fn identity_strings_of(ring: &RingBytes) -> IdentityStrings

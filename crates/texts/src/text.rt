@@ -4,10 +4,10 @@ ghost use Rattle.standard.specs.Bytes.{bytes_of};
 ghost use Rattle.standard.specs.Runs.{text_runs};
 ghost use Rattle.standard.specs.Seals.{failed, clear, form_of, sealed as sealed_of, opened as opened_of, key10 as key10_of, key16 as key16_of, repeated};
 
+use crate::forms::{body_of, failed_of, input_of, or_of};
 use crate::text_core::{seal_core, with8};
 use arrays::{join_8_8, xor10, xor16};
 use cores::{bl2, exp4};
-use forms::{body_of, failed_of, input_of, or_of};
 use standard::{Algorithm, Version};
 
 // The version's two bytes, the high one first.

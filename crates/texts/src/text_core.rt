@@ -39,8 +39,12 @@ pub fn seal_core(key: [u8; 16], input: [u8; 16]) -> CoreOutput15
 fn without8_x4(o: [CoreOutput16; 4]) -> [CoreOutput15; 4]
     ensures { result ≡ lanes (λ j. shortened (lane16 o j)) }
 {
-    let [a, b, c, d] = o;
-    [without8(a), without8(b), without8(c), without8(d)]
+    [
+        without8(o[0]),
+        without8(o[1]),
+        without8(o[2]),
+        without8(o[3]),
+    ]
 }
 
 pub fn seal_core_x4(keys: [[u8; 16]; 4], inputs: [[u8; 16]; 4]) -> [CoreOutput15; 4]

@@ -1,6 +1,4 @@
 // The forms of the algorithms: BL1's data input from a body of 12 bytes, and the check and the body of BL2's 15 bytes.
-#![tactic(auto)]
-
 ghost use Rattle.std.specs.Prelude.{◌≡◌, ◌≤◌, eqb};
 ghost use Rattle.standard.specs.Bytes.{part, choose};
 ghost use Rattle.standard.specs.Seals.{checks, failed_of, failed, or_on, or_of, form_of, form31, form51, form81};
@@ -177,7 +175,7 @@ fn ored(c: [u8; 5]) -> u8
     c[0] | c[1] | c[2] | c[3] | c[4]
 }
 
-pub fn or_of(algorithm: Algorithm, u: [u8; 15]) -> u8
+pub(crate) fn or_of(algorithm: Algorithm, u: [u8; 15]) -> u8
     ensures { result ≡ or_of (form_of algorithm) u }
 {
     ored(checks_of(algorithm, u))
@@ -202,7 +200,7 @@ fn marked(c: [u8; 5]) -> u16
     c0 + 2 * (c1 + 2 * (c2 + 2 * (c3 + 2 * c4)))
 }
 
-pub fn failed_of(algorithm: Algorithm, u: [u8; 15]) -> u16
+pub(crate) fn failed_of(algorithm: Algorithm, u: [u8; 15]) -> u16
     ensures { result ≡ failed (form_of algorithm) u }
 {
     marked(checks_of(algorithm, u))
