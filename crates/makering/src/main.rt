@@ -3,21 +3,22 @@
 
 ghost use Rattle.programs.specs.Reading.{Read};
 
-use programs::{
-    FAILED, Input, answer_version, has_argument, read_argument, read_input, report_answer,
-    write_error, write_output,
-};
 use keys::sitting_ring;
+use programs::{
+    FAILED, Input, answer_version, read_argument, read_input, report_answer, write_output,
+};
 use standard::{BookAnswer, RING, RingMade, SITTING};
+use std::env::FillError;
+use std::rt::Env;
 
 fn read_sitting(rt: &HostRuntime, buf: &mut [u8]) -> Input
     ensures { Read result buf.old buf.new }
 {
-    if has_argument(rt, 2) {
-        write_error(rt, b"usage: makering [SITTING]\n");
+    if !matches!(rt.arg(2, &mut []), Err(FillError::NotPresent)) {
+        let _ = eprintln!(rt; "usage: makering [SITTING]");
         return FAILED;
     }
-    if has_argument(rt, 1) {
+    if !matches!(rt.arg(1, &mut []), Err(FillError::NotPresent)) {
         return read_argument(rt, b"makering", buf);
     }
     read_input(rt, b"makering", buf)
@@ -44,7 +45,7 @@ fn main(rt: HostRuntime) {
     }
     let n = input.len;
     if n != SITTING {
-        write_error(&rt, b"makering: the sitting does not have 83 bytes\n");
+        let _ = eprintln!(rt; "makering: the sitting does not have 83 bytes");
         return;
     }
     let made = sitting_ring(&sitting[..n]);

@@ -2,8 +2,10 @@
 #![tactic(auto)]
 
 use plain_listing::{LISTING, list_plain};
-use programs::{answer_version, has_argument, read_input, write_error, write_output};
+use programs::{answer_version, read_input, write_output};
 use standard::{MOST_RECORDS, PLAIN_RECORD};
+use std::env::FillError;
+use std::rt::Env;
 
 fn print(rt: &HostRuntime, listing: &[u8; LISTING], n: usize) {
     write_output(rt, b"plainlist", listing, n);
@@ -14,8 +16,8 @@ fn main(rt: HostRuntime) {
     if answer_version(&rt, b"plainlist").len > 0 {
         return;
     }
-    if has_argument(&rt, 1) {
-        write_error(&rt, b"usage: plainlist <BOOK\n");
+    if !matches!(rt.arg(1, &mut []), Err(FillError::NotPresent)) {
+        let _ = eprintln!(rt; "usage: plainlist <BOOK");
         return;
     }
     let mut plain = [0u8; PLAIN_RECORD * MOST_RECORDS + 1];

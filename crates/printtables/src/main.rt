@@ -2,14 +2,16 @@
 #![tactic(auto)]
 
 use printed_tables::{TABLES_TEXT, print_tables};
-use programs::{answer_version, has_argument, write_error, write_output};
+use programs::{answer_version, write_output};
+use std::env::FillError;
+use std::rt::Env;
 
 fn main(rt: HostRuntime) {
     if answer_version(&rt, b"printtables").len > 0 {
         return;
     }
-    if has_argument(&rt, 1) {
-        write_error(&rt, b"usage: printtables\n");
+    if !matches!(rt.arg(1, &mut []), Err(FillError::NotPresent)) {
+        let _ = eprintln!(rt; "usage: printtables");
         return;
     }
     let mut out = [0u8; TABLES_TEXT];

@@ -129,7 +129,7 @@ fn put<W: Write>(to: &mut W, bytes: &[u8], n: usize) -> io::Result<()>
 }
 
 // Words to standard error. If they cannot be written, there is no place left to say so.
-pub fn write_error(rt: &HostRuntime, words: &[u8]) {
+fn write_error(rt: &HostRuntime, words: &[u8]) {
     let _ = write_whole(&mut rt.stderr(), words);
 }
 
@@ -221,7 +221,7 @@ pub fn read_argument(rt: &HostRuntime, program: &[u8], buf: &mut [u8]) -> Input
 }
 
 // Whether there is an argument i, however long. The program's own name is argument 0.
-pub fn has_argument(rt: &HostRuntime, i: usize) -> bool {
+fn has_argument(rt: &HostRuntime, i: usize) -> bool {
     match rt.arg(i, &mut []) {
         Err(FillError::NotPresent) => false,
         _ => true,
