@@ -1,6 +1,6 @@
 -- A class's records are those of single calls, and its tests as code makes them one after the other.
 use Rattle.standard.proofs.Prelude.{◌≡◌, refl, sym, ap, ap₂, ◌∙◌, Bool, List, ◌∷◌, ◌++◌, ℕ, ◌+◌, ◌-◌, ◌*◌, ◌/◌, ◌^◌, ◌<◌, arith, length, take, drop}
-use Rattle.standard.proofs.Prelude.{eq-eqb, ne_eqb}
+use Rattle.standard.proofs.Prelude.{length-append, length-drop, eq-eqb, ne_eqb}
 use lib.Count.{ones}
 use borrow.Rule.Slice.PartMut.{mid_of, put_mid}
 use Rattle.arrays.proofs.CopyLaws.{over_front, two_copied}
@@ -35,6 +35,9 @@ module _ (rm km : ℕ) (o out r₁ r₂ : List ℕ) (hr : rm < 2 ^ 16) (hk : km 
     (e₁ : r₁ ≡ take (length (take (ones rm) out)) (chosen rm o) ++ drop (length (chosen rm o)) (take (ones rm) out)) where
   responded : r₁ ≡ chosen rm o
   responded = front_filled rm o out r₁ hr (omega (arith, l, counted.0)) e₁
+
+  pub rest_length : length (r₁ ++ drop (ones rm) out) ≡ authentication_size
+  rest_length = length-append r₁ (drop (ones rm) out) ∙ omega (arith, ap length responded, length_chosen rm o hr, length-drop (ones rm) out, l, counted.0)
 
   pub record_filled : r₂ ≡ take (length (mid_of (ones rm) (ones rm + ones km - ones rm) (r₁ ++ drop (ones rm) out))) (chosen km o)
       ++ drop (length (chosen km o)) (mid_of (ones rm) (ones rm + ones km - ones rm) (r₁ ++ drop (ones rm) out))

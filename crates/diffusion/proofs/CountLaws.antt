@@ -1,6 +1,6 @@
 -- Flips and the bits that change, under round keys laid out first; sums and extremes that go on from turn to turn; and the ways in which
 -- the call returns.
-use Rattle.standard.proofs.Prelude.{◌≡◌, refl, sym, ap, ap₂, ◌∙◌, subst, List, ◌++◌, ℕ, ◌+◌, ◌*◌, ◌/◌, ◌%◌, ◌^◌, ◌<◌, add-zero, one-mul, add-one}
+use Rattle.standard.proofs.Prelude.{◌≡◌, refl, sym, ap, ap₂, ◌∙◌, subst, List, [], ◌++◌, ℕ, ◌+◌, ◌*◌, ◌/◌, ◌%◌, ◌^◌, ◌<◌, add-zero, one-mul, add-one}
 use Rattle.standard.proofs.Prelude.{arith, length, length-append, shl_exact, ne_eqb}
 use mathlib.Core.List.{foldl, foldl-append}
 use Prim.Native.Nat.{min, max}
@@ -49,6 +49,9 @@ same_changes r = table_same 64 _ _ (λ i h. same_change (part 0 16 r) (part 16 8
 -- ---- figures that go on
 
 module _ {t l g : ℕ} where
+  pub counted_none : Counted t l g [] t l g
+  counted_none = record { total = refl; least = refl; greatest = refl; most = omega arith }
+
   module _ {t' l' g' t'' l'' g'' : ℕ} where
     -- over further changes
     pub counted_more : {cs ds : List ℕ} → Counted t l g cs t' l' g' → Counted t' l' g' ds t'' l'' g'' → Counted t l g (cs ++ ds) t'' l'' g''

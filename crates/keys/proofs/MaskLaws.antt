@@ -1,9 +1,11 @@
 -- The bytes that a mask chooses: the loop that stores them, and how many they are.
-use Rattle.standard.proofs.Prelude.{◌≡◌, refl, sym, ap, ap₂, ◌∙◌, subst, List, ◌∷◌, ◌++◌, append-nil, ℕ, suc, ◌+◌, ◌-◌, ◌^◌, ◌≤◌, ◌<◌}
-use Rattle.standard.proofs.Prelude.{add-zero, zero-add, arith, length, take, drop, set, drop_of_length-le, take_all, drop-drop, eq-eqb, ne_eqb}
+use Rattle.standard.proofs.Prelude.{◌≡◌, refl, sym, ap, ap₂, ◌∙◌, subst, Bool, true, false, ◌&&◌, ◌⊎◌, inl, inr, List, ◌∷◌, ◌++◌, append-nil, ℕ, suc, ◌+◌, ◌-◌, ◌^◌, ◌≤◌, ◌<◌}
+use Rattle.standard.proofs.Prelude.{add-zero, zero-add, arith, ltb, length, take, drop, set, drop_of_length-le, take_all, drop-drop, eq-eqb, ne_eqb, ltb-true, ltb-false}
 use lib.Count.{ones}
 use lib.Seq.{get_or-drop, length-take-le}
-use Rattle.arrays.proofs.CopyLaws.{copy_next}
+use Rattle.arrays.proofs.CopyLaws.{copy_next, copied}
+use Rattle.arrays.specs.Least.{Least}
+use Rattle.standard.proofs.BytesLaws.{and_split}
 use Rattle.standard.proofs.KeysLaws.{length_chosen}
 use Rattle.standard.specs.Bytes.{◌!◌, byte, bit}
 use Rattle.standard.specs.Keys.{chosen_of, chosen}
@@ -53,6 +55,27 @@ module _ {m i k : ℕ} {o d out : List ℕ} (given : Gathered m o d i k out) whe
       stored = rw (ne_eqb (bit (i - 1) m) 1 b) at g.stored;
       room = g.room;
     }
+
+  -- the bytes or the part have come to their end
+  pub gather_all : (i ≡ 0) ⊎ (k ≡ length d) → out ≡ take (length d) (chosen m o) ++ drop (length (chosen m o)) d
+  gather_all e = given.bytes ∙ copied d (chosen m o) k (least e) refl
+    where
+      least : (i ≡ 0) ⊎ (k ≡ length d) → Least (length (chosen m o)) (length d) k
+      least (inl z) =
+          let all : k + length (chosen_of 0 m o) ≡ length (chosen m o) = ap (λ (n : ℕ). k + length (chosen_of n m o)) (sym z) ∙ given.stored in
+          record { left = omega (arith, all); right = given.room; one = inl (omega (arith, all)) }
+      least (inr q) = record { left = omega (arith, given.stored); right = given.room; one = inr q }
+
+-- the loop's test: bytes are left, and the part has room
+pub going : (i k n : ℕ) → ltb 0 i && ltb k n ≡ true → (0 < i) × (k < n)
+going i k n t = let s = and_split _ _ t in (ltb-true 0 i s.0, ltb-true k n s.1)
+
+pub ended : (i k n : ℕ) → k ≤ n → ltb 0 i && ltb k n ≡ false → (i ≡ 0) ⊎ (k ≡ n)
+ended i k n h f = go (ltb 0 i) refl
+  where
+    go : (t : Bool) → ltb 0 i ≡ t → (i ≡ 0) ⊎ (k ≡ n)
+    go true e = inr (omega (arith, h, ltb-false k n (rw e at f)))
+    go false e = inl (omega (arith, ltb-false 0 i e))
 
 -- ---- a part as long as its mask has ones becomes the chosen bytes
 
