@@ -12,8 +12,8 @@ pub struct Described<'a> {
 }
 
 /// The calls of the header. A call's contract is found by its name: the term after ≡ in
-/// the file `engine`, and the function's parameters, which are the call's arguments in
-/// their order. Some have other names, since `result` is a word of contracts.
+/// the file `engine`, and the function's parameters, which are the call's arguments, under
+/// the same names but for `result`, which is a word of contracts and there called `res`.
 pub fn described<'a>(
     header: &'a Header,
     definitions: &Definitions,
@@ -22,10 +22,15 @@ pub fn described<'a>(
     let one = |call: &'a Call| {
         let names: Vec<&str> = call.arguments.iter().map(Argument::name).collect();
         let (term, parameters) = contract(&call.name).unwrap_or_default();
-        let tests = match parameters.len() == names.len() && !names.is_empty() {
+        let parameters: Vec<&str> = parameters.iter().map(|name| &name[..]).collect();
+        let there = names.iter().map(|name| match *name {
+            "result" => "res",
+            name => name,
+        });
+        let same = there.eq(parameters.iter().copied());
+        let tests = match same && !names.is_empty() {
             true => {
-                let parameters = parameters.iter().map(|name| &name[..]);
-                let named: Vec<(&str, &str)> = parameters.zip(names).collect();
+                let named: Vec<(&str, &str)> = parameters.into_iter().zip(names).collect();
                 definitions.tests("engine", &term, &named)
             }
             false => Tests::default(), // what takes nothing tests nothing
@@ -194,7 +199,7 @@ two_call k out = value (first ((wrong_length) ∷ []))
         let definitions = Definitions::read(sources.into_iter());
         let contract = |name: &str| {
             let (term, parameters) = match name {
-                "taa1_one" => ("one_call key n", ["key", "n"]),
+                "taa1_one" => ("one_call key steps", ["key", "steps"]),
                 _ => ("two_call key out", ["key", "out"]),
             };
             Some((term.to_string(), parameters.map(str::to_string).to_vec()))
