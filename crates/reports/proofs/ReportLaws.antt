@@ -1,13 +1,16 @@
--- The line about an answer: none is longer than a line may be.
-use Rattle.standard.proofs.Prelude.{◌≡◌, refl, Bool, true, false, ◌&&◌, List, [], ◌∷◌, ℕ, ◌≤◌, arith, eqb, leb, length, length-append}
-use Rattle.standard.proofs.Prelude.{leb-true}
+-- The line about an answer: none is longer than a line may be; and the ways in which the line is made.
+use Rattle.standard.proofs.Prelude.{◌≡◌, refl, sym, ap, ◌∙◌, Bool, true, false, ◌&&◌, List, [], ◌∷◌, ◌++◌, ℕ, ◌≤◌, arith, eqb, leb, length, length-append}
+use Rattle.standard.proofs.Prelude.{eq-eqb, ne_eqb, leb-true}
 use Rattle.standard.proofs.BytesLaws.{and_split}
 use Rattle.standard.specs.Bytes.{choose}
 use Rattle.standard.specs.Programs.{beside, meanings, meaning, meaning_text, wrote_text, answer_text, answer_line, counted_line}
 use Rattle.standard.specs.declared.BookAnswer.{BookAnswer}
 use Rattle.standard.specs.declared.CountedAnswer.{CountedAnswer}
 use Rattle.lines.proofs.TextLaws.{digits_few}
-use Rattle.lines.specs.LineStates.{room}
+use Rattle.lines.specs.LineStates.{room, ◌▸◌}
+use Rattle.lines.specs.declared.Line.{Line}
+
+-- ---- lengths
 
 abbrev all_short : List (ℕ × List ℕ) → Bool
 all_short [] = true
@@ -41,3 +44,39 @@ answer_line_short a = simp length-append (omega (arith, answer_short a.refusal a
 pub counted_line_short : (a : CountedAnswer) → length (counted_line a) ≤ room
 unfolding counted_line
 counted_line_short a = simp length-append (omega (arith, answer_short a.refusal a.index a.written, digits_few 20 a.runs))
+
+-- ---- the meaning
+
+-- the text beside a number that the code knows
+pub said : (ts : List (ℕ × List ℕ)) (l : Line) (n k : ℕ) {t : List ℕ} {r : Line} → n ≡ k → r ≡ l ▸ t → t ≡ beside k ts → r ≡ l ▸ beside n ts
+said ts l n k e f g = f ∙ ap (λ (t : List ℕ). l ▸ t) (g ∙ ap (λ (j : ℕ). beside j ts) (sym e))
+
+-- what a `match` over the list's numbers knows in its last arm: what was known before, and for each number that n is another
+abbrev pub Rest : Type 0 → ℕ → List (ℕ × List ℕ) → Type 0
+Rest K n [] = K
+Rest K n (t ∷ ts) = Rest (K × (n ≡ t.0 → ⊥)) n ts
+
+before : (K : Type 0) (n : ℕ) (ts : List (ℕ × List ℕ)) → Rest K n ts → K
+before K n [] r = r
+before K n (t ∷ ts) r = (before (K × (n ≡ t.0 → ⊥)) n ts r).0
+
+beside_rest : (K : Type 0) (n : ℕ) (ts us : List (ℕ × List ℕ)) → Rest K n ts → beside n (ts ++ us) ≡ beside n us
+beside_rest K n [] us r = refl
+beside_rest K n (t ∷ ts) us r =
+    let other = (before (K × (n ≡ t.0 → ⊥)) n ts r).1 in
+    ap (λ (b : Bool). choose b t.1 (beside n (ts ++ us))) (ne_eqb n t.0 other) ∙ beside_rest (K × (n ≡ t.0 → ⊥)) n ts us r
+
+-- the text beside a number that is not in the list's front
+pub unsaid : (ts us : List (ℕ × List ℕ)) (K : Type 0) (l : Line) (n : ℕ) {r : Line} → Rest K n ts → r ≡ l ▸ beside n us → r ≡ l ▸ beside n (ts ++ us)
+unsaid ts us K l n u f = f ∙ ap (λ (t : List ℕ). l ▸ t) (sym (beside_rest K n ts us u))
+
+-- ---- refused or not
+
+module _ (refusal index written : ℕ) where
+  pub answer_refused : (refusal ≡ 0 → ⊥) → answer_text refusal index written ≡ meaning_text refusal index
+  unfolding answer_text
+  answer_refused r = rw (ne_eqb _ _ r)
+
+  pub answer_wrote : refusal ≡ 0 → answer_text refusal index written ≡ wrote_text written
+  unfolding answer_text
+  answer_wrote z = rw (eq-eqb _ _ z)
