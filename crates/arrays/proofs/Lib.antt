@@ -1,3 +1,1 @@
 pub mod CopyLaws
-pub mod SameLaws
-pub mod WordLaws

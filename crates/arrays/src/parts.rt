@@ -1,94 +1,51 @@
-// A string's bytes and parts. Past its end stand zeros, as in the definitions, so that nothing here asks for a length.
-ghost use Rattle.std.specs.Prelude.{◌++◌, ◌≡◌, length, take, drop};
-ghost use Rattle.standard.specs.Bytes.{◌!◌, part, zeros};
-ghost use Rattle.arrays.specs.Least.{Least};
+// A string's bytes and parts. Past its end stand zeros, as in the definitions, so that nothing here asks for a length; where a call does, the
+// whole string is taken or refused.
+ghost use Rattle.std.specs.Prelude.{◌++◌, ◌≡◌, ◌&&◌, Ok, Err, length, take, drop};
+ghost use Rattle.standard.specs.Answers.{exactly};
+ghost use Rattle.standard.specs.Bytes.{◌!◌, choose, part};
+ghost use Rattle.standard.specs.Refusals.{has_length};
+ghost use Rattle.standard.specs.declared.Refusal.TheVariants.{WrongLength};
 
-fn least(a: usize, b: usize) -> usize
-    ensures { Least a b result }
-{
-    if a < b { a } else { b }
-}
+use standard::Refusal;
 
 // The front of `out` becomes `s`, as far as both go.
 pub fn copy(s: &[u8], out: &mut [u8])
     ensures { out.new ≡ take (length out.old) s.now ++ drop (length s.now) out.old }
 {
-    let n = least(s.len(), out.len());
-    let mut i = 0;
-    while i < n {
-        out[i] = s[i];
-        i += 1;
-    }
+    let n = s.len().min(out.len());
+    out[..n].copy_from_slice(&s[..n]);
 }
 
 pub fn byte_at(s: &[u8], i: usize) -> u8
     ensures { result ≡ s.now ! i }
 {
-    if i < s.len() { s[i] } else { 0 }
+    s.get(i).copied().unwrap_or(0)
 }
 
-// Zeros become the bytes of `s` from index `from` on.
-fn read(s: &[u8], from: usize, out: &mut [u8])
-    requires { out.old ≡ zeros (length out.old) }
-    ensures { out.new ≡ part from (length out.old) s.now }
+// The N bytes of `s` from index `from` on.
+pub fn part<const N: usize>(s: &[u8], from: usize) -> [u8; N]
+    ensures { result ≡ part from N s.now }
 {
+    let mut out = [0u8; N];
     if from < s.len() {
-        copy(&s[from..], out);
+        copy(&s[from..], &mut out);
     }
+    out
 }
 
-pub fn part3(s: &[u8], from: usize) -> [u8; 3]
-    ensures { result ≡ part from 3 s.now }
+// The string, if it has N bytes.
+pub fn exactly<const N: usize>(s: &[u8]) -> Result<[u8; N], Refusal>
+    ensures { result ≡ exactly N s.now }
 {
-    let mut a = [0u8; 3];
-    read(s, from, &mut a);
-    a
+    s.try_into().map_err(|_| Refusal::WrongLength)
 }
 
-pub fn part7(s: &[u8], from: usize) -> [u8; 7]
-    ensures { result ≡ part from 7 s.now }
+// Two strings, if both have their lengths.
+pub fn both_exactly<const M: usize, const N: usize>(
+    a: &[u8],
+    b: &[u8],
+) -> Result<([u8; M], [u8; N]), Refusal>
+    ensures { result ≡ choose (has_length M a.now && has_length N b.now) (Ok (a.now, b.now)) (Err WrongLength) }
 {
-    let mut a = [0u8; 7];
-    read(s, from, &mut a);
-    a
-}
-
-pub fn part8(s: &[u8], from: usize) -> [u8; 8]
-    ensures { result ≡ part from 8 s.now }
-{
-    let mut a = [0u8; 8];
-    read(s, from, &mut a);
-    a
-}
-
-pub fn part10(s: &[u8], from: usize) -> [u8; 10]
-    ensures { result ≡ part from 10 s.now }
-{
-    let mut a = [0u8; 10];
-    read(s, from, &mut a);
-    a
-}
-
-pub fn part12(s: &[u8], from: usize) -> [u8; 12]
-    ensures { result ≡ part from 12 s.now }
-{
-    let mut a = [0u8; 12];
-    read(s, from, &mut a);
-    a
-}
-
-pub fn part15(s: &[u8], from: usize) -> [u8; 15]
-    ensures { result ≡ part from 15 s.now }
-{
-    let mut a = [0u8; 15];
-    read(s, from, &mut a);
-    a
-}
-
-pub fn part16(s: &[u8], from: usize) -> [u8; 16]
-    ensures { result ≡ part from 16 s.now }
-{
-    let mut a = [0u8; 16];
-    read(s, from, &mut a);
-    a
+    Ok((exactly(a)?, exactly(b)?))
 }

@@ -11,7 +11,6 @@ use Rattle.standard.specs.Seals.{kind_of}
 use Rattle.standard.specs.ShufflesFacts.{reordered}
 use Rattle.standard.specs.Sizes.{ring_size, plain_size, sealed_size, most_records}
 use Rattle.standard.specs.declared.BookAnswer.{BookAnswer}
-use Rattle.standard.specs.declared.Named.{Named}
 use Rattle.standard.proofs.AnswerLaws.{is_accepted, accepted, call_tests, call_refuses}
 use Rattle.standard.proofs.BookLaws.{Book, joined_same, joined_bytes, joined_front}
 use Rattle.standard.proofs.BytesLaws.{bytes_append, bytes_part}
@@ -23,10 +22,10 @@ use Rattle.book_claims.proofs.ReorderedLaws.{reordered_at, reordered_whole}
 -- ---- rings
 
 -- no key but D has a byte of it
-abbrev NotUnderD : (d r : List ℕ) → Named → Type 0
+abbrev NotUnderD : (d r : List ℕ) → Option Kind → Type 0
 NotUnderD d r k = ring_key (named k).under (with_d d r) ≡ ring_key (named k).under r
 
-chosen : (d r : List ℕ) (t : Bool) (j k : Named) → NotUnderD d r j → NotUnderD d r k → NotUnderD d r (choose t j k)
+chosen : (d r : List ℕ) (t : Bool) (j k : Option Kind) → NotUnderD d r j → NotUnderD d r k → NotUnderD d r (choose t j k)
 chosen d r true j k hj hk = hj
 chosen d r false j k hj hk = hk
 

@@ -9,7 +9,7 @@ use Rattle.standard.specs.Seals.{sealing_size, unseal_call, form_of, failed, sea
 use Rattle.standard.specs.SealsFacts.{groups_of}
 use Rattle.standard.specs.declared.Algorithm.{Algorithm}
 use Rattle.standard.specs.declared.Algorithm.TheVariants.{Ta31, Ta51, Ta81, Ta91}
-use Rattle.standard.specs.declared.UnsealedBody.{UnsealedBody}
+use Rattle.standard.specs.Refusals.{UnsealedBody}
 use Rattle.standard.specs.declared.Version.{Version}
 use Rattle.standard.proofs.BytesLaws.{table_same, bytes_append, bytes_cons, bytes_part, bytes_one, bytes_zero}
 use Rattle.standard.proofs.CallPairLaws.{unsealed_by}

@@ -7,7 +7,6 @@ use Rattle.standard.specs.Seals.{kind_of, form, repeated, key10, key16, seal}
 use Rattle.standard.specs.Sizes.{ring_size, plain_size, sealed_size}
 use Rattle.standard.specs.declared.Algorithm.TheVariants.{Ta31, Ta51, Ta81, Ta91}
 use Rattle.standard.specs.declared.Kind.{Kind}
-use Rattle.standard.specs.declared.Named.{Named}
 use Rattle.standard.specs.declared.RingKey.TheVariants.{D, O, G}
 use Rattle.standard.proofs.BookLaws.{joined_same, joined_bytes, joined_length, joined_at}
 use Rattle.standard.proofs.BytesLaws.{spell, bytes_table, bytes_append, bytes_part, bytes_xors}
@@ -32,7 +31,7 @@ by_kind : (P : Kind → Type 0)
     → (b : ℕ) → P (named (kind_of b))
 unfolding kind_of
 by_kind P p₁ p₂ p₃ p₄ p₅ p₆ b =
-    let Q : Named → Type 0 = λ k. P (named k) in
+    let Q : Option Kind → Type 0 = λ k. P (named k) in
     choose_has Q (eqb b 1) p₁
     (choose_has Q (eqb b 2) p₂ (choose_has Q (eqb b 3) p₃ (choose_has Q (eqb b 4) p₄ (choose_has Q (eqb b 5) p₅ (choose_has Q (eqb b 6) p₆ p₄)))))
 

@@ -7,7 +7,7 @@ use Rattle.standard.specs.Refusals.{has_length, wrong_length, first}
 use Rattle.standard.specs.Seals.{key_length, sealing_size, form_of, opened, seal, unseal, fails, body_key, body_number, number_tests, seal_call, unseal_call}
 use Rattle.standard.specs.declared.Algorithm.{Algorithm}
 use Rattle.standard.specs.declared.Bytes15.{Bytes15}
-use Rattle.standard.specs.declared.UnsealedBody.{UnsealedBody}
+use Rattle.standard.specs.Refusals.{UnsealedBody}
 use Rattle.standard.specs.declared.Version.{Version}
 use Rattle.standard.proofs.BytesLaws.{and_split, every}
 use Rattle.standard.proofs.CallPairLaws.{sealed_by, unsealed_by}

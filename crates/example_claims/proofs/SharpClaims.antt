@@ -8,7 +8,7 @@ use Rattle.standard.specs.Hurdle.{S, D, a, Q, laid, schedule}
 use Rattle.standard.specs.Seals.{sealing_size, key10, key16, Form, form31, form51, form81, form_of, failed, with8}
 use Rattle.standard.specs.declared.Algorithm.{Algorithm}
 use Rattle.standard.specs.declared.Algorithm.TheVariants.{Ta31, Ta51, Ta81, Ta91}
-use Rattle.standard.specs.declared.UnsealedBody.{UnsealedBody}
+use Rattle.standard.specs.Refusals.{UnsealedBody}
 use Rattle.standard.proofs.BytesLaws.{and_split, every, every_at}
 use Rattle.claims.specs.Entries.{Opens, upward, version7}
 use Rattle.claims.specs.TrueClaims.{changed, noticed_from}

@@ -8,7 +8,7 @@ use Rattle.standard.specs.Bytes.{◌!◌}
 use Rattle.standard.specs.Lists.{joined}
 use Rattle.standard.specs.Lines.{text_call}
 use Rattle.lines.specs.LineStates.{room, shown, empty_line, push, ◌▸◌, Over}
-use Rattle.standard.specs.declared.TextAnswer.{TextAnswer}
+use Rattle.standard.specs.Lines.{TextAnswer}
 use Rattle.lines.specs.declared.Line.{Line}
 
 -- ---- one text after the other

@@ -4,7 +4,7 @@ ghost use Rattle.standard.specs.Bytes.{bytes_of};
 ghost use Rattle.standard.specs.Mixing.{tb1, tb5, tb6};
 ghost use Rattle.standard.specs.Refusals.{fits, valid_width};
 
-use arrays::xor10;
+use arrays::xor;
 
 // The value has at most `width` bits.
 pub(crate) fn fits_in(value: u64, width: u64) -> bool
@@ -67,7 +67,7 @@ pub(crate) fn tb5_of(
     let left = ((location_area * 4096 + carrier) * 64 + colour_code) * 256 + carrier / 16;
     let right = (((carrier % 16 * 64 + colour_code) * 4096 + carrier) * 64 + colour_code) * 4096
         + carrier;
-    xor10(cipher_key, halves10(left, right))
+    xor(cipher_key, halves10(left, right))
 }
 
 // TB6 in two halves of 40 bits, the second carrier cut after 4 of its 12.
@@ -78,5 +78,5 @@ pub(crate) fn tb6_of(cipher_key: [u8; 10], carrier: u64, identity: u64) -> [u8; 
 {
     let left = (carrier * 16777216 + identity) * 16 + carrier / 256;
     let right = (carrier % 256 * 16777216 + identity) * 256 + identity % 256;
-    xor10(cipher_key, halves10(left, right))
+    xor(cipher_key, halves10(left, right))
 }

@@ -4,19 +4,21 @@
 mod fields;
 
 ghost use Rattle.std.specs.Prelude.{[], ◌∷◌, ◌≡◌};
+ghost use Rattle.standard.specs.Answers.{bytes10, bytes16, refused_by};
 ghost use Rattle.standard.specs.Expansions.{grouped};
-ghost use Rattle.standard.specs.Mixing.{tb4 as tb4Of, tb7 as tb7Of, tb1_call, tb2_call, tb3_call, tb4_call, tb5_call, tb6_call, tb7_call};
+ghost use Rattle.standard.specs.Mixing.{tb4 as tb4_of, tb7 as tb7_of, tb1_call, tb2_call, tb3_call, tb4_call, tb5_call, tb6_call, tb7_call};
+ghost use Rattle.standard.specs.Refusals.{valid_width, fits, wrong_width, value_wide, first};
 
 use crate::fields::{fits_in, tb1_of, tb5_of, tb6_of};
-use arrays::{have_lengths, join_8_8, part10, part12, part16, xor10, xor16};
+use arrays::{both_exactly, exactly, join, part, xor};
 pub use fields::valid_width;
-use standard::{Bytes10, Bytes16, VALUE_WIDE, WRONG_LENGTH, WRONG_WIDTH};
+use standard::Refusal;
 
 // TB4 on typed arrays.
 pub fn tb4_of(a: [u8; 10], b: [u8; 10]) -> [u8; 10]
-    ensures { result ≡ tb4Of a b }
+    ensures { result ≡ tb4_of a b }
 {
-    xor10(a, b)
+    xor(a, b)
 }
 
 // The first two groups of three bytes, and after each its ⊕.
@@ -37,116 +39,90 @@ fn two_groups(b: [u8; 12]) -> [u8; 8]
 
 // TB7 on a typed array: after each three bytes, their ⊕.
 pub fn tb7_of(b: [u8; 12]) -> [u8; 16]
-    ensures { result ≡ tb7Of b }
+    ensures { result ≡ tb7_of b }
 {
-    join_8_8(two_groups(b), two_groups(part12(&b, 6)))
+    join(two_groups(b), two_groups(part(&b, 6)))
 }
 
 // The calls, over strings of any length and numbers of any size.
-#[tactic(auto, unfolding(standard::specs::Mixing::tb1_call))]
-pub fn tb1(value: u64, width: u64) -> Bytes16
-    ensures { result ≡ tb1_call value width }
+
+// 9 and 10: the width is one that TB1 takes, and the value has no more bits.
+fn check_value(value: u64, width: u64) -> Result<(), Refusal>
+    ensures { refused_by result ≡ first ((valid_width width, wrong_width) ∷ (fits width value, value_wide) ∷ []) }
 {
     if !valid_width(width) {
-        return Bytes16::refused(WRONG_WIDTH);
+        return Err(Refusal::WrongWidth);
     }
     if !fits_in(value, width) {
-        return Bytes16::refused(VALUE_WIDE);
+        return Err(Refusal::ValueWide);
     }
-    Bytes16 {
-        refusal: 0,
-        bytes: tb1_of(value, width),
-    }
+    Ok(())
+}
+
+#[tactic(auto, unfolding(standard::specs::Mixing::tb1_call))]
+pub fn tb1(value: u64, width: u64) -> Result<[u8; 16], Refusal>
+    ensures { bytes16 result ≡ tb1_call value width }
+{
+    check_value(value, width)?;
+    Ok(tb1_of(value, width))
 }
 
 #[tactic(auto, unfolding(standard::specs::Mixing::tb2_call))]
-pub fn tb2(input: &[u8]) -> Bytes16
-    ensures { result ≡ tb2_call input.now }
+pub fn tb2(input: &[u8]) -> Result<[u8; 16], Refusal>
+    ensures { bytes16 result ≡ tb2_call input.now }
 {
-    if input.len() != 16 {
-        return Bytes16::refused(WRONG_LENGTH);
-    }
-    Bytes16 {
-        refusal: 0,
-        bytes: part16(input, 0),
-    }
+    Ok(exactly(input)?)
 }
 
 #[tactic(auto, unfolding(standard::specs::Mixing::tb3_call, standard::specs::Mixing::tb3))]
-pub fn tb3(input: &[u8], value: u64, width: u64) -> Bytes16
-    ensures { result ≡ tb3_call input.now value width }
+pub fn tb3(input: &[u8], value: u64, width: u64) -> Result<[u8; 16], Refusal>
+    ensures { bytes16 result ≡ tb3_call input.now value width }
 {
-    if input.len() != 16 {
-        return Bytes16::refused(WRONG_LENGTH);
-    }
-    if !valid_width(width) {
-        return Bytes16::refused(WRONG_WIDTH);
-    }
-    if !fits_in(value, width) {
-        return Bytes16::refused(VALUE_WIDE);
-    }
-    Bytes16 {
-        refusal: 0,
-        bytes: xor16(part16(input, 0), tb1_of(value, width)),
-    }
+    let input = exactly(input)?;
+    check_value(value, width)?;
+    Ok(xor(input, tb1_of(value, width)))
 }
 
 #[tactic(auto, unfolding(standard::specs::Mixing::tb4_call))]
-pub fn tb4(input1: &[u8], input2: &[u8]) -> Bytes10
-    ensures { result ≡ tb4_call input1.now input2.now }
+pub fn tb4(input1: &[u8], input2: &[u8]) -> Result<[u8; 10], Refusal>
+    ensures { bytes10 result ≡ tb4_call input1.now input2.now }
 {
-    if !have_lengths(input1, 10, input2, 10) {
-        return Bytes10::refused(WRONG_LENGTH);
-    }
-    Bytes10 {
-        refusal: 0,
-        bytes: tb4_of(part10(input1, 0), part10(input2, 0)),
-    }
+    let (a, b) = both_exactly(input1, input2)?;
+    Ok(tb4_of(a, b))
 }
 
 #[tactic(auto, unfolding(standard::specs::Mixing::tb5_call))]
-pub fn tb5(cipher_key: &[u8], location_area: u64, carrier: u64, colour_code: u64) -> Bytes10
-    ensures { result ≡ tb5_call cipher_key.now location_area carrier colour_code }
+pub fn tb5(
+    cipher_key: &[u8],
+    location_area: u64,
+    carrier: u64,
+    colour_code: u64,
+) -> Result<[u8; 10], Refusal>
+    ensures { bytes10 result ≡ tb5_call cipher_key.now location_area carrier colour_code }
 {
-    if cipher_key.len() != 10 {
-        return Bytes10::refused(WRONG_LENGTH);
-    }
+    let cipher_key = exactly(cipher_key)?;
     let fit = fits_in(location_area, 14) & fits_in(carrier, 12) & fits_in(colour_code, 6);
     if !fit {
-        return Bytes10::refused(VALUE_WIDE);
+        return Err(Refusal::ValueWide);
     }
-    Bytes10 {
-        refusal: 0,
-        bytes: tb5_of(part10(cipher_key, 0), location_area, carrier, colour_code),
-    }
+    Ok(tb5_of(cipher_key, location_area, carrier, colour_code))
 }
 
 #[tactic(auto, unfolding(standard::specs::Mixing::tb6_call))]
-pub fn tb6(cipher_key: &[u8], carrier: u64, identity: u64) -> Bytes10
-    ensures { result ≡ tb6_call cipher_key.now carrier identity }
+pub fn tb6(cipher_key: &[u8], carrier: u64, identity: u64) -> Result<[u8; 10], Refusal>
+    ensures { bytes10 result ≡ tb6_call cipher_key.now carrier identity }
 {
-    if cipher_key.len() != 10 {
-        return Bytes10::refused(WRONG_LENGTH);
-    }
+    let cipher_key = exactly(cipher_key)?;
     let fit = fits_in(carrier, 12) & fits_in(identity, 24);
     if !fit {
-        return Bytes10::refused(VALUE_WIDE);
+        return Err(Refusal::ValueWide);
     }
-    Bytes10 {
-        refusal: 0,
-        bytes: tb6_of(part10(cipher_key, 0), carrier, identity),
-    }
+    Ok(tb6_of(cipher_key, carrier, identity))
 }
 
 #[tactic(auto, unfolding(standard::specs::Mixing::tb7_call))]
-pub fn tb7(group_key: &[u8]) -> Bytes16
-    ensures { result ≡ tb7_call group_key.now }
+pub fn tb7(group_key: &[u8]) -> Result<[u8; 16], Refusal>
+    ensures { bytes16 result ≡ tb7_call group_key.now }
 {
-    if group_key.len() != 12 {
-        return Bytes16::refused(WRONG_LENGTH);
-    }
-    Bytes16 {
-        refusal: 0,
-        bytes: tb7_of(part12(group_key, 0)),
-    }
+    exactly(group_key).map(tb7_of)
 }

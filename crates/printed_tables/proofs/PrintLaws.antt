@@ -5,7 +5,7 @@ use Rattle.standard.specs.Bytes.{◌!◌, part}
 use Rattle.standard.specs.Hurdle.{S, S⁻¹}
 use Rattle.standard.specs.PrintedTables.{inverse, rotations, spaced, table_line, table_lines, tables_text, tables_call}
 use Rattle.standard.specs.Lines.{ascii, hex_byte, text_call}
-use Rattle.standard.specs.declared.TextAnswer.{TextAnswer}
+use Rattle.standard.specs.Lines.{TextAnswer}
 use Rattle.lines.proofs.LineLaws.{line_append, line_whole, text_short, text_whole, over_next}
 use Rattle.lines.specs.LineStates.{shown, empty_line, ◌▸◌, Over}
 use Rattle.lines.specs.declared.Line.{Line}

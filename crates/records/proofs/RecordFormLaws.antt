@@ -8,22 +8,20 @@ use Rattle.standard.specs.Runs.{text_runs}
 use Rattle.standard.specs.Seals.{clear, kind_of, form, opened, fails, clears}
 use Rattle.standard.specs.Sizes.{plain_size, sealed_size}
 use Rattle.standard.specs.declared.Kind.{Kind}
-use Rattle.standard.specs.declared.Named.{Named}
-use Rattle.standard.specs.declared.Named.TheVariants.{Known, Unknown}
 use Rattle.records.specs.declared.Inspection.{Inspection}
 use Rattle.records.specs.RecordForms.{sealed_with, opened_with}
 
 -- the kind that a record's first byte names
-pub named_by : (rec : List ℕ) {b : ℕ} {found : Named} → b ≡ rec ! 0 → found ≡ kind_of b → kind_of (rec ! 0) ≡ found
+pub named_by : (rec : List ℕ) {b : ℕ} {found : Option Kind} → b ≡ rec ! 0 → found ≡ kind_of b → kind_of (rec ! 0) ≡ found
 named_by rec e f = ap kind_of (sym e) ∙ sym f
 
 -- ---- a plain record
 
-pub plain_unknown : (p : List ℕ) → kind_of (p ! 0) ≡ Unknown → 3 ≡ plain_fault p
+pub plain_unknown : (p : List ℕ) → kind_of (p ! 0) ≡ None → 3 ≡ plain_fault p
 unfolding plain_fault
 plain_unknown p e = rw e
 
-pub plain_known : (p : List ℕ) (k : Kind) → kind_of (p ! 0) ≡ Known k → (form k).fault (part 6 12 p) ≡ plain_fault p
+pub plain_known : (p : List ℕ) (k : Kind) → kind_of (p ! 0) ≡ Some k → (form k).fault (part 6 12 p) ≡ plain_fault p
 unfolding plain_fault
 plain_known p k e = rw e
 
@@ -33,12 +31,12 @@ plain_known p k e = rw e
 abbrev found : (refusal runs : ℕ) → Inspection
 found refusal runs = record { refusal = refusal; runs = runs }
 
-pub found_unknown : (r t : List ℕ) → kind_of (t ! 0) ≡ Unknown → found 3 0 ≡ found (open_fault r t) (inspection_runs t)
+pub found_unknown : (r t : List ℕ) → kind_of (t ! 0) ≡ None → found 3 0 ≡ found (open_fault r t) (inspection_runs t)
 unfolding open_fault inspection_runs
 found_unknown r t e = rw e
 
 -- of a known kind the flag decides, from the text opened under the core's key
-pub found_known : (r t : List ℕ) (k : Kind) → kind_of (t ! 0) ≡ Known k
+pub found_known : (r t : List ℕ) (k : Kind) → kind_of (t ! 0) ≡ Some k
     → found (choose (not (clear (form k) (opened ((form k).key (sealing_key k r) (part 4 2 t)) (part 6 15 t)))) flag_set 0) text_runs
     ≡ found (open_fault r t) (inspection_runs t)
 unfolding open_fault inspection_runs fails

@@ -126,6 +126,9 @@ part_seam m n xs ys h k =
     (λ i l. ap (λ (z : ℕ). (xs ++ ys) ! (z + i)) (sym h) ∙ get_or-append-add xs ys i 0)
     ∙ spelled n ys k
 
+pub part_whole : (n : ℕ) (xs : List ℕ) → length xs ≡ n → part 0 n xs ≡ xs
+part_whole n xs h = simp zero-add (spelled n xs h)
+
 -- what is lent is the part of the definitions: n bytes from a on, and `&xs[a..a + n]`
 pub part_lent : (a n : ℕ) (xs : List ℕ) → a + n ≤ length xs → take n (drop a xs) ≡ part a n xs
 part_lent a zero xs h = refl

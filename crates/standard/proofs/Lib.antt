@@ -8,6 +8,7 @@ pub mod KeysLaws
 pub mod InverseLaws
 pub mod HurdleLaws
 pub mod ScheduleLaws
+pub mod RefusalLaws
 pub mod RegisterLaws
 pub mod PrintedTablesLaws
 pub mod CoreLaws

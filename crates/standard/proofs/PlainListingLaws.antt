@@ -9,7 +9,7 @@ use Rattle.standard.specs.Programs.{meaning, meaning_text, wrote_text, answer_te
 use Rattle.standard.specs.Refusals.{output_short}
 use Rattle.standard.specs.Seals.{kind_of}
 use Rattle.standard.specs.Lines.{ascii, digits, hex_digit, hex, text_call}
-use Rattle.standard.specs.declared.TextAnswer.{TextAnswer}
+use Rattle.standard.specs.Lines.{TextAnswer}
 
 -- 01's book and the two lines that it prints; the same book with a byte that must be zero; the empty book
 pub record Listings : Type 0 where

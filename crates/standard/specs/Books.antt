@@ -1,5 +1,5 @@
 -- Books (01, Books): rings, records, well-formed books, sealed forms, and the book calls.
-use Rattle.std.specs.Prelude.{Bool, true, false, List, [], ◌∷◌, ◌++◌, ◌≡◌, ℕ, ◌*◌, ◌/◌, ◌%◌, ◌<◌, ◌≤◌, length}
+use Rattle.std.specs.Prelude.{Bool, true, false, List, [], ◌∷◌, ◌++◌, ◌≡◌, ℕ, ◌*◌, ◌/◌, ◌%◌, ◌<◌, ◌≤◌, length, Option, Some, None}
 use Rattle.standard.specs.Bytes.{◌!◌, part, choose}
 use Rattle.standard.specs.Identity.{ta61, ta61⁻¹}
 use Rattle.standard.specs.Lists.{record_at, each, length_tests, list_tests, answer, records_call}
@@ -11,8 +11,6 @@ use Rattle.standard.specs.declared.Algorithm.TheVariants.{Ta91}
 use Rattle.standard.specs.declared.BookAnswer.{BookAnswer}
 use Rattle.standard.specs.declared.CountedAnswer.{CountedAnswer}
 use Rattle.standard.specs.declared.Kind.{Kind}
-use Rattle.standard.specs.declared.Named.{Named}
-use Rattle.standard.specs.declared.Named.TheVariants.{Known, Unknown}
 use Rattle.standard.specs.declared.RingKey.{RingKey}
 use Rattle.standard.specs.declared.RingKey.TheVariants.{D, O, G}
 
@@ -32,14 +30,14 @@ common_key r = part 26 10 r
 
 -- ---- a record: kind 1, identity 3, version 2, then a body of 12 bytes (plain, 18) or a sealed text of 15 (sealed, 21)
 
-abbrev pub is_known : Named → Bool
-is_known (Known k) = true
-is_known Unknown = false
+abbrev pub is_known : Option Kind → Bool
+is_known (Some k) = true
+is_known None = false
 
 -- the kind; a byte that names none is refused before it comes to that
-abbrev pub named : Named → Kind
-named (Known k) = k
-named Unknown = record { algorithm = Ta91; under = O }
+abbrev pub named : Option Kind → Kind
+named (Some k) = k
+named None = record { algorithm = Ta91; under = O }
 
 abbrev pub record_kind : List ℕ → Kind
 record_kind p = named (kind_of (p ! 0))

@@ -11,6 +11,7 @@ pub mod BooksFacts
 pub mod Keys
 pub mod Mixing
 pub mod Refusals
+pub mod Answers
 pub mod Lines
 pub mod PlainListing
 pub mod PlainListingFacts

@@ -4,7 +4,6 @@ use Prim.Native.Char.{code}
 use Prim.Native.String.{String, [] as []ˢ, ◌∷◌ as ◌∷ˢ◌}
 use Rattle.standard.specs.Bytes.{choose}
 use Rattle.standard.specs.Refusals.{output_short}
-use Rattle.standard.specs.declared.TextAnswer.{TextAnswer}
 
 -- the bytes of a text in ASCII
 abbrev pub ascii : String → List ℕ
@@ -38,6 +37,10 @@ hex (b ∷ s) = hex_byte b ++ hex s
 
 -- A text into an output: 0 and the text's length, the output at exit being the text and then its own rest; or 12 and the output as it was
 -- if it has fewer bytes than the text.
+pub record TextAnswer : Type 0 where
+  pub refusal : ℕ
+  pub written : ℕ
+
 unfoldable pub text_call : List ℕ → List ℕ → TextAnswer × List ℕ
 text_call t out =
     choose (ltb (length out) (length t))

@@ -4,7 +4,7 @@ use Rattle.standard.specs.Bytes.{◌!◌, table, part, choose}
 use Rattle.standard.specs.Hurdle.{S, a}
 use Rattle.standard.specs.Lists.{each}
 use Rattle.standard.specs.Lines.{ascii, hex_byte, text_call}
-use Rattle.standard.specs.declared.TextAnswer.{TextAnswer}
+use Rattle.standard.specs.Lines.{TextAnswer}
 
 -- ---- the tables
 

@@ -11,7 +11,7 @@ use Rattle.standard.specs.Lines.{ascii, decimal, text_call}
 use Rattle.standard.specs.declared.BookAnswer.{BookAnswer}
 use Rattle.standard.specs.declared.CountedAnswer.{CountedAnswer}
 use Rattle.standard.specs.declared.RingMade.{RingMade}
-use Rattle.standard.specs.declared.TextAnswer.{TextAnswer}
+use Rattle.standard.specs.Lines.{TextAnswer}
 
 -- ---- makering
 

@@ -17,7 +17,6 @@ use Rattle.standard.specs.declared.CarrierIdentity.{CarrierIdentity}
 use Rattle.standard.specs.declared.Cell.{Cell}
 use Rattle.standard.specs.declared.Identity.{Identity}
 use Rattle.standard.specs.declared.RingMade.{RingMade}
-use Rattle.standard.specs.declared.UnsealedBody.{UnsealedBody}
 use Rattle.standard.specs.declared.Value.{Value}
 
 -- ---- the candidate's
@@ -146,6 +145,11 @@ abbrev pub identity : ℕ → ℕ → Identity
 identity r n = record { refusal = r; identity = choose (eqb r 0) n 0 }
 
 -- before key and number are taken out of the body; f has a bit for each check of the text that fails (02, 6)
+pub record UnsealedBody : Type 0 where
+  pub refusal : ℕ
+  pub body : List ℕ
+  pub failed_checks : ℕ
+
 abbrev pub unsealed_body : ℕ → List ℕ → ℕ → UnsealedBody
 unsealed_body r b f = record { refusal = r; body = choose (eqb r 0) b (zeros 12); failed_checks = choose (eqb r 0) f 0 }
 

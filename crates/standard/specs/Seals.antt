@@ -1,7 +1,7 @@
 -- Sealing and unsealing (01, Sealing and unsealing; 000, 5.8 to 5.11, 5.14 to 5.17).
 -- A body is what a plain record has after its version, 12 bytes: a key and two zero bytes (kind 1), a key, a zero byte and a number
 -- (kind 2), a key and a number of two bytes (kind 3), or a group key (kind 4). Kinds 5 and 6 are kinds 2 and 3 under another key (02, 4).
-use Rattle.std.specs.Prelude.{Bool, ◌&&◌, List, [], ◌∷◌, ◌++◌, ℕ, ◌+◌, ◌*◌, ◌/◌, ◌%◌, eqb, leb}
+use Rattle.std.specs.Prelude.{Bool, ◌&&◌, List, [], ◌∷◌, ◌++◌, ℕ, ◌+◌, ◌*◌, ◌/◌, ◌%◌, eqb, leb, Option, Some, None}
 use Rattle.std.specs.Int.Bits.{bit_or}
 use Rattle.standard.specs.Bytes.{◌!◌, ◌⊕◌, table, part, xors, zeros, bytes_of, choose}
 use Rattle.standard.specs.Cores.{bl1, bl2}
@@ -12,12 +12,10 @@ use Rattle.standard.specs.declared.Algorithm.TheVariants.{Ta31, Ta51, Ta81, Ta91
 use Rattle.standard.specs.declared.Bytes15.{Bytes15}
 use Rattle.standard.specs.declared.KeyNumber.{KeyNumber}
 use Rattle.standard.specs.declared.Kind.{Kind}
-use Rattle.standard.specs.declared.Named.{Named}
-use Rattle.standard.specs.declared.Named.TheVariants.{Known, Unknown}
 use Rattle.standard.specs.declared.RingKey.{RingKey}
 use Rattle.standard.specs.declared.RingKey.TheVariants.{D, O, G}
 use Rattle.standard.specs.declared.Unsealed.{Unsealed}
-use Rattle.standard.specs.declared.UnsealedBody.{UnsealedBody}
+use Rattle.standard.specs.Refusals.{UnsealedBody}
 use Rattle.standard.specs.declared.UnsealedGroup.{UnsealedGroup}
 use Rattle.standard.specs.declared.UnsealedNumbered.{UnsealedNumbered}
 use Rattle.standard.specs.declared.Version.{Version}
@@ -25,15 +23,15 @@ use Rattle.standard.specs.declared.Version.{Version}
 -- ---- the kinds
 
 -- sealed by an algorithm, under a key of the ring
-abbrev pub kind : Algorithm → RingKey → Named
-kind a k = Known (record { algorithm = a; under = k })
+abbrev pub kind : Algorithm → RingKey → Option Kind
+kind a k = Some (record { algorithm = a; under = k })
 
 -- the kind that a byte names
-unfoldable pub kind_of : ℕ → Named
+unfoldable pub kind_of : ℕ → Option Kind
 kind_of b =
     choose (eqb b 1) (kind Ta31 D)
     (choose (eqb b 2) (kind Ta51 O)
-    (choose (eqb b 3) (kind Ta81 O) (choose (eqb b 4) (kind Ta91 O) (choose (eqb b 5) (kind Ta51 G) (choose (eqb b 6) (kind Ta81 G) Unknown)))))
+    (choose (eqb b 3) (kind Ta81 O) (choose (eqb b 4) (kind Ta91 O) (choose (eqb b 5) (kind Ta51 G) (choose (eqb b 6) (kind Ta81 G) None)))))
 
 abbrev pub key_length : Algorithm → ℕ
 key_length Ta31 = 10

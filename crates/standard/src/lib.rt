@@ -1,11 +1,12 @@
-// What the calls take and answer with. An answer's first field is 0, or the number of the refusal; a refused answer has zeros
-// in all its other fields, but for a book's index and a refused opening's runs: `refused` makes such an answer.
+// What the calls take and give. A call of the libraries gives a value, or a refusal; C has both in one struct, whose first field is 0 or the
+// refusal's number, and all its other fields zeros if it is refused, but for a book's index and a refused opening's runs. `answers` makes
+// each such struct.
 #![tactic(auto)]
 
+mod answers;
+
 ghost use Rattle.std.specs.Prelude.{[], ◌∷◌, ◌≡◌, ◌+◌, ◌*◌};
-ghost use Rattle.standard.specs.Bytes.{zeros, bytes_of};
-ghost use Rattle.standard.specs.Lists.{refused};
-ghost use Rattle.standard.specs.Sizes.{ring_size};
+ghost use Rattle.standard.specs.Bytes.{bytes_of};
 ghost use Rattle.standard.specs.Seals.{kind, kind_of, key_length, highest_number};
 
 // Sizes in bytes: a ring, a plain and a sealed record, a sitting's file, a challenge and what TA12 answers to it, a record and
@@ -36,181 +37,98 @@ pub const TEXT_RUNS: usize = 2;
 
 pub const IDENTITY_RUNS: usize = 1;
 
-// The refusals; specs/Refusals has them by who causes them.
-pub const BOOK_TOO_LONG: u32 = 1;
-
-pub const BOOK_NOT_WHOLE: u32 = 2;
-
-pub const WRONG_KIND: u32 = 3;
-
-pub const NOT_ZERO: u32 = 4;
-
-pub const WRONG_NUMBER: u32 = 5;
-
-pub const FLAG_SET: u32 = 6;
-
-pub const WRONG_MASK: u32 = 7;
-
-pub const SHARED_BIT: u32 = 8;
-
-pub const WRONG_WIDTH: u32 = 9;
-
-pub const VALUE_WIDE: u32 = 10;
-
-pub const WRONG_LENGTH: u32 = 11;
-
-pub const OUTPUT_SHORT: u32 = 12;
-
-pub const WRONG_SIDES: u32 = 13;
-
-pub const WRONG_FILLING: u32 = 14;
-
-pub const WRONG_PARENT: u32 = 15;
-
-pub const PARENT_LENGTH: u32 = 16;
-
-pub const NO_INPUT: u32 = 17;
-
-pub const GROUP_UNREADABLE: u32 = 18;
-
-pub const GROUP_DISAGREES: u32 = 19;
+// The refusals. Each has the number that specs/Refusals gives it; who causes which stands there.
+#[derive(Clone, Copy, Debug, PartialEq, Eq)]
+pub enum Refusal {
+    BookTooLong,
+    BookNotWhole,
+    WrongKind,
+    NotZero,
+    WrongNumber,
+    FlagSet,
+    WrongMask,
+    SharedBit,
+    WrongWidth,
+    ValueWide,
+    WrongLength,
+    OutputShort,
+    WrongSides,
+    WrongFilling,
+    WrongParent,
+    ParentLength,
+    NoInput,
+    GroupUnreadable,
+    GroupDisagrees,
+}
 
 // A ring's bytes, after their length was tested.
 pub type RingBytes = [u8; RING];
 
 // A version number, which is never taken for a key number.
 #[repr(C)]
-#[derive(Drop)]
+#[derive(Clone, Copy, Debug, PartialEq, Eq)]
 pub struct Version(pub u16);
 
 // A key number, which is never taken for a version number.
 #[repr(C)]
-#[derive(Drop)]
+#[derive(Clone, Copy, Debug, PartialEq, Eq)]
 pub struct KeyNumber(pub u16);
 
 #[repr(C)]
-#[derive(Drop)]
+#[derive(Clone, Copy, Debug, PartialEq, Eq)]
 pub struct Bytes8 {
     pub refusal: u32,
     pub bytes: [u8; 8],
 }
 
-impl Bytes8 {
-    pub fn refused(refusal: u32) -> Bytes8
-        ensures { result ≡ record { refusal = refusal; bytes = zeros 8 } }
-    {
-        Bytes8 {
-            refusal,
-            bytes: [0; 8],
-        }
-    }
-}
-
 #[repr(C)]
-#[derive(Drop)]
+#[derive(Clone, Copy, Debug, PartialEq, Eq)]
 pub struct Bytes10 {
     pub refusal: u32,
     pub bytes: [u8; 10],
 }
 
-impl Bytes10 {
-    pub fn refused(refusal: u32) -> Bytes10
-        ensures { result ≡ record { refusal = refusal; bytes = zeros 10 } }
-    {
-        Bytes10 {
-            refusal,
-            bytes: [0; 10],
-        }
-    }
-}
-
 #[repr(C)]
-#[derive(Drop)]
+#[derive(Clone, Copy, Debug, PartialEq, Eq)]
 pub struct Bytes15 {
     pub refusal: u32,
     pub bytes: [u8; 15],
 }
 
-impl Bytes15 {
-    pub fn refused(refusal: u32) -> Bytes15
-        ensures { result ≡ record { refusal = refusal; bytes = zeros 15 } }
-    {
-        Bytes15 {
-            refusal,
-            bytes: [0; 15],
-        }
-    }
-}
-
 #[repr(C)]
-#[derive(Drop)]
+#[derive(Clone, Copy, Debug, PartialEq, Eq)]
 pub struct Bytes16 {
     pub refusal: u32,
     pub bytes: [u8; 16],
 }
 
-impl Bytes16 {
-    pub fn refused(refusal: u32) -> Bytes16
-        ensures { result ≡ record { refusal = refusal; bytes = zeros 16 } }
-    {
-        Bytes16 {
-            refusal,
-            bytes: [0; 16],
-        }
-    }
-}
-
 // What TA12 and TA22 answer.
 #[repr(C)]
-#[derive(Drop)]
+#[derive(Clone, Copy, Debug, PartialEq, Eq)]
 pub struct Authentication {
     pub refusal: u32,
     pub response: [u8; 4],
     pub key: [u8; 10],
 }
 
-impl Authentication {
-    pub fn refused(refusal: u32) -> Authentication
-        ensures { result ≡ record { refusal = refusal; response = zeros 4; key = zeros 10 } }
-    {
-        Authentication {
-            refusal,
-            response: [0; 4],
-            key: [0; 10],
-        }
-    }
+// A response and a key, as TA12 and TA22 choose them from BL1's output.
+#[derive(Clone, Copy, Debug, PartialEq, Eq)]
+pub struct ResponseAndKey {
+    pub response: [u8; 4],
+    pub key: [u8; 10],
 }
 
 // What TA61 and its inverse answer.
 #[repr(C)]
-#[derive(Drop)]
+#[derive(Clone, Copy, Debug, PartialEq, Eq)]
 pub struct Identity {
     pub refusal: u32,
     pub identity: u32,
 }
 
-impl Identity {
-    pub fn refused(refusal: u32) -> Identity
-        ensures { result ≡ record { refusal = refusal; identity = 0 } }
-    {
-        Identity {
-            refusal,
-            identity: 0,
-        }
-    }
-}
-
-// What an unsealing call answers, before key and number are taken out of the body.
-#[derive(Drop)]
-pub struct UnsealedBody {
-    pub refusal: u32,
-    pub body: [u8; 12],
-    pub failed_checks: u16,
-}
-
 // What TA32 answers.
 #[repr(C)]
-#[derive(Drop)]
+#[derive(Clone, Copy, Debug, PartialEq, Eq)]
 pub struct Unsealed {
     pub refusal: u32,
     pub key: [u8; 10],
@@ -219,7 +137,7 @@ pub struct Unsealed {
 
 // What TA52 and TA82 answer.
 #[repr(C)]
-#[derive(Drop)]
+#[derive(Clone, Copy, Debug, PartialEq, Eq)]
 pub struct UnsealedNumbered {
     pub refusal: u32,
     pub key: [u8; 10],
@@ -229,32 +147,39 @@ pub struct UnsealedNumbered {
 
 // What TA92 answers.
 #[repr(C)]
-#[derive(Drop)]
+#[derive(Clone, Copy, Debug, PartialEq, Eq)]
 pub struct UnsealedGroup {
     pub refusal: u32,
     pub key: [u8; 12],
     pub failed_checks: u16,
 }
 
+// A key of N bytes that was unsealed, and a bit for each check of its text that fails.
+#[derive(Clone, Copy, Debug, PartialEq, Eq)]
+pub struct Opened<const N: usize> {
+    pub key: [u8; N],
+    pub failed_checks: u16,
+}
+
+// The same with its number.
+#[derive(Clone, Copy, Debug, PartialEq, Eq)]
+pub struct OpenedNumbered {
+    pub key: [u8; 10],
+    pub number: u16,
+    pub failed_checks: u16,
+}
+
 // What the inverses of TB1 and TB3 answer.
 #[repr(C)]
-#[derive(Drop)]
+#[derive(Clone, Copy, Debug, PartialEq, Eq)]
 pub struct Value {
     pub refusal: u32,
     pub value: u32,
 }
 
-impl Value {
-    pub fn refused(refusal: u32) -> Value
-        ensures { result ≡ record { refusal = refusal; value = 0 } }
-    {
-        Value { refusal, value: 0 }
-    }
-}
-
 // What the inverse of TB5 answers.
 #[repr(C)]
-#[derive(Drop)]
+#[derive(Clone, Copy, Debug, PartialEq, Eq)]
 pub struct Cell {
     pub refusal: u32,
     pub location_area: u32,
@@ -262,63 +187,48 @@ pub struct Cell {
     pub colour_code: u32,
 }
 
-impl Cell {
-    pub fn refused(refusal: u32) -> Cell
-        ensures { result ≡ record { refusal = refusal; location_area = 0; carrier = 0; colour_code = 0 } }
-    {
-        Cell {
-            refusal,
-            location_area: 0,
-            carrier: 0,
-            colour_code: 0,
-        }
-    }
+// The fields that TB5 mixes into a key.
+#[derive(Clone, Copy, Debug, PartialEq, Eq)]
+pub struct CellFields {
+    pub location_area: u32,
+    pub carrier: u32,
+    pub colour_code: u32,
 }
 
 // What the inverse of TB6 answers.
 #[repr(C)]
-#[derive(Drop)]
+#[derive(Clone, Copy, Debug, PartialEq, Eq)]
 pub struct CarrierIdentity {
     pub refusal: u32,
     pub carrier: u32,
     pub identity: u32,
 }
 
-impl CarrierIdentity {
-    pub fn refused(refusal: u32) -> CarrierIdentity
-        ensures { result ≡ record { refusal = refusal; carrier = 0; identity = 0 } }
-    {
-        CarrierIdentity {
-            refusal,
-            carrier: 0,
-            identity: 0,
-        }
-    }
+// The fields that TB6 mixes into a key.
+#[derive(Clone, Copy, Debug, PartialEq, Eq)]
+pub struct CarrierFields {
+    pub carrier: u32,
+    pub identity: u32,
 }
 
 // What the restoring of a card answers: the group key, and the card in its TB7 form.
 #[repr(C)]
-#[derive(Drop)]
+#[derive(Clone, Copy, Debug, PartialEq, Eq)]
 pub struct Card {
     pub refusal: u32,
     pub key: [u8; 12],
     pub card: [u8; 16],
 }
 
-impl Card {
-    pub fn refused(refusal: u32) -> Card
-        ensures { result ≡ record { refusal = refusal; key = zeros 12; card = zeros 16 } }
-    {
-        Card {
-            refusal,
-            key: [0; 12],
-            card: [0; 16],
-        }
-    }
+// A restored card, and its key.
+#[derive(Clone, Copy, Debug, PartialEq, Eq)]
+pub struct RestoredCard {
+    pub key: [u8; 12],
+    pub card: [u8; 16],
 }
 
 // What the ring recipe takes.
-#[derive(Drop)]
+#[derive(Clone, Copy, Debug, PartialEq, Eq)]
 pub struct RingInputs {
     pub root: [u8; 16],
     pub rs: [u8; 10],
@@ -334,7 +244,7 @@ pub struct RingInputs {
 
 // What the ring recipe answers.
 #[repr(C)]
-#[derive(Drop)]
+#[derive(Clone, Copy, Debug, PartialEq, Eq)]
 pub struct RingMade {
     pub refusal: u32,
     pub ring: RingBytes,
@@ -342,43 +252,40 @@ pub struct RingMade {
     pub response2: [u8; 4],
 }
 
-impl RingMade {
-    pub fn refused(refusal: u32) -> RingMade
-        ensures { result ≡ record { refusal = refusal; ring = zeros ring_size; response1 = zeros 4; response2 = zeros 4 } }
-    {
-        RingMade {
-            refusal,
-            ring: [0; RING],
-            response1: [0; 4],
-            response2: [0; 4],
-        }
-    }
+// A ring, and the responses of both sides.
+#[derive(Clone, Copy, Debug, PartialEq, Eq)]
+pub struct RingAndResponses {
+    pub ring: RingBytes,
+    pub response1: [u8; 4],
+    pub response2: [u8; 4],
 }
 
 // What a book call answers: a refused book has the offending record's index, and nothing written; an accepted one the number of records.
 #[repr(C)]
-#[derive(Drop)]
+#[derive(Clone, Copy, Debug, PartialEq, Eq)]
 pub struct BookAnswer {
     pub refusal: u32,
     pub index: usize,
     pub written: usize,
 }
 
-impl BookAnswer {
-    pub fn refused(refusal: u32, index: usize) -> BookAnswer
-        ensures { result ≡ refused refusal index }
-    {
-        BookAnswer {
-            refusal,
-            index,
-            written: 0,
-        }
-    }
+// What an accepted list came to: its records, and the bytes written for them.
+#[derive(Clone, Copy, Debug, PartialEq, Eq)]
+pub struct Written {
+    pub records: usize,
+    pub bytes: usize,
+}
+
+// A list's refusal, and the index of the record that caused it; 0 if none did.
+#[derive(Clone, Copy, Debug, PartialEq, Eq)]
+pub struct RefusedAt {
+    pub refusal: Refusal,
+    pub index: usize,
 }
 
 // What sealing and opening a book answer: also how many block cipher runs they took.
 #[repr(C)]
-#[derive(Drop)]
+#[derive(Clone, Copy, Debug, PartialEq, Eq)]
 pub struct CountedAnswer {
     pub refusal: u32,
     pub index: usize,
@@ -386,22 +293,24 @@ pub struct CountedAnswer {
     pub runs: usize,
 }
 
-impl CountedAnswer {
-    pub fn refused(refusal: u32, index: usize, runs: usize) -> CountedAnswer
-        ensures { result ≡ record { refusal = refusal; index = index; written = 0; runs = runs } }
-    {
-        CountedAnswer {
-            refusal,
-            index,
-            written: 0,
-            runs,
-        }
-    }
+// The same of a book that was sealed or opened, with the block cipher runs.
+#[derive(Clone, Copy, Debug, PartialEq, Eq)]
+pub struct CountedWritten {
+    pub records: usize,
+    pub bytes: usize,
+    pub runs: usize,
+}
+
+#[derive(Clone, Copy, Debug, PartialEq, Eq)]
+pub struct CountedRefusal {
+    pub refusal: Refusal,
+    pub index: usize,
+    pub runs: usize,
 }
 
 // What the diffusion tally answers: the flips tried, the total of changed bits, the least and the greatest change of one flip.
 #[repr(C)]
-#[derive(Drop)]
+#[derive(Clone, Copy, Debug, PartialEq, Eq)]
 pub struct Tally {
     pub refusal: u32,
     pub flips: u32,
@@ -410,27 +319,17 @@ pub struct Tally {
     pub greatest: u32,
 }
 
-// What a call that writes a text answers.
-#[repr(C)]
-#[derive(Drop)]
-pub struct TextAnswer {
-    pub refusal: u32,
-    pub written: usize,
-}
-
-impl TextAnswer {
-    pub fn refused(refusal: u32) -> TextAnswer
-        ensures { result ≡ record { refusal = refusal; written = 0 } }
-    {
-        TextAnswer {
-            refusal,
-            written: 0,
-        }
-    }
+// The figures of a tally.
+#[derive(Clone, Copy, Debug, PartialEq, Eq)]
+pub struct Changes {
+    pub flips: u32,
+    pub total: u32,
+    pub least: u32,
+    pub greatest: u32,
 }
 
 // The algorithms that seal a key, each with its inverse.
-#[derive(Clone, Copy)]
+#[derive(Clone, Copy, Debug, PartialEq, Eq)]
 pub enum Algorithm {
     Ta31,
     Ta51,
@@ -439,7 +338,7 @@ pub enum Algorithm {
 }
 
 // The keys of a ring that seal.
-#[derive(Clone, Copy)]
+#[derive(Clone, Copy, Debug, PartialEq, Eq)]
 pub enum RingKey {
     D,
     O,
@@ -447,17 +346,10 @@ pub enum RingKey {
 }
 
 // The kind of a record: the algorithm that seals its key, and the key of the ring that it is sealed under.
-#[derive(Clone, Copy)]
+#[derive(Clone, Copy, Debug, PartialEq, Eq)]
 pub struct Kind {
     pub algorithm: Algorithm,
     pub under: RingKey,
-}
-
-// What a kind byte names.
-#[derive(Drop)]
-pub enum Named {
-    Known(Kind),
-    Unknown,
 }
 
 impl Kind {
@@ -477,7 +369,7 @@ impl Kind {
     pub const TA81_HIGHEST: u16 = 65535;
 
     #[tactic(auto, unfolding(crate::specs::Seals::kind_of))]
-    pub fn from_byte(b: u8) -> Named
+    pub fn from_byte(b: u8) -> Option<Kind>
         ensures { result ≡ kind_of b }
     {
         match b {
@@ -487,15 +379,14 @@ impl Kind {
             4 => known(Algorithm::Ta91, RingKey::O),
             5 => known(Algorithm::Ta51, RingKey::G),
             6 => known(Algorithm::Ta81, RingKey::G),
-            _ => Named::Unknown,
+            _ => None,
         }
     }
 
     pub fn key_length(self) -> usize
         ensures { result ≡ key_length self.algorithm }
     {
-        let algorithm = self.algorithm;
-        match algorithm {
+        match self.algorithm {
             Algorithm::Ta31 => Self::CIPHER_KEY,
             Algorithm::Ta51 => Self::CIPHER_KEY,
             Algorithm::Ta81 => Self::CIPHER_KEY,
@@ -507,8 +398,7 @@ impl Kind {
     pub fn highest_number(self) -> u16
         ensures { result ≡ highest_number self.algorithm }
     {
-        let algorithm = self.algorithm;
-        match algorithm {
+        match self.algorithm {
             Algorithm::Ta31 => 0,
             Algorithm::Ta51 => Self::TA51_HIGHEST,
             Algorithm::Ta81 => Self::TA81_HIGHEST,
@@ -517,10 +407,10 @@ impl Kind {
     }
 }
 
-fn known(algorithm: Algorithm, under: RingKey) -> Named
+fn known(algorithm: Algorithm, under: RingKey) -> Option<Kind>
     ensures { result ≡ kind algorithm under }
 {
-    Named::Known(Kind { algorithm, under })
+    Some(Kind { algorithm, under })
 }
 
 // The number that two bytes spell, the high one first.
