@@ -7,6 +7,7 @@ mod round;
 mod tables;
 
 ghost use Rattle.std.specs.Prelude.{◌≡◌};
+ghost use Rattle.standard.specs.Answers.{bytes8};
 ghost use Rattle.standard.specs.Bytes.{◌!◌, table};
 ghost use Rattle.hurdle.specs.Lanes.{lanes, lane, by_lane};
 ghost use Rattle.hurdle.specs.RoundSteps.{crypt_call};
@@ -17,10 +18,10 @@ use crate::key_schedule::lay_out_round_keys;
 use crate::lanes::crypt_x4;
 use crate::round::crypt;
 use crate::tables::{S_INVERSE, entry, s_copy};
-use arrays::{have_lengths, part8, part16};
+use arrays::both_exactly;
 pub use key_schedule::doubled;
 pub use round::{Halves, block_of, round_under, split};
-use standard::{Bytes8, WRONG_LENGTH};
+use standard::Refusal;
 pub use tables::{A, D, S, SPREAD};
 
 // All sixteen round keys, the first one first.
@@ -98,29 +99,25 @@ pub fn substitute_back(x: [u8; 3]) -> [u8; 3]
 }
 
 // A call in either direction, over strings of any length.
-fn crypted(key: &[u8], block: &[u8], back: bool) -> Bytes8
-    ensures { result ≡ crypt_call key.now block.now back }
+#[tactic(auto, unfolding(crate::specs::RoundSteps::crypt_call))]
+fn crypted(key: &[u8], block: &[u8], back: bool) -> Result<[u8; 8], Refusal>
+    ensures { bytes8 result ≡ crypt_call key.now block.now back }
 {
-    if !have_lengths(key, 16, block, 8) {
-        return Bytes8::refused(WRONG_LENGTH);
-    }
-    let keys = lay_out_round_keys(part16(key, 0));
-    Bytes8 {
-        refusal: 0,
-        bytes: crypt(&keys, part8(block, 0), back),
-    }
+    let (key, block) = both_exactly(key, block)?;
+    let keys = lay_out_round_keys(key);
+    Ok(crypt(&keys, block, back))
 }
 
 #[tactic(auto, unfolding(crate::specs::RoundSteps::crypt_call, standard::specs::Hurdle::encrypt_call, standard::specs::Hurdle::encrypt))]
-pub fn encrypt(key: &[u8], block: &[u8]) -> Bytes8
-    ensures { result ≡ encrypt_call key.now block.now }
+pub fn encrypt(key: &[u8], block: &[u8]) -> Result<[u8; 8], Refusal>
+    ensures { bytes8 result ≡ encrypt_call key.now block.now }
 {
     crypted(key, block, false)
 }
 
 #[tactic(auto, unfolding(crate::specs::RoundSteps::crypt_call, standard::specs::Hurdle::decrypt_call, standard::specs::Hurdle::decrypt))]
-pub fn decrypt(key: &[u8], block: &[u8]) -> Bytes8
-    ensures { result ≡ decrypt_call key.now block.now }
+pub fn decrypt(key: &[u8], block: &[u8]) -> Result<[u8; 8], Refusal>
+    ensures { bytes8 result ≡ decrypt_call key.now block.now }
 {
     crypted(key, block, true)
 }
