@@ -6,7 +6,17 @@ mod parts;
 mod words;
 mod xors;
 
+ghost use Rattle.std.specs.Prelude.{◌≡◌};
+ghost use Rattle.standard.specs.Bytes.{same as same_of};
+
 pub use joins::join;
 pub use parts::{both_exactly, byte_at, copy, exactly, part};
 pub use words::{bytes3, word};
 pub use xors::xor;
+
+// Two strings are the same.
+pub fn same(a: &[u8], b: &[u8]) -> bool
+    ensures { result ≡ same_of a.now b.now }
+{
+    a == b
+}

@@ -2,6 +2,7 @@
 -- definitions answer in C's form, and the libraries' contracts say that what they give comes to that.
 use Rattle.std.specs.Prelude.{List, [], ◌∷◌, ℕ, Bool, Result, Ok, Err, length}
 use Rattle.standard.specs.Bytes.{choose, zeros}
+use Rattle.standard.specs.Lines.{TextAnswer}
 use Rattle.standard.specs.Lists.{refused}
 use Rattle.standard.specs.Refusals.{book_too_long, book_not_whole, wrong_kind, not_zero, wrong_number, flag_set, wrong_mask, shared_bit, wrong_width, value_wide}
 use Rattle.standard.specs.Refusals.{wrong_length, output_short, wrong_sides, wrong_filling, wrong_parent, parent_length, no_input, group_unreadable, group_disagrees}
@@ -136,3 +137,7 @@ book_answer (Err a) = refused (refusal_number a.refusal) a.index
 abbrev pub counted_answer : Result CountedWritten CountedRefusal → CountedAnswer
 counted_answer (Ok w) = record { refusal = 0; index = w.records; written = w.bytes; runs = w.runs }
 counted_answer (Err a) = record { refusal = refusal_number a.refusal; index = a.index; written = 0; runs = a.runs }
+
+abbrev pub text_answer : Result ℕ Refusal → TextAnswer
+text_answer (Ok n) = record { refusal = 0; written = n }
+text_answer (Err r) = record { refusal = refusal_number r; written = 0 }
