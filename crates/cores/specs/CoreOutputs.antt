@@ -4,8 +4,7 @@ use Rattle.standard.specs.Bytes.{◌!◌, ◌⊕◌, part, xors}
 use Rattle.standard.specs.Expansions.{sum_at}
 use Rattle.standard.specs.Hurdle.{decrypt_with}
 use Rattle.standard.specs.Runs.{text_runs}
-use Rattle.cores.specs.declared.CoreOutput15.{CoreOutput15}
-use Rattle.cores.specs.declared.CoreOutput16.{CoreOutput16}
+use Rattle.cores.specs.declared.CoreOutput.{CoreOutput}
 
 -- the byte sums of the five pairs
 pub record Sums (x : List ℕ) (a b c d e : ℕ) : Type 0 where
@@ -27,9 +26,6 @@ bl2_with keys y =
     let w : List ℕ = part 0 7 y ++ (y ! 7 ⊕ r ! 7) ∷ [] in
     part 0 8 (decrypt_with keys w) ++ xors 7 r (part 0 7 y)
 
--- an output of BL1, and of BL2, with the cipher runs that it took
-abbrev pub counted16 : List ℕ → CoreOutput16
-counted16 o = record { output = o; runs = text_runs }
-
-abbrev pub counted15 : List ℕ → CoreOutput15
-counted15 o = record { output = o; runs = text_runs }
+-- an output of BL1, sixteen bytes, or of BL2, fifteen, with the cipher runs that it took
+abbrev pub counted : {n : ℕ} → List ℕ → CoreOutput n
+counted o = record { output = o; runs = text_runs }

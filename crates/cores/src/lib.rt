@@ -5,9 +5,9 @@ ghost use Rattle.std.specs.Prelude.{◌≡◌, [], ◌∷◌, ◌++◌};
 ghost use Rattle.standard.specs.Bytes.{◌!◌, ◌⊕◌, ◌⊞◌, part, xors};
 ghost use Rattle.standard.specs.Cores.{bl1_with, bl1 as bl1_of, bl2 as bl2_of};
 ghost use Rattle.standard.specs.Expansions.{exp1, exp2 as exp2_of, exp4 as exp4_of, xor_of};
-ghost use Rattle.cores.specs.CoreOutputs.{Sums as SumsOf, with_sums, bl2_with, counted16, counted15};
+ghost use Rattle.cores.specs.CoreOutputs.{Sums as SumsOf, with_sums, bl2_with, counted};
 
-use arrays::{join_8_8, part8, part15, xor8};
+use arrays::{join, part, xor};
 use hurdle::{decrypt_with, encrypt_with, schedule};
 use standard::TEXT_RUNS;
 use std::num::wrapping_add_u8;
@@ -54,7 +54,7 @@ pub fn exp2(b: [u8; 10]) -> [u8; 16]
 }
 
 // The byte sums of the five pairs.
-#[derive(Drop)]
+#[derive(Clone, Copy, Debug, PartialEq, Eq)]
 struct Sums {
     a: u8,
     b: u8,
@@ -110,56 +110,52 @@ pub fn exp4(b: [u8; 10]) -> [u8; 16]
 pub fn left(x: [u8; 16]) -> [u8; 8]
     ensures { result ≡ part 0 8 x }
 {
-    part8(&x, 0)
+    part(&x, 0)
 }
 
 pub fn right(x: [u8; 16]) -> [u8; 8]
     ensures { result ≡ part 8 8 x }
 {
-    part8(&x, 8)
+    part(&x, 8)
 }
 
 // The right block of x ⊕ the left output.
 pub fn bl1_right_input(x: [u8; 16], l: [u8; 8]) -> [u8; 8]
     ensures { result ≡ xors 8 (part 8 8 x) l }
 {
-    xor8(right(x), l)
+    xor(right(x), l)
 }
 
 // What a core gives, BL1 sixteen bytes and BL2 fifteen, and the block cipher runs that it took.
-#[derive(Clone, Copy)]
-pub struct CoreOutput16 {
-    pub output: [u8; 16],
-    pub runs: usize,
-}
-
-#[derive(Clone, Copy)]
-pub struct CoreOutput15 {
-    pub output: [u8; 15],
+#[derive(Clone, Copy, Debug, PartialEq, Eq)]
+pub struct CoreOutput<const N: usize> {
+    pub output: [u8; N],
     pub runs: usize,
 }
 
 // BL1's output: what its two cipher runs gave, one after the other.
-pub fn bl1_output(l: [u8; 8], r: [u8; 8]) -> CoreOutput16
-    ensures { result ≡ counted16 (part 0 8 l ++ part 0 8 r) }
+pub fn bl1_output(l: [u8; 8], r: [u8; 8]) -> CoreOutput<16>
+    ensures { result ≡ counted (part 0 8 l ++ part 0 8 r) }
 {
-    CoreOutput16 {
-        output: join_8_8(l, r),
+    CoreOutput {
+        output: join(l, r),
         runs: TEXT_RUNS,
     }
 }
 
 // BL1 under round keys that were laid out before.
-pub fn bl1_with(keys: &[u8; 192], x: [u8; 16]) -> CoreOutput16
-    ensures { result ≡ counted16 (bl1_with keys.now x) }
+#[tactic(auto, unfolding(standard::specs::Cores::bl1_with))]
+pub fn bl1_with(keys: &[u8; 192], x: [u8; 16]) -> CoreOutput<16>
+    ensures { result ≡ counted (bl1_with keys.now x) }
 {
     let l = encrypt_with(keys, left(x));
     let r = encrypt_with(keys, bl1_right_input(x, l));
     bl1_output(l, r)
 }
 
-pub fn bl1(key: [u8; 16], x: [u8; 16]) -> CoreOutput16
-    ensures { result ≡ counted16 (bl1_of key x) }
+#[tactic(auto, unfolding(standard::specs::Cores::bl1))]
+pub fn bl1(key: [u8; 16], x: [u8; 16]) -> CoreOutput<16>
+    ensures { result ≡ counted (bl1_of key x) }
 {
     let keys = schedule(key);
     bl1_with(&keys, x)
@@ -173,26 +169,28 @@ pub fn bl2_left_input(y: [u8; 16], r: [u8; 8]) -> [u8; 8]
 }
 
 // BL2's output: what its two cipher runs gave, the left one whole, and the first seven bytes of the right one ⊕ those of y.
-pub fn bl2_output(l: [u8; 8], r: [u8; 8], y: [u8; 16]) -> CoreOutput15
-    ensures { result ≡ counted15 (part 0 8 l ++ xors 7 r (part 0 7 y)) }
+pub fn bl2_output(l: [u8; 8], r: [u8; 8], y: [u8; 16]) -> CoreOutput<15>
+    ensures { result ≡ counted (part 0 8 l ++ xors 7 r (part 0 7 y)) }
 {
-    let whole = join_8_8(l, xor8(r, left(y)));
-    CoreOutput15 {
-        output: part15(&whole, 0),
+    let whole: [u8; 16] = join(l, xor(r, left(y)));
+    CoreOutput {
+        output: part(&whole, 0),
         runs: TEXT_RUNS,
     }
 }
 
-fn bl2_with(keys: &[u8; 192], y: [u8; 16]) -> CoreOutput15
-    ensures { result ≡ counted15 (bl2_with keys.now y) }
+#[tactic(auto, unfolding(crate::specs::CoreOutputs::bl2_with))]
+fn bl2_with(keys: &[u8; 192], y: [u8; 16]) -> CoreOutput<15>
+    ensures { result ≡ counted (bl2_with keys.now y) }
 {
     let r = decrypt_with(keys, right(y));
     let l = decrypt_with(keys, bl2_left_input(y, r));
     bl2_output(l, r, y)
 }
 
-pub fn bl2(key: [u8; 16], y: [u8; 16]) -> CoreOutput15
-    ensures { result ≡ counted15 (bl2_of key y) }
+#[tactic(auto, unfolding(crate::specs::CoreOutputs::bl2_with, standard::specs::Cores::bl2, standard::specs::Hurdle::decrypt))]
+pub fn bl2(key: [u8; 16], y: [u8; 16]) -> CoreOutput<15>
+    ensures { result ≡ counted (bl2_of key y) }
 {
     let keys = schedule(key);
     bl2_with(&keys, y)
