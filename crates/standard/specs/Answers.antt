@@ -1,6 +1,6 @@
 -- What a call of the libraries gives, a value or a refusal, as C has it: 0 and the values, or the refusal's number and zeros. The calls'
 -- definitions answer in C's form, and the libraries' contracts say that what they give comes to that.
-use Rattle.std.specs.Prelude.{List, [], ◌∷◌, ℕ, Bool, Result, Ok, Err, length}
+use Rattle.std.specs.Prelude.{List, ℕ, Result, Ok, Err}
 use Rattle.standard.specs.Bytes.{choose, zeros}
 use Rattle.standard.specs.Lines.{TextAnswer}
 use Rattle.standard.specs.Lists.{refused}

@@ -418,5 +418,5 @@ fn known(algorithm: Algorithm, under: RingKey) -> Option<Kind>
 pub fn pair(high: u8, low: u8) -> u16
     ensures { (result ≡ 256 * high + low) × (bytes_of 2 result ≡ high ∷ low ∷ []) }
 {
-    256 * (high as u16) + (low as u16)
+    u16::from_be_bytes([high, low])
 }
