@@ -1,5 +1,6 @@
 -- Four lanes side by side: a value in each.
 use Rattle.std.specs.Prelude.{ℕ, zero, suc, List, [], ◌∷◌, slice_index_or}
+use Rattle.std.specs.Borrow.{Bor}
 
 -- the array that has g j in lane j
 abbrev pub lanes : {A : Type 0} → (ℕ → A) → List A
@@ -19,3 +20,7 @@ by_lane a b c d (suc (suc (suc j))) = d
 -- what holds in each lane
 abbrev pub each_lane : (ℕ → Type 0) → Type 0
 each_lane P = P 0 × P 1 × P 2 × P 3
+
+-- of four strings that are lent, lane j's
+abbrev pub lent : List (Bor (List ℕ)) → ℕ → List ℕ
+lent ks j = (slice_index_or ks j (record { ref_ptr = (0, 0); now = [] })).now

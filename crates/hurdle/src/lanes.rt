@@ -3,7 +3,7 @@
 ghost use Rattle.std.specs.Prelude.{◌≡◌, ◌+◌, ◌≤◌, ◌++◌, length};
 ghost use Rattle.standard.specs.Bytes.{◌!◌, part};
 ghost use Rattle.standard.specs.Hurdle.{crypt as crypt_of, round_key};
-ghost use Rattle.hurdle.specs.Lanes.{lanes, lane, by_lane, each_lane};
+ghost use Rattle.hurdle.specs.Lanes.{lanes, lane, lent, each_lane};
 ghost use Rattle.hurdle.specs.RoundSteps.{bytes4, first_over, second_over, third_over, f_over, exchanged_by, rounds_over, place as place_of, HalvesOf};
 ghost use Rattle.hurdle.specs.RoundSteps.{halves_at, part_at};
 
@@ -14,21 +14,18 @@ fn first_x4(
     s: &[u8; 256],
     w: &[u32; 256],
     h: [Halves; 4],
-    ka: &[u8],
-    kb: &[u8],
-    kc: &[u8],
-    kd: &[u8],
+    keys: [&[u8; 192]; 4],
     at: usize,
 ) -> [u8; 4]
-    requires { (at + 12 ≤ length ka.now) × (at + 12 ≤ length kb.now) × (at + 12 ≤ length kc.now) × (at + 12 ≤ length kd.now) }
+    requires { at + 12 ≤ 192 }
     ensures { result ≡ lanes (λ j. first_over s.now (bytes4 (halves_at h j).r)
-        (part at 12 (by_lane ka.now kb.now kc.now kd.now j))) }
+        (part at 12 (lent keys.entry j))) }
 {
     [
-        first(s, w, h[0].r, ka, at),
-        first(s, w, h[1].r, kb, at),
-        first(s, w, h[2].r, kc, at),
-        first(s, w, h[3].r, kd, at),
+        first(s, w, h[0].r, &keys[0][..], at),
+        first(s, w, h[1].r, &keys[1][..], at),
+        first(s, w, h[2].r, &keys[2][..], at),
+        first(s, w, h[3].r, &keys[3][..], at),
     ]
 }
 
@@ -37,21 +34,18 @@ fn second_x4(
     w: &[u32; 256],
     t: [u8; 4],
     h: [Halves; 4],
-    ka: &[u8],
-    kb: &[u8],
-    kc: &[u8],
-    kd: &[u8],
+    keys: [&[u8; 192]; 4],
     at: usize,
 ) -> [Part; 4]
-    requires { (at + 12 ≤ length ka.now) × (at + 12 ≤ length kb.now) × (at + 12 ≤ length kc.now) × (at + 12 ≤ length kd.now) }
+    requires { at + 12 ≤ 192 }
     ensures { result ≡ lanes (λ j. second_over s.now w.now (t ! j) (bytes4 (halves_at h j).r)
-        (part at 12 (by_lane ka.now kb.now kc.now kd.now j))) }
+        (part at 12 (lent keys.entry j))) }
 {
     [
-        second(s, w, t[0], h[0].r, ka, at),
-        second(s, w, t[1], h[1].r, kb, at),
-        second(s, w, t[2], h[2].r, kc, at),
-        second(s, w, t[3], h[3].r, kd, at),
+        second(s, w, t[0], h[0].r, &keys[0][..], at),
+        second(s, w, t[1], h[1].r, &keys[1][..], at),
+        second(s, w, t[2], h[2].r, &keys[2][..], at),
+        second(s, w, t[3], h[3].r, &keys[3][..], at),
     ]
 }
 
@@ -60,42 +54,30 @@ fn third_x4(
     w: &[u32; 256],
     p: [Part; 4],
     h: [Halves; 4],
-    ka: &[u8],
-    kb: &[u8],
-    kc: &[u8],
-    kd: &[u8],
+    keys: [&[u8; 192]; 4],
     at: usize,
 ) -> [u32; 4]
-    requires { (at + 12 ≤ length ka.now) × (at + 12 ≤ length kb.now) × (at + 12 ≤ length kc.now) × (at + 12 ≤ length kd.now) }
+    requires { at + 12 ≤ 192 }
     ensures { result ≡ lanes (λ j. third_over s.now w.now (part_at p j) (bytes4 (halves_at h j).r)
-        (part at 12 (by_lane ka.now kb.now kc.now kd.now j))) }
+        (part at 12 (lent keys.entry j))) }
 {
     [
-        third(s, w, p[0], h[0].r, ka, at),
-        third(s, w, p[1], h[1].r, kb, at),
-        third(s, w, p[2], h[2].r, kc, at),
-        third(s, w, p[3], h[3].r, kd, at),
+        third(s, w, p[0], h[0].r, &keys[0][..], at),
+        third(s, w, p[1], h[1].r, &keys[1][..], at),
+        third(s, w, p[2], h[2].r, &keys[2][..], at),
+        third(s, w, p[3], h[3].r, &keys[3][..], at),
     ]
 }
 
 // f in each lane.
-fn f_x4(
-    s: &[u8; 256],
-    w: &[u32; 256],
-    h: [Halves; 4],
-    ka: &[u8],
-    kb: &[u8],
-    kc: &[u8],
-    kd: &[u8],
-    at: usize,
-) -> [u32; 4]
-    requires { (at + 12 ≤ length ka.now) × (at + 12 ≤ length kb.now) × (at + 12 ≤ length kc.now) × (at + 12 ≤ length kd.now) }
+fn f_x4(s: &[u8; 256], w: &[u32; 256], h: [Halves; 4], keys: [&[u8; 192]; 4], at: usize) -> [u32; 4]
+    requires { at + 12 ≤ 192 }
     ensures { result ≡ lanes (λ j. f_over s.now w.now (bytes4 (halves_at h j).r)
-        (part at 12 (by_lane ka.now kb.now kc.now kd.now j))) }
+        (part at 12 (lent keys.entry j))) }
 {
-    let t = first_x4(s, w, h, ka, kb, kc, kd, at);
-    let p = second_x4(s, w, t, h, ka, kb, kc, kd, at);
-    third_x4(s, w, p, h, ka, kb, kc, kd, at)
+    let t = first_x4(s, w, h, keys, at);
+    let p = second_x4(s, w, t, h, keys, at);
+    third_x4(s, w, p, h, keys, at)
 }
 
 // The end of a round in each lane, written out: calls would cost time here.
@@ -123,26 +105,15 @@ fn exchanged_x4(h: [Halves; 4], y: [u32; 4]) -> [Halves; 4]
 }
 
 // The sixteen rounds in each lane.
-fn rounds_x4(
-    ka: &[u8; 192],
-    kb: &[u8; 192],
-    kc: &[u8; 192],
-    kd: &[u8; 192],
-    h: [Halves; 4],
-    back: bool,
-) -> [Halves; 4]
+fn rounds_x4(keys: [&[u8; 192]; 4], h: [Halves; 4], back: bool) -> [Halves; 4]
     ensures { each_lane (λ j. halves_at result j ≡ rounds_over back
-        (by_lane ka.now kb.now kc.now kd.now j) 16 (halves_at h j)) }
+        (lent keys.entry j) 16 (halves_at h j)) }
 {
     let s = s_copy();
     let w = spread_copy();
-    let a = &ka[..];
-    let b = &kb[..];
-    let c = &kc[..];
-    let d = &kd[..];
     let mut state = h;
     for i in 0..16 {
-        let y = f_x4(&s, &w, state, a, b, c, d, place(back, i) * 12);
+        let y = f_x4(&s, &w, state, keys, place(back, i) * 12);
         let next = exchanged_x4(state, y);
         state = next;
     }
@@ -171,16 +142,9 @@ fn block_of_x4(h: [Halves; 4]) -> [[u8; 8]; 4]
 }
 
 // The four blocks through sixteen rounds; `back` takes the round keys in reverse order.
-pub(crate) fn crypt_x4(
-    ka: &[u8; 192],
-    kb: &[u8; 192],
-    kc: &[u8; 192],
-    kd: &[u8; 192],
-    x: [[u8; 8]; 4],
-    back: bool,
-) -> [[u8; 8]; 4]
+pub(crate) fn crypt_x4(keys: [&[u8; 192]; 4], x: [[u8; 8]; 4], back: bool) -> [[u8; 8]; 4]
     ensures { result ≡ lanes (λ j. crypt_of
-        (λ i. round_key (by_lane ka.now kb.now kc.now kd.now j) (place_of back i)) (lane x j)) }
+        (λ i. round_key (lent keys.entry j) (place_of back i)) (lane x j)) }
 {
-    block_of_x4(rounds_x4(ka, kb, kc, kd, split_x4(x), back))
+    block_of_x4(rounds_x4(keys, split_x4(x), back))
 }

@@ -9,7 +9,7 @@ mod tables;
 ghost use Rattle.std.specs.Prelude.{◌≡◌};
 ghost use Rattle.standard.specs.Answers.{bytes8};
 ghost use Rattle.standard.specs.Bytes.{◌!◌, table};
-ghost use Rattle.hurdle.specs.Lanes.{lanes, lane, by_lane};
+ghost use Rattle.hurdle.specs.Lanes.{lanes, lane, lent};
 ghost use Rattle.hurdle.specs.RoundSteps.{crypt_call};
 ghost use Rattle.standard.specs.Hurdle.{S as s_of, S⁻¹ as s_inverse_of, schedule as schedule_of, encrypt_with, decrypt_with};
 ghost use Rattle.standard.specs.Hurdle.{encrypt as encrypt_of, encrypt_call, decrypt_call};
@@ -45,28 +45,16 @@ pub fn decrypt_with(keys: &[u8; 192], block: [u8; 8]) -> [u8; 8]
 }
 
 // Four blocks side by side, each under its own round keys. One set of keys may be lent to all four.
-pub fn encrypt_with_x4(
-    ka: &[u8; 192],
-    kb: &[u8; 192],
-    kc: &[u8; 192],
-    kd: &[u8; 192],
-    x: [[u8; 8]; 4],
-) -> [[u8; 8]; 4]
-    ensures { result ≡ lanes (λ j. encrypt_with (by_lane ka.now kb.now kc.now kd.now j) (lane x j)) }
+pub fn encrypt_with_x4(keys: [&[u8; 192]; 4], x: [[u8; 8]; 4]) -> [[u8; 8]; 4]
+    ensures { result ≡ lanes (λ j. encrypt_with (lent keys.entry j) (lane x j)) }
 {
-    crypt_x4(ka, kb, kc, kd, x, false)
+    crypt_x4(keys, x, false)
 }
 
-pub fn decrypt_with_x4(
-    ka: &[u8; 192],
-    kb: &[u8; 192],
-    kc: &[u8; 192],
-    kd: &[u8; 192],
-    x: [[u8; 8]; 4],
-) -> [[u8; 8]; 4]
-    ensures { result ≡ lanes (λ j. decrypt_with (by_lane ka.now kb.now kc.now kd.now j) (lane x j)) }
+pub fn decrypt_with_x4(keys: [&[u8; 192]; 4], x: [[u8; 8]; 4]) -> [[u8; 8]; 4]
+    ensures { result ≡ lanes (λ j. decrypt_with (lent keys.entry j) (lane x j)) }
 {
-    crypt_x4(ka, kb, kc, kd, x, true)
+    crypt_x4(keys, x, true)
 }
 
 // A block under a key.

@@ -1,6 +1,6 @@
 use Rattle.std.proofs.Common.{◌≡◌, refl, arith}
 use Rattle.hurdle.proofs.LaneLaws.{rounds_more_x4}
-use Rattle.hurdle.specs.Lanes.{by_lane}
+use Rattle.hurdle.specs.Lanes.{lent}
 use Rattle.hurdle.specs.RoundSteps.{rounds_over}
 use Rattle.hurdle.proofs.lanes.rounds_x4.Goals as goal
 
@@ -11,7 +11,7 @@ loop-i-init c = (refl, refl, refl, refl)
 pub loop-i-preserved : goal.loop-i-preserved
 loop-i-preserved c =
     let x = c.args in
-    let keys = by_lane x.ka.now x.kb.now x.kc.now x.kd.now in
+    let keys = lent x.keys in
     let y = rw (c.s_copy-s.ensures, c.spread_copy-w.ensures) at c.f_x4-y.ensures in
     rounds_more_x4 x.back keys x.h c.loop-i.i c.place.result c.loop-i.state c.exchanged_x4-next.result c.f_x4-y.result c.place.ensures.0
     c.loop-i.invariant y c.exchanged_x4-next.ensures

@@ -1,7 +1,7 @@
 -- i rounds are made in each lane.
 use Rattle.hurdle.proofs.LaneLaws.{Turned}
-use Rattle.hurdle.specs.Lanes.{by_lane}
+use Rattle.hurdle.specs.Lanes.{lent}
 use Rattle.hurdle.proofs.lanes.rounds_x4.Given as goal
 
 abbrev pub invariant-loop-i : goal.invariant-loop-i
-invariant-loop-i l = Turned l.back (by_lane l.ka l.kb l.kc l.kd) l.fn.h l.i l.state
+invariant-loop-i l = Turned l.back (lent l.keys) l.fn.h l.i l.state
