@@ -2,6 +2,7 @@
 use Rattle.standard.proofs.Prelude.{◌≡◌, refl, sym, ap, ◌∙◌, Bool, true, false, ◌↔◌, List, [], ◌∷◌, ℕ, zero, suc, ◌-◌, ◌*◌, ◌/◌, ◌%◌, ◌≤◌, ◌<◌}
 use Rattle.standard.proofs.Prelude.{arith, eqb, leb, ltb, length, eq-eqb, ne_eqb, le-leb}
 use Rattle.standard.proofs.Prelude.{leb-true}
+use Rattle.std.specs.Prelude.{Option}
 use Rattle.standard.specs.Books.{ring_key, named, seal_record, open_fault, open_record, sealed_form, opening, book_call, open_book}
 use Rattle.standard.specs.BooksFacts.{IsSealedForm}
 use Rattle.standard.specs.Bytes.{◌!◌, choose, Bytes}
@@ -11,6 +12,7 @@ use Rattle.standard.specs.Seals.{kind_of}
 use Rattle.standard.specs.ShufflesFacts.{reordered}
 use Rattle.standard.specs.Sizes.{ring_size, plain_size, sealed_size, most_records}
 use Rattle.standard.specs.declared.BookAnswer.{BookAnswer}
+use Rattle.standard.specs.declared.Kind.{Kind}
 use Rattle.standard.proofs.AnswerLaws.{is_accepted, accepted, call_tests, call_refuses}
 use Rattle.standard.proofs.BookLaws.{Book, joined_same, joined_bytes, joined_front}
 use Rattle.standard.proofs.BytesLaws.{bytes_append, bytes_part}

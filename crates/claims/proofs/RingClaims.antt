@@ -1,5 +1,6 @@
 -- A whole ring and the versions of a book enter by their ⊕ alone.
 use Rattle.standard.proofs.Prelude.{◌≡◌, refl, sym, ap, ◌∙◌, Bool, true, false, List, ℕ, ◌*◌, ◌/◌, ◌%◌, ◌<◌, arith, xor_self, eqb, length}
+use Rattle.std.specs.Prelude.{Option}
 use Rattle.standard.specs.Books.{sealing_key, named, plain_fault, seal_record, WellFormed, sealed_form}
 use Rattle.standard.specs.Bytes.{◌!◌, ◌⊕◌, part, xors, zeros, choose, Bytes}
 use Rattle.standard.specs.Lists.{record_at, each}
