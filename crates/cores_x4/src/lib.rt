@@ -2,15 +2,12 @@
 #![tactic(auto)]
 
 ghost use Rattle.std.specs.Prelude.{[], ◌∷◌, ◌++◌, ◌≡◌};
-ghost use Rattle.hurdle.specs.Lanes.{lanes, lane, by_lane};
-ghost use Rattle.cores.specs.CoreOutputs.{bl2_with, counted16, counted15};
+ghost use Rattle.hurdle.specs.Lanes.{lanes, lane, lent};
+ghost use Rattle.cores.specs.CoreOutputs.{bl2_with, counted};
 ghost use Rattle.standard.specs.Bytes.{◌!◌, ◌⊕◌, part, xors};
 ghost use Rattle.standard.specs.Cores.{bl1_with, bl1, bl2};
 
-use cores::{
-    CoreOutput15, CoreOutput16, bl1_output, bl1_right_input, bl2_left_input, bl2_output, left,
-    right,
-};
+use cores::{CoreOutput, bl1_output, bl1_right_input, bl2_left_input, bl2_output, left, right};
 use hurdle::{decrypt_with_x4, encrypt_with_x4, schedule};
 
 fn left_x4(x: [[u8; 16]; 4]) -> [[u8; 8]; 4]
@@ -44,8 +41,8 @@ fn bl1_right_input_x4(x: [[u8; 16]; 4], l: [[u8; 8]; 4]) -> [[u8; 8]; 4]
     ]
 }
 
-fn bl1_output_x4(l: [[u8; 8]; 4], r: [[u8; 8]; 4]) -> [CoreOutput16; 4]
-    ensures { result ≡ lanes (λ j. counted16 (part 0 8 (lane l j) ++ part 0 8 (lane r j))) }
+fn bl1_output_x4(l: [[u8; 8]; 4], r: [[u8; 8]; 4]) -> [CoreOutput<16>; 4]
+    ensures { result ≡ lanes (λ j. counted (part 0 8 (lane l j) ++ part 0 8 (lane r j))) }
 {
     let la = l[0];
     let lb = l[1];
@@ -64,29 +61,23 @@ fn bl1_output_x4(l: [[u8; 8]; 4], r: [[u8; 8]; 4]) -> [CoreOutput16; 4]
 }
 
 // BL1 in each lane, under round keys that were laid out before.
-pub fn bl1_with_x4(
-    ka: &[u8; 192],
-    kb: &[u8; 192],
-    kc: &[u8; 192],
-    kd: &[u8; 192],
-    x: [[u8; 16]; 4],
-) -> [CoreOutput16; 4]
-    ensures { result ≡ lanes (λ j. counted16 (bl1_with
-        (by_lane ka.now kb.now kc.now kd.now j) (lane x j))) }
+pub fn bl1_with_x4(keys: [&[u8; 192]; 4], x: [[u8; 16]; 4]) -> [CoreOutput<16>; 4]
+    ensures { result ≡ lanes (λ j. counted (bl1_with (lent keys.entry j) (lane x j))) }
 {
-    let l = encrypt_with_x4(ka, kb, kc, kd, left_x4(x));
-    let r = encrypt_with_x4(ka, kb, kc, kd, bl1_right_input_x4(x, l));
+    let l = encrypt_with_x4(keys, left_x4(x));
+    let r = encrypt_with_x4(keys, bl1_right_input_x4(x, l));
     bl1_output_x4(l, r)
 }
 
-pub fn bl1_x4(k: [[u8; 16]; 4], x: [[u8; 16]; 4]) -> [CoreOutput16; 4]
-    ensures { result ≡ lanes (λ j. counted16 (bl1 (lane k j) (lane x j))) }
+#[tactic(auto, unfolding(standard::specs::Cores::bl1))]
+pub fn bl1_x4(k: [[u8; 16]; 4], x: [[u8; 16]; 4]) -> [CoreOutput<16>; 4]
+    ensures { result ≡ lanes (λ j. counted (bl1 (lane k j) (lane x j))) }
 {
     let ka = schedule(k[0]);
     let kb = schedule(k[1]);
     let kc = schedule(k[2]);
     let kd = schedule(k[3]);
-    bl1_with_x4(&ka, &kb, &kc, &kd, x)
+    bl1_with_x4([&ka, &kb, &kc, &kd], x)
 }
 
 fn bl2_left_input_x4(y: [[u8; 16]; 4], r: [[u8; 8]; 4]) -> [[u8; 8]; 4]
@@ -108,8 +99,8 @@ fn bl2_left_input_x4(y: [[u8; 16]; 4], r: [[u8; 8]; 4]) -> [[u8; 8]; 4]
     ]
 }
 
-fn bl2_output_x4(l: [[u8; 8]; 4], r: [[u8; 8]; 4], y: [[u8; 16]; 4]) -> [CoreOutput15; 4]
-    ensures { result ≡ lanes (λ j. counted15 (part 0 8 (lane l j) ++ xors 7 (lane r j) (part 0 7 (lane y j)))) }
+fn bl2_output_x4(l: [[u8; 8]; 4], r: [[u8; 8]; 4], y: [[u8; 16]; 4]) -> [CoreOutput<15>; 4]
+    ensures { result ≡ lanes (λ j. counted (part 0 8 (lane l j) ++ xors 7 (lane r j) (part 0 7 (lane y j)))) }
 {
     [
         bl2_output(l[0], r[0], y[0]),
@@ -119,27 +110,21 @@ fn bl2_output_x4(l: [[u8; 8]; 4], r: [[u8; 8]; 4], y: [[u8; 16]; 4]) -> [CoreOut
     ]
 }
 
-fn bl2_with_x4(
-    ka: &[u8; 192],
-    kb: &[u8; 192],
-    kc: &[u8; 192],
-    kd: &[u8; 192],
-    y: [[u8; 16]; 4],
-) -> [CoreOutput15; 4]
-    ensures { result ≡ lanes (λ j. counted15 (bl2_with
-        (by_lane ka.now kb.now kc.now kd.now j) (lane y j))) }
+fn bl2_with_x4(keys: [&[u8; 192]; 4], y: [[u8; 16]; 4]) -> [CoreOutput<15>; 4]
+    ensures { result ≡ lanes (λ j. counted (bl2_with (lent keys.entry j) (lane y j))) }
 {
-    let r = decrypt_with_x4(ka, kb, kc, kd, right_x4(y));
-    let l = decrypt_with_x4(ka, kb, kc, kd, bl2_left_input_x4(y, r));
+    let r = decrypt_with_x4(keys, right_x4(y));
+    let l = decrypt_with_x4(keys, bl2_left_input_x4(y, r));
     bl2_output_x4(l, r, y)
 }
 
-pub fn bl2_x4(k: [[u8; 16]; 4], y: [[u8; 16]; 4]) -> [CoreOutput15; 4]
-    ensures { result ≡ lanes (λ j. counted15 (bl2 (lane k j) (lane y j))) }
+#[tactic(auto, unfolding(cores::specs::CoreOutputs::bl2_with, standard::specs::Cores::bl2, standard::specs::Hurdle::decrypt))]
+pub fn bl2_x4(k: [[u8; 16]; 4], y: [[u8; 16]; 4]) -> [CoreOutput<15>; 4]
+    ensures { result ≡ lanes (λ j. counted (bl2 (lane k j) (lane y j))) }
 {
     let ka = schedule(k[0]);
     let kb = schedule(k[1]);
     let kc = schedule(k[2]);
     let kd = schedule(k[3]);
-    bl2_with_x4(&ka, &kb, &kc, &kd, y)
+    bl2_with_x4([&ka, &kb, &kc, &kd], y)
 }
