@@ -1,28 +1,32 @@
 -- A line in the making, and a text over an output.
-use Rattle.std.specs.Prelude.{List, [], ◌∷◌, ◌++◌, ◌≡◌, ℕ, ◌+◌, ◌≤◌, ltb, length, take, drop, set, replicate}
-use Rattle.standard.specs.Bytes.{choose}
-use Rattle.lines.specs.declared.Line.{Line}
+use Rattle.std.specs.Prelude.{List, ◌++◌, ◌≡◌, ℕ, ◌-◌, ◌≤◌, length, take, drop, replicate}
+use Rattle.std.proofs.Common.{ap, ◌∙◌, arith, length-take-le, take-append-drop}
 
 infixl 60 ◌▸◌
 -- the most bytes of a line
 abbrev pub room : ℕ
 room = 160
 
--- the text of a line so far
-abbrev pub shown : Line → List ℕ
-shown l = take l.len l.bytes
+-- a text more, as far as the line has room for it
+unfoldable pub ◌▸◌ : List ℕ → List ℕ → List ℕ
+l ▸ w = l ++ take (room - length l) w
 
-abbrev pub empty_line : Line
-empty_line = record { bytes = replicate room 0; len = 0 }
+-- the zeros after a text of n bytes
+abbrev pub padding : ℕ → List ℕ
+padding n = replicate (room - n) 0
 
--- a byte more; a full line stays as it is
-abbrev pub push : Line → ℕ → Line
-push l b = choose (ltb l.len room) (record { bytes = set l.bytes l.len b; len = l.len + 1 }) l
+-- the bytes of a line are a text of n bytes and zeros
+pub record IsPadded (n : ℕ) (bytes : List ℕ) : Type 0 where
+  pub whole : length bytes ≡ room
+  pub within : n ≤ room
+  pub padded : drop n bytes ≡ padding n
 
--- a text more
-unfoldable pub ◌▸◌ : Line → List ℕ → Line
-l ▸ [] = l
-l ▸ (b ∷ w) = push l b ▸ w
+-- so the text says what they are
+pub padded_whole : {A : Type 0} (f : List ℕ → ℕ → A) (n : ℕ) (bytes : List ℕ) → IsPadded n bytes
+    → f (take n bytes ++ padding (length (take n bytes))) (length (take n bytes)) ≡ f bytes n
+padded_whole f n bytes h =
+    let long : length (take n bytes) ≡ n = length-take-le n bytes (omega (arith, h.whole, h.within)) in
+    rw (long, ← h.padded, take-append-drop)
 
 -- w over the front of an output that has room for it: where w ends, and the output then
 pub record Over (w out : List ℕ) (end : ℕ) (exit : List ℕ) : Type 0 where

@@ -2,11 +2,13 @@
 #![tactic(auto)]
 
 ghost use Rattle.std.specs.Prelude.{[], ◌∷◌, ◌≡◌, ◌≤◌, length};
+ghost use Rattle.standard.specs.Answers.{text_answer};
 ghost use Rattle.standard.specs.Lines.{digits as digits_of, decimal as decimal_of, hex_digit, hex_byte, hex as hex_of, text_call};
-ghost use Rattle.lines.specs.LineStates.{shown, empty_line, ◌▸◌};
+ghost use Rattle.lines.specs.LineStates.{◌▸◌};
 
 use arrays::copy;
-use standard::{OUTPUT_SHORT, TextAnswer};
+use standard::Refusal;
+use std::marker::Model;
 
 // The most bytes of a line.
 pub const ROOM: usize = 160;
@@ -14,73 +16,77 @@ pub const ROOM: usize = 160;
 // A line of text. What goes beyond its room is left out.
 #[derive(Clone, Copy)]
 pub struct Line {
-    pub bytes: [u8; ROOM],
-    pub len: usize,
+    bytes: [u8; ROOM],
+    len: usize,
 }
 
+// A contract sees the text, which is all that a line has: the bytes after it are zeros.
+impl Model for Line {
+    ghost use Rattle.std.specs.Prelude.{◌++◌, List, length, take, ℕ};
+    ghost use Rattle.lines.specs.LineStates.{IsPadded, padding, padded_whole};
+
+    ghost Value = { List ℕ };
+
+    ghost view = { λ l. take l.len l.bytes };
+
+    ghost invariant = { λ l. IsPadded l.len l.bytes };
+
+    ghost inverse = { λ text. record { bytes = text ++ padding (length text); len = length text } };
+
+    ghost inverse_ok = { λ l h. padded_whole (λ bytes len. record { bytes = bytes; len = len }) l.len l.bytes h };
+}
+
+// Digits are written by hand, not by a format: the edits capital_digits, low_digit_first and digit_left_out change these steps.
 #[tactic(auto, unfolding(standard::specs::Lines::hex_digit))]
 fn hex_digit(d: u8) -> u8
     requires { d ≤ 15 }
     ensures { result ≡ hex_digit d }
 {
-    if d < 10 { 48 + d } else { 87 + d }
+    if d < 10 { b'0' + d } else { b'a' - 10 + d }
 }
 
 impl Line {
     pub fn empty() -> Line
-        ensures { result ≡ empty_line }
+        ensures { result ≡ [] }
     {
         Line {
-            bytes: [0u8; ROOM],
+            bytes: [0; ROOM],
             len: 0,
         }
     }
 
-    // The length of its text.
-    pub fn size(self) -> usize
-        ensures { result ≡ length (shown self) }
+    // The text, lent.
+    pub fn text(&self) -> &[u8]
+        ensures { result.now ≡ self.now }
     {
-        let n = self.len;
-        if n < ROOM { n } else { ROOM }
+        &self.bytes[..self.len]
     }
 
-    #[tactic(auto, using(crate::proofs::LineLaws::line_push))]
-    fn byte(self, b: u8) -> Line
-        ensures { result ≡ self ▸ (b ∷ []) }
-    {
-        let n = self.len;
-        if n >= ROOM {
-            return self;
-        }
-        let mut bytes = self.bytes;
-        bytes[n] = b;
-        Line { bytes, len: n + 1 }
-    }
-
+    #[tactic(auto, using(crate::proofs::LineLaws::written_text))]
     pub fn word(self, w: &[u8]) -> Line
         ensures { result ≡ self ▸ w.now }
     {
-        let mut r = self;
-        let mut i = 0;
-        while i < w.len() {
-            r = r.byte(w[i]);
-            i += 1;
+        let mut bytes = self.bytes;
+        copy(w, &mut bytes[self.len..]);
+        Line {
+            bytes,
+            len: (self.len + w.len()).min(ROOM),
         }
-        r
     }
 
     // A number that has at most `places` digits.
+    #[tactic(auto, using(crate::proofs::LineLaws::digits_steps))]
     fn digits(self, places: usize, x: u64) -> Line
         ensures { result ≡ self ▸ digits_of places x }
     {
         if places == 0 {
             return self;
         }
-        let last = 48 + (x % 10) as u8;
+        let last = b'0' + (x % 10) as u8;
         if x < 10 {
-            return self.byte(last);
+            return self.word(&[last]);
         }
-        self.digits(places - 1, x / 10).byte(last)
+        self.digits(places - 1, x / 10).word(&[last])
     }
 
     pub fn decimal(self, x: u64) -> Line
@@ -92,34 +98,30 @@ impl Line {
     pub fn hex_byte(self, b: u8) -> Line
         ensures { result ≡ self ▸ hex_byte b }
     {
-        self.byte(hex_digit(b / 16)).byte(hex_digit(b % 16))
+        self.word(&[hex_digit(b / 16), hex_digit(b % 16)])
     }
 
+    #[tactic(auto, using(crate::proofs::LineLaws::hex_steps))]
     pub fn hex(self, s: &[u8]) -> Line
         ensures { result ≡ self ▸ hex_of s.now }
     {
         let mut r = self;
-        let mut i = 0;
-        while i < s.len() {
-            r = r.hex_byte(s[i]);
-            i += 1;
+        for &b in s {
+            r = r.hex_byte(b);
         }
         r
     }
 
     // The text into an output that has room for it.
-    pub fn write(self, out: &mut [u8]) -> TextAnswer
-        ensures { (result, out.new) ≡ text_call (shown self) out.old }
+    #[tactic(auto, unfolding(standard::specs::Lines::text_call))]
+    pub fn write(self, out: &mut [u8]) -> Result<usize, Refusal>
+        ensures { (text_answer result, out.new) ≡ text_call self out.old }
     {
-        let n = self.size();
-        if out.len() < n {
-            return TextAnswer::refused(OUTPUT_SHORT);
+        let text = self.text();
+        if out.len() < text.len() {
+            return Err(Refusal::OutputShort);
         }
-        let bytes = self.bytes;
-        copy(&bytes[..n], out);
-        TextAnswer {
-            refusal: 0,
-            written: n,
-        }
+        copy(text, out);
+        Ok(text.len())
     }
 }
