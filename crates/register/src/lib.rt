@@ -3,14 +3,15 @@
 #![tactic(auto)]
 
 ghost use Rattle.std.specs.Prelude.{◌≡◌, ◌-◌, ◌≤◌};
+ghost use Rattle.standard.specs.Answers.{bytes8, bytes16};
 ghost use Rattle.standard.specs.Bytes.{xors};
 ghost use Rattle.standard.specs.Hurdle.{D as d_of, rotl, next, encrypt_call, decrypt_call};
 ghost use Rattle.standard.specs.Register.{turned as turned_of, onward as onward_of, backward as backward_of, register_call};
 ghost use Rattle.register.specs.RegisterStates.{state_of, crypt as crypt_of, crypt_call};
 
-use arrays::{have_lengths, part8, part16, xor16};
+use arrays::{both_exactly, exactly, xor};
 use hurdle::{A, D, Halves, S, SPREAD, block_of, doubled, round_under, split};
-use standard::{Bytes8, Bytes16, WRONG_LENGTH};
+use standard::Refusal;
 
 // Rotated left by n bytes: sixteen bytes of the register twice over, from byte n on.
 fn rotated(q: &[u8; 16], n: usize) -> [u8; 16]
@@ -31,7 +32,7 @@ fn step(q: &[u8; 16], n: usize) -> [u8; 16]
     requires { n ≤ 16 }
     ensures { result ≡ next n q.now }
 {
-    xor16(rotated(q, n), D)
+    xor(rotated(q, n), D)
 }
 
 // Undoes it.
@@ -40,7 +41,7 @@ fn step_back(q: &[u8; 16], n: usize) -> [u8; 16]
     requires { n ≤ 16 }
     ensures { result ≡ rotl (16 - n) (xors 16 q.now d_of) }
 {
-    rotated(&xor16(*q, D), 16 - n)
+    rotated(&xor(*q, D), 16 - n)
 }
 
 // What the rounds keep: the register, and the block's halves beside it.
@@ -116,41 +117,33 @@ fn crypt(key: [u8; 16], block: [u8; 8], back: bool) -> [u8; 8]
 }
 
 // A call in either direction, over strings of any length.
-fn crypted(key: &[u8], block: &[u8], back: bool) -> Bytes8
-    ensures { result ≡ crypt_call key.now block.now back }
+#[tactic(auto, unfolding(crate::specs::RegisterStates::crypt_call))]
+fn crypted(key: &[u8], block: &[u8], back: bool) -> Result<[u8; 8], Refusal>
+    ensures { bytes8 result ≡ crypt_call key.now block.now back }
 {
-    if !have_lengths(key, 16, block, 8) {
-        return Bytes8::refused(WRONG_LENGTH);
-    }
-    Bytes8 {
-        refusal: 0,
-        bytes: crypt(part16(key, 0), part8(block, 0), back),
-    }
+    let (key, block) = both_exactly(key, block)?;
+    Ok(crypt(key, block, back))
 }
 
 #[tactic(auto, unfolding(crate::specs::RegisterStates::crypt_call, standard::specs::Hurdle::encrypt_call))]
-pub fn encrypt_register(key: &[u8], block: &[u8]) -> Bytes8
-    ensures { result ≡ encrypt_call key.now block.now }
+pub fn encrypt_register(key: &[u8], block: &[u8]) -> Result<[u8; 8], Refusal>
+    ensures { bytes8 result ≡ encrypt_call key.now block.now }
 {
     crypted(key, block, false)
 }
 
 #[tactic(auto, unfolding(crate::specs::RegisterStates::crypt_call, standard::specs::Hurdle::decrypt_call))]
-pub fn decrypt_register(key: &[u8], block: &[u8]) -> Bytes8
-    ensures { result ≡ decrypt_call key.now block.now }
+pub fn decrypt_register(key: &[u8], block: &[u8]) -> Result<[u8; 8], Refusal>
+    ensures { bytes8 result ≡ decrypt_call key.now block.now }
 {
     crypted(key, block, true)
 }
 
 // The register after any number of steps: after each sixteen they begin anew.
-pub fn register(key: &[u8], steps: u64) -> Bytes16
-    ensures { result ≡ register_call key.now steps }
+#[tactic(auto, unfolding(standard::specs::Register::register_call))]
+pub fn register(key: &[u8], steps: u64) -> Result<[u8; 16], Refusal>
+    ensures { bytes16 result ≡ register_call key.now steps }
 {
-    if key.len() != 16 {
-        return Bytes16::refused(WRONG_LENGTH);
-    }
-    Bytes16 {
-        refusal: 0,
-        bytes: turned(part16(key, 0), (steps % 16) as usize),
-    }
+    let key = exactly(key)?;
+    Ok(turned(key, (steps % 16) as usize))
 }
