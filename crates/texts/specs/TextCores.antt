@@ -1,12 +1,11 @@
 -- The core of a sealed text.
 use Rattle.std.specs.Prelude.{List, ℕ}
-use Rattle.cores.specs.declared.CoreOutput15.{CoreOutput15}
-use Rattle.cores.specs.declared.CoreOutput16.{CoreOutput16}
+use Rattle.cores.specs.declared.CoreOutput.{CoreOutput}
 use Rattle.standard.specs.Cores.{bl1}
 use Rattle.standard.specs.Seals.{without8}
 
 -- BL1's output made a sealed text, its cipher runs kept
-abbrev pub shortened : CoreOutput16 → CoreOutput15
+abbrev pub shortened : CoreOutput 16 → CoreOutput 15
 shortened o = record { output = without8 o.output; runs = o.runs }
 
 -- the sealed text, from the core's key and BL1's input

@@ -3,14 +3,14 @@ ghost use Rattle.std.specs.Prelude.{◌≡◌, ◌≤◌, eqb};
 ghost use Rattle.standard.specs.Bytes.{part, choose};
 ghost use Rattle.standard.specs.Seals.{checks, failed_of, failed, or_on, or_of, form_of, form31, form51, form81};
 
-use arrays::part10;
+use arrays::part;
 use cores::exp1_with;
 use standard::Algorithm;
 
 fn input31(b: [u8; 12]) -> [u8; 16]
     ensures { result ≡ form31.input b }
 {
-    exp1_with(part10(&b, 0), 0)
+    exp1_with(part(&b, 0), 0)
 }
 
 fn input51(b: [u8; 12]) -> [u8; 16]
@@ -175,6 +175,7 @@ fn ored(c: [u8; 5]) -> u8
     c[0] | c[1] | c[2] | c[3] | c[4]
 }
 
+#[tactic(auto, using(crate::proofs::PadLaws::or_padded))]
 pub(crate) fn or_of(algorithm: Algorithm, u: [u8; 15]) -> u8
     ensures { result ≡ or_of (form_of algorithm) u }
 {
@@ -185,7 +186,7 @@ pub(crate) fn or_of(algorithm: Algorithm, u: [u8; 15]) -> u8
 fn fails(d: u8) -> u16
     ensures { (result ≡ choose (eqb d 0) 0 1) × (result ≤ 1) }
 {
-    (d as u16 + 255) / 256
+    (u16::from(d) + 255) / 256
 }
 
 // A bit for each check that fails, bit 0 for the leftmost.

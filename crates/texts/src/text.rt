@@ -5,16 +5,16 @@ ghost use Rattle.standard.specs.Runs.{text_runs};
 ghost use Rattle.standard.specs.Seals.{failed, clear, form_of, sealed as sealed_of, opened as opened_of, key10 as key10_of, key16 as key16_of, repeated};
 
 use crate::forms::{body_of, failed_of, input_of, or_of};
-use crate::text_core::{seal_core, with8};
-use arrays::{join_8_8, xor10, xor16};
-use cores::{bl2, exp4};
+use crate::text_core::{open_core, seal_core};
+use arrays::{join, xor};
+use cores::exp4;
 use standard::{Algorithm, Version};
 
 // The version's two bytes, the high one first.
 fn bytes_of(version: Version) -> [u8; 2]
     ensures { result ≡ bytes_of 2 version.0 }
 {
-    [(version.0 / 256 % 256) as u8, (version.0 % 256) as u8]
+    version.0.to_be_bytes()
 }
 
 // The version written four times.
@@ -30,7 +30,7 @@ pub fn key16(sealing_key: [u8; 16], version: Version) -> [u8; 16]
     ensures { result ≡ key16_of sealing_key (bytes_of 2 version.0) }
 {
     let copies = four_times(bytes_of(version));
-    xor16(join_8_8(copies, copies), sealing_key)
+    xor(join(copies, copies), sealing_key)
 }
 
 // The version written five times.
@@ -45,7 +45,7 @@ fn five_times(v: [u8; 2]) -> [u8; 10]
 pub fn key10(sealing_key: [u8; 10], version: Version) -> [u8; 16]
     ensures { result ≡ key10_of sealing_key (bytes_of 2 version.0) }
 {
-    exp4(xor10(five_times(bytes_of(version)), sealing_key))
+    exp4(xor(five_times(bytes_of(version)), sealing_key))
 }
 
 // The sealed text of a body.
@@ -59,7 +59,7 @@ pub fn seal_body(algorithm: Algorithm, key: [u8; 16], body: [u8; 12]) -> [u8; 15
 }
 
 // The body of a sealed text, and a bit for each of its checks that fails.
-#[derive(Drop)]
+#[derive(Clone, Copy, Debug, PartialEq, Eq)]
 pub struct Opened {
     pub body: [u8; 12],
     pub failed: u16,
@@ -68,7 +68,7 @@ pub struct Opened {
 pub fn open_text(algorithm: Algorithm, key: [u8; 16], text: [u8; 15]) -> Opened
     ensures { result ≡ record { body = (form_of algorithm).shrink (opened_of key text); failed = failed (form_of algorithm) (opened_of key text) } }
 {
-    let o = bl2(key, with8(text));
+    let o = open_core(key, text);
     let u = o.output;
     Opened {
         body: body_of(algorithm, u),
@@ -77,16 +77,17 @@ pub fn open_text(algorithm: Algorithm, key: [u8; 16], text: [u8; 15]) -> Opened
 }
 
 // The flag alone, and the block cipher runs that the unsealing took.
-#[derive(Drop)]
+#[derive(Clone, Copy, Debug, PartialEq, Eq)]
 pub struct Flag {
     pub set: bool,
     pub runs: usize,
 }
 
+#[tactic(auto, using(standard::proofs::CheckLaws::or_clear))]
 pub fn flag_of(algorithm: Algorithm, key: [u8; 16], text: [u8; 15]) -> Flag
     ensures { result ≡ record { set = not (clear (form_of algorithm) (opened_of key text)); runs = text_runs } }
 {
-    let o = bl2(key, with8(text));
+    let o = open_core(key, text);
     let u = o.output;
     Flag {
         set: or_of(algorithm, u) != 0,
