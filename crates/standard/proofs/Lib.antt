@@ -3,6 +3,7 @@ pub mod XorLaws
 pub mod BytesLaws
 pub mod FirstLaws
 pub mod FillLaws
+pub mod MadeLaws
 pub mod MixingLaws
 pub mod KeysLaws
 pub mod InverseLaws
