@@ -8,7 +8,7 @@ use Rattle.standard.specs.Refusals.{first}
 use Rattle.standard.specs.declared.Refusal.{Refusal}
 use Rattle.lists.specs.Walks.{Clean, FirstFault}
 
--- the first fault is where a walk stopped
+-- where a walk stopped is the first fault
 pub stopped_first : (n : ℕ) (g : ℕ → ℕ) {refusal : Refusal} {index : ℕ} → FirstFault n g refusal index → index ≡ first_fault n g
 stopped_first n g {refusal} s =
     first_one
@@ -42,7 +42,7 @@ module _ (tests : List (Bool × ℕ)) (n : ℕ) (g : ℕ → ℕ) (v : ℕ) (mad
   unfolding records_call
   call_stopped z refusal index s = rw (← answer_stopped (first tests) n g (v * n) z refusal index s, not_zero refusal)
 
-  pub call_done : 0 ≡ first tests → Clean g n → (exit : List ℕ) → exit ≡ made ++ drop (v * n) out
-      → (record { refusal = 0; index = n; written = v * n }, exit) ≡ records_call tests n g v made out
+  pub call_done : 0 ≡ first tests → Clean g n
+      → (record { refusal = 0; index = n; written = v * n }, made ++ drop (v * n) out) ≡ records_call tests n g v made out
   unfolding records_call
-  call_done z none exit w = rw (← answer_done (first tests) n g (v * n) z none, w)
+  call_done z none = rw (← answer_done (first tests) n g (v * n) z none)
