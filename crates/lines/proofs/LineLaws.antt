@@ -1,5 +1,5 @@
 -- Lines that grow at the end, and texts written into an output one after the other.
-use Rattle.standard.proofs.Prelude.{◌≡◌, refl, sym, ap, ap₂, ◌∙◌, List, [], ◌∷◌, ◌++◌, append-nil, ℕ, zero, suc, ◌+◌, ◌-◌, ◌≤◌, ◌<◌, add-one}
+use Rattle.standard.proofs.Prelude.{◌≡◌, refl, sym, ap, ◌∙◌, List, [], ◌∷◌, ◌++◌, append-nil, ℕ, zero, suc, ◌+◌, ◌-◌, ◌≤◌, ◌<◌, add-one}
 use Rattle.standard.proofs.Prelude.{arith, length, take, drop, length-append, length-drop, length-take, take_all, take_at, drop_at}
 use mathlib.Core.List.{append_assoc}
 use native.Mathlib.Nat.{sub-zero, zero-sub}
@@ -7,7 +7,7 @@ use native.Mathlib.Numerals.{unary_clauses}
 use Prim.Native.Nat.{min}
 use borrow.Rule.Slice.PartMut.{put_mid}
 use lib.ListN.{replicate, length-replicate, drop_of_length-le}
-use lib.Seq.{length-take-le, take-nil, take-suc, take-append-add}
+use lib.Seq.{length-take-le, take-nil, take-suc}
 use Rattle.std.proofs.lemmas.List.{drop-replicate}
 use Rattle.standard.specs.Bytes.{◌!◌}
 use Rattle.standard.specs.Lines.{hex_byte, hex}
@@ -19,6 +19,11 @@ use Rattle.lines.specs.LineStates.{room, ◌▸◌, padding, IsPadded}
 pub line_none : (l : List ℕ) → l ≡ l ▸ []
 unfolding ◌▸◌
 line_none l = simp (take-nil, append-nil) refl
+
+-- a byte more, if there is room for it
+pub line_push : (l : List ℕ) (b : ℕ) → length l < room → l ▸ (b ∷ []) ≡ l ++ (b ∷ [])
+unfolding ◌▸◌
+line_push l b h = ap (λ (w : List ℕ). l ++ w) (take_all (room - length l) (b ∷ []) (omega arith))
 
 take_append : (n : ℕ) (v w : List ℕ) → take n (v ++ w) ≡ take n v ++ take (n - length v) w
 take_append zero v w = simp zero-sub refl
@@ -32,6 +37,11 @@ line_append l v w =
     ap (λ (t : List ℕ). l ++ t) (take_append (room - length l) v w)
     ∙ sym (append_assoc l (take (room - length l) v) (take (room - length l - length v) w))
     ∙ ap (λ (n : ℕ). (l ++ take (room - length l) v) ++ take n w) left
+
+pub line_cons : (l : List ℕ) (b : ℕ) (w : List ℕ) → l ▸ (b ∷ w) ≡ l ▸ (b ∷ []) ▸ w
+line_cons l b w = line_append l (b ∷ []) w
+
+pub ruleset text_steps = (line_none, line_cons, line_append)
 
 -- w after v, where v is there
 pub line_after : (l v w : List ℕ) {r t : List ℕ} → r ≡ l ▸ v → t ≡ r ▸ w → t ≡ l ▸ (v ++ w)

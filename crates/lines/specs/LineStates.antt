@@ -1,6 +1,6 @@
 -- A line in the making, and a text over an output.
 use Rattle.std.specs.Prelude.{List, ◌++◌, ◌≡◌, ℕ, ◌-◌, ◌≤◌, length, take, drop, replicate}
-use Rattle.std.proofs.Common.{ap, ◌∙◌, arith, length-take-le, take-append-drop}
+use Rattle.std.proofs.Common.{arith, length-take-le, take-append-drop}
 
 infixl 60 ◌▸◌
 -- the most bytes of a line

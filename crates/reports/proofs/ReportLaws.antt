@@ -7,8 +7,8 @@ use Rattle.standard.specs.Programs.{beside, meanings, meaning, meaning_text, wro
 use Rattle.standard.specs.declared.BookAnswer.{BookAnswer}
 use Rattle.standard.specs.declared.CountedAnswer.{CountedAnswer}
 use Rattle.lines.proofs.TextLaws.{digits_few}
+use Rattle.lines.proofs.LineLaws.{line_none, line_cons, line_append, line_whole}
 use Rattle.lines.specs.LineStates.{room, ◌▸◌}
-use Rattle.lines.specs.declared.Line.{Line}
 
 -- ---- lengths
 
@@ -45,10 +45,13 @@ pub counted_line_short : (a : CountedAnswer) → length (counted_line a) ≤ roo
 unfolding counted_line
 counted_line_short a = simp length-append (omega (arith, answer_short a.refusal a.index a.written, digits_few 20 a.runs))
 
+-- what such a line follows from
+pub ruleset line_steps = (line_none, line_cons, line_append, line_whole, answer_line_short, counted_line_short)
+
 -- ---- the meaning
 
 -- the text beside a number that the code knows
-pub said : (ts : List (ℕ × List ℕ)) (l : Line) (n k : ℕ) {t : List ℕ} {r : Line} → n ≡ k → r ≡ l ▸ t → t ≡ beside k ts → r ≡ l ▸ beside n ts
+pub said : (ts : List (ℕ × List ℕ)) (l : List ℕ) (n k : ℕ) {t r : List ℕ} → n ≡ k → r ≡ l ▸ t → t ≡ beside k ts → r ≡ l ▸ beside n ts
 said ts l n k e f g = f ∙ ap (λ (t : List ℕ). l ▸ t) (g ∙ ap (λ (j : ℕ). beside j ts) (sym e))
 
 -- what a `match` over the list's numbers knows in its last arm: what was known before, and for each number that n is another
@@ -67,7 +70,7 @@ beside_rest K n (t ∷ ts) us r =
     ap (λ (b : Bool). choose b t.1 (beside n (ts ++ us))) (ne_eqb n t.0 other) ∙ beside_rest (K × (n ≡ t.0 → ⊥)) n ts us r
 
 -- the text beside a number that is not in the list's front
-pub unsaid : (ts us : List (ℕ × List ℕ)) (K : Type 0) (l : Line) (n : ℕ) {r : Line} → Rest K n ts → r ≡ l ▸ beside n us → r ≡ l ▸ beside n (ts ++ us)
+pub unsaid : (ts us : List (ℕ × List ℕ)) (K : Type 0) (l : List ℕ) (n : ℕ) {r : List ℕ} → Rest K n ts → r ≡ l ▸ beside n us → r ≡ l ▸ beside n (ts ++ us)
 unsaid ts us K l n u f = f ∙ ap (λ (t : List ℕ). l ▸ t) (sym (beside_rest K n ts us u))
 
 -- ---- refused or not

@@ -1,72 +1,69 @@
 // The line about an answer: the bytes written, or the refusal with its meaning; and the block cipher runs, if they are counted.
 #![tactic(auto)]
 
-ghost use Rattle.std.specs.Prelude.{◌≡◌, drop};
+ghost use Rattle.std.specs.Prelude.{[], ◌≡◌};
+ghost use Rattle.standard.specs.Answers.{text_answer};
 ghost use Rattle.standard.specs.PlainListing.{refused_at};
-ghost use Rattle.standard.specs.Programs.{beside, meanings, meaning as meaning_of, meaning_text, wrote_text, answer_text};
+ghost use Rattle.standard.specs.Programs.{meaning, meaning_text, wrote_text, answer_text};
 ghost use Rattle.standard.specs.Programs.{answer_line, counted_line, report_call, counted_report_call};
-ghost use Rattle.lines.specs.LineStates.{shown, empty_line, ◌▸◌};
+ghost use Rattle.lines.specs.LineStates.{◌▸◌};
 
 use lines::Line;
-use standard::{BookAnswer, CountedAnswer, TextAnswer};
+use standard::{BookAnswer, CountedAnswer, Refusal};
 
-// The words of a refusal without its meaning.
+// The words of a refusal without its meaning. It is a number, as in BookAnswer: `report` promises a line also for a number that no refusal has.
 pub fn refused_at(refusal: u32, index: usize) -> Line
-    ensures { result ≡ empty_line ▸ refused_at refusal index }
+    ensures { result ≡ [] ▸ refused_at refusal index }
 {
     Line::empty()
         .word(b"refused ")
-        .decimal(refusal as u64)
+        .decimal(u64::from(refusal))
         .word(b" at ")
         .decimal(index as u64)
 }
 
 // What a refusal's number means: those of 01, and those that the requests of 02 added.
 #[tactic(auto, unfolding(standard::specs::Programs::meaning))]
-fn meaning(l: Line, refusal: u32) -> Line
-    ensures { result ≡ l ▸ meaning_of refusal }
+fn meaning(refusal: u32) -> &'static [u8]
+    ensures { result.now ≡ meaning refusal }
 {
     match refusal {
-        1 => l.word(b"book longer than 1,024 records"),
-        2 => l.word(b"book not a whole number of records"),
-        3 => l.word(b"kind not 1 to 6"),
-        4 => l.word(b"body byte not zero"),
-        5 => l.word(b"kind 2 or 5 number above 31"),
-        6 => l.word(b"flag set while opening a book"),
-        7 => l.word(b"mask with a wrong number of ones"),
-        8 => l.word(b"masks that share a bit"),
-        9 => l.word(b"width not 16 to 32"),
-        10 => l.word(b"value too wide for its field"),
-        11 => l.word(b"input of a wrong length"),
-        12 => l.word(b"output shorter than the result"),
-        _ => requests_meaning(l, refusal),
+        1 => b"book longer than 1,024 records",
+        2 => b"book not a whole number of records",
+        3 => b"kind not 1 to 6",
+        4 => b"body byte not zero",
+        5 => b"kind 2 or 5 number above 31",
+        6 => b"flag set while opening a book",
+        7 => b"mask with a wrong number of ones",
+        8 => b"masks that share a bit",
+        9 => b"width not 16 to 32",
+        10 => b"value too wide for its field",
+        11 => b"input of a wrong length",
+        12 => b"output shorter than the result",
+        13 => b"number of sides not 1 to 3",
+        14 => b"operation above 5 or wrong filling",
+        15 => b"parent not before its record",
+        16 => b"parent of a wrong length",
+        17 => b"no input gives this result",
+        18 => b"two unreadable bytes in one group",
+        19 => b"readable group that disagrees",
+        _ => b"not in the list",
     }
 }
 
-fn requests_meaning(l: Line, refusal: u32) -> Line
-    ensures { result ≡ l ▸ beside refusal (drop 12 meanings) }
-{
-    match refusal {
-        13 => l.word(b"number of sides not 1 to 3"),
-        14 => l.word(b"operation above 5 or wrong filling"),
-        15 => l.word(b"parent not before its record"),
-        16 => l.word(b"parent of a wrong length"),
-        17 => l.word(b"no input gives this result"),
-        18 => l.word(b"two unreadable bytes in one group"),
-        19 => l.word(b"readable group that disagrees"),
-        _ => l.word(b"not in the list"),
-    }
-}
-
+#[tactic(auto, using(lines::proofs::LineLaws::text_steps), unfolding(standard::specs::Programs::meaning_text))]
 fn meaning_text(refusal: u32, index: usize) -> Line
-    ensures { result ≡ empty_line ▸ meaning_text refusal index }
+    ensures { result ≡ [] ▸ meaning_text refusal index }
 {
-    let at = refused_at(refusal, index).word(b" (");
-    meaning(at, refusal).word(b")")
+    refused_at(refusal, index)
+        .word(b" (")
+        .word(meaning(refusal))
+        .word(b")")
 }
 
+#[tactic(auto, using(lines::proofs::LineLaws::text_steps), unfolding(standard::specs::Programs::wrote_text))]
 fn wrote_text(n: usize) -> Line
-    ensures { result ≡ empty_line ▸ wrote_text n }
+    ensures { result ≡ [] ▸ wrote_text n }
 {
     Line::empty()
         .word(b"wrote ")
@@ -76,22 +73,25 @@ fn wrote_text(n: usize) -> Line
 
 #[tactic(auto, unfolding(standard::specs::Programs::answer_text))]
 fn answer_text(refusal: u32, index: usize, written: usize) -> Line
-    ensures { result ≡ empty_line ▸ answer_text refusal index written }
+    ensures { result ≡ [] ▸ answer_text refusal index written }
 {
-    if refusal != 0 {
-        return meaning_text(refusal, index);
+    if refusal == 0 {
+        wrote_text(written)
+    } else {
+        meaning_text(refusal, index)
     }
-    wrote_text(written)
 }
 
+#[tactic(auto, using(crate::proofs::ReportLaws::line_steps), unfolding(standard::specs::Programs::answer_line))]
 fn answer_line(answer: BookAnswer) -> Line
-    ensures { shown result ≡ answer_line answer }
+    ensures { result ≡ answer_line answer }
 {
     answer_text(answer.refusal, answer.index, answer.written).word(b"\n")
 }
 
+#[tactic(auto, using(crate::proofs::ReportLaws::line_steps), unfolding(standard::specs::Programs::counted_line))]
 fn counted_line(answer: CountedAnswer) -> Line
-    ensures { shown result ≡ counted_line answer }
+    ensures { result ≡ counted_line answer }
 {
     answer_text(answer.refusal, answer.index, answer.written)
         .word(b", ")
@@ -100,14 +100,14 @@ fn counted_line(answer: CountedAnswer) -> Line
 }
 
 // The line into the output; 12 if the output is shorter.
-pub fn report(answer: BookAnswer, out: &mut [u8]) -> TextAnswer
-    ensures { (result, out.new) ≡ report_call answer out.old }
+pub fn report(answer: BookAnswer, out: &mut [u8]) -> Result<usize, Refusal>
+    ensures { (text_answer result, out.new) ≡ report_call answer out.old }
 {
     answer_line(answer).write(out)
 }
 
-pub fn report_counted(answer: CountedAnswer, out: &mut [u8]) -> TextAnswer
-    ensures { (result, out.new) ≡ counted_report_call answer out.old }
+pub fn report_counted(answer: CountedAnswer, out: &mut [u8]) -> Result<usize, Refusal>
+    ensures { (text_answer result, out.new) ≡ counted_report_call answer out.old }
 {
     counted_line(answer).write(out)
 }
