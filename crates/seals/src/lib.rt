@@ -1,187 +1,144 @@
 // The calls that seal and unseal one key: TA31/TA32, TA51/TA52, TA81/TA82, TA91/TA92.
 #![tactic(auto)]
 
-ghost use Rattle.std.specs.Prelude.{◌&&◌, [], ◌∷◌, ◌≡◌};
-ghost use Rattle.standard.specs.Bytes.{bytes_of};
-ghost use Rattle.standard.specs.Refusals.{wrong_length, has_length, first, answer15, unsealed_body};
-ghost use Rattle.standard.specs.Seals.{form_of, failed, key16 as key16_of, sealed as sealed_of, opened as opened_of, body_number};
+ghost use Rattle.std.specs.Prelude.{[], ◌∷◌, ◌++◌, ◌≡◌, ◌&&◌, ◌+◌, ◌*◌, leb, Ok, Err};
+ghost use Rattle.standard.specs.Answers.{bytes15, unsealed_answer, unsealed_group_answer, unsealed_numbered_answer};
+ghost use Rattle.standard.specs.Bytes.{◌!◌, bytes_of, choose, part};
+ghost use Rattle.standard.specs.Refusals.{has_length};
+ghost use Rattle.standard.specs.Seals.{form_of, failed, highest_number, key16 as key16_of, sealed as sealed_of, opened as opened_of};
 ghost use Rattle.standard.specs.Seals.{ta31_call, ta32_call, ta51_call, ta52_call, ta81_call, ta82_call, ta91_call, ta92_call};
-ghost use Rattle.standard.specs.declared.Algorithm.TheVariants.{Ta51, Ta81};
+ghost use Rattle.standard.specs.declared.Algorithm.TheVariants.{Ta51};
+ghost use Rattle.standard.specs.declared.Refusal.TheVariants.{WrongLength, WrongNumber};
 
-use arrays::{have_lengths, join_10_2, part10, part12, part15, part16};
-use standard::{
-    Algorithm, Bytes15, KeyNumber, Kind, Unsealed, UnsealedBody, UnsealedGroup, UnsealedNumbered,
-    Version, WRONG_LENGTH, WRONG_NUMBER, pair,
-};
+use arrays::{both_exactly, join, part};
+use standard::{Algorithm, KeyNumber, Kind, Opened, OpenedNumbered, Refusal, Version, pair};
 use texts::{key10, key16, open_text, seal_body};
 
-// A sealed text's bytes.
-const TEXT: usize = 15;
-
-fn number51(b: [u8; 12]) -> u16
-    ensures { result ≡ body_number Ta51 b }
+// The sealed text of a cipher key and the two bytes after it, under the core's key.
+#[tactic(auto, unfolding(standard::specs::Seals::sealed))]
+fn seal_key(algorithm: Algorithm, key: [u8; 16], cipher_key: [u8; 10], number: [u8; 2]) -> [u8; 15]
+    ensures { result ≡ sealed_of (form_of algorithm) key (part 0 10 cipher_key ++ part 0 2 number) }
 {
-    pair(0, b[11])
+    seal_body(algorithm, key, join(cipher_key, number))
 }
 
-fn number81(b: [u8; 12]) -> u16
-    ensures { result ≡ body_number Ta81 b }
+// A text unsealed to a cipher key and its number, which TA51 seals after a zero byte.
+fn unseal_numbered(
+    algorithm: Algorithm,
+    text: &[u8],
+    sealing_key: &[u8],
+    version: Version,
+) -> Result<OpenedNumbered, Refusal>
+    ensures { let u = opened_of (key16_of sealing_key.now (bytes_of 2 version.0)) text.now in
+        let b = (form_of algorithm).shrink u in
+        result ≡ choose (has_length 15 text.now && has_length 16 sealing_key.now)
+        (Ok (record { key = part 0 10 b; number = 256 * b ! 10 + b ! 11; failed_checks = failed (form_of algorithm) u }))
+        (Err WrongLength) }
 {
-    pair(b[10], b[11])
-}
-
-// The sealed text of a body, if the strings that it came from had their lengths.
-fn seal_if(right_lengths: bool, algorithm: Algorithm, key: [u8; 16], body: [u8; 12]) -> Bytes15
-    ensures { result ≡ answer15 (first ((right_lengths, wrong_length) ∷ [])) (sealed_of (form_of algorithm) key body) }
-{
-    if !right_lengths {
-        return Bytes15::refused(WRONG_LENGTH);
-    }
-    Bytes15 {
-        refusal: 0,
-        bytes: seal_body(algorithm, key, body),
-    }
-}
-
-// The body of a text and its checks that fail, if the strings that it came from had their lengths.
-fn open_if(right_lengths: bool, algorithm: Algorithm, key: [u8; 16], text: [u8; 15]) -> UnsealedBody
-    ensures { result ≡ unsealed_body (first ((right_lengths, wrong_length) ∷ [])) ((form_of algorithm).shrink (opened_of key text)) (failed (form_of algorithm) (opened_of key text)) }
-{
-    if !right_lengths {
-        return UnsealedBody {
-            refusal: WRONG_LENGTH,
-            body: [0; 12],
-            failed_checks: 0,
-        };
-    }
-    let opened = open_text(algorithm, key, text);
+    let (text, sealing_key) = both_exactly(text, sealing_key)?;
+    let opened = open_text(algorithm, key16(sealing_key, version), text);
     let body = opened.body;
-    UnsealedBody {
-        refusal: 0,
-        body,
+    Ok(OpenedNumbered {
+        key: part(&body, 0),
+        number: pair(body[10], body[11]),
         failed_checks: opened.failed,
-    }
+    })
 }
 
-// The same under a sealing key of kinds 2 to 6, from strings of any length.
-fn open16(algorithm: Algorithm, text: &[u8], sealing_key: &[u8], version: Version) -> UnsealedBody
-    ensures { result ≡ unsealed_body (first ((has_length 15 text.now && has_length 16 sealing_key.now, wrong_length) ∷ [])) ((form_of algorithm).shrink (opened_of (key16_of sealing_key.now (bytes_of 2 version.0)) text.now)) (failed (form_of algorithm) (opened_of (key16_of sealing_key.now (bytes_of 2 version.0)) text.now)) }
+#[tactic(auto, unfolding(standard::specs::Seals::ta31_call, standard::specs::Seals::seal_call, standard::specs::Seals::seal, standard::specs::Seals::sealed))]
+pub fn ta31(cipher_key: &[u8], version: Version, sealing_key: &[u8]) -> Result<[u8; 15], Refusal>
+    ensures { bytes15 result ≡ ta31_call cipher_key.now version sealing_key.now }
 {
-    let right_lengths = have_lengths(text, TEXT, sealing_key, Kind::SEALING_KEY);
-    let key = key16(part16(sealing_key, 0), version);
-    open_if(right_lengths, algorithm, key, part15(text, 0))
+    let (cipher_key, sealing_key) = both_exactly(cipher_key, sealing_key)?;
+    let key = key10(sealing_key, version);
+    Ok(seal_key(Algorithm::Ta31, key, cipher_key, [0, 0]))
 }
 
-pub fn ta31(cipher_key: &[u8], version: Version, sealing_key: &[u8]) -> Bytes15
-    ensures { result ≡ ta31_call cipher_key.now version sealing_key.now }
+#[tactic(auto, unfolding(standard::specs::Seals::ta32_call, standard::specs::Seals::unseal_call, standard::specs::Seals::unseal, standard::specs::Seals::fails))]
+pub fn ta32(text: &[u8], sealing_key: &[u8], version: Version) -> Result<Opened<10>, Refusal>
+    ensures { unsealed_answer result ≡ ta32_call text.now sealing_key.now version }
 {
-    let right_lengths = have_lengths(
-        cipher_key,
-        Kind::CIPHER_KEY,
-        sealing_key,
-        Kind::TA31_SEALING_KEY,
-    );
-    let key = key10(part10(sealing_key, 0), version);
-    seal_if(
-        right_lengths,
-        Algorithm::Ta31,
-        key,
-        join_10_2(part10(cipher_key, 0), [0, 0]),
-    )
-}
-
-pub fn ta32(text: &[u8], sealing_key: &[u8], version: Version) -> Unsealed
-    ensures { result ≡ ta32_call text.now sealing_key.now version }
-{
-    let right_lengths = have_lengths(text, TEXT, sealing_key, Kind::TA31_SEALING_KEY);
-    let key = key10(part10(sealing_key, 0), version);
-    let opened = open_if(right_lengths, Algorithm::Ta31, key, part15(text, 0));
+    let (text, sealing_key) = both_exactly(text, sealing_key)?;
+    let opened = open_text(Algorithm::Ta31, key10(sealing_key, version), text);
     let body = opened.body;
-    Unsealed {
-        refusal: opened.refusal,
-        key: part10(&body, 0),
-        failed_checks: opened.failed_checks,
-    }
+    Ok(Opened {
+        key: part(&body, 0),
+        failed_checks: opened.failed,
+    })
 }
 
-pub fn ta51(cipher_key: &[u8], version: Version, sealing_key: &[u8], number: KeyNumber) -> Bytes15
-    ensures { result ≡ ta51_call cipher_key.now version sealing_key.now number }
+// TA51's number, which has at most five bits.
+fn number_of_five_bits(number: KeyNumber) -> Result<[u8; 2], Refusal>
+    ensures { result ≡ choose (leb number.0 (highest_number Ta51)) (Ok (0 ∷ number.0 ∷ [])) (Err WrongNumber) }
 {
-    if !have_lengths(cipher_key, Kind::CIPHER_KEY, sealing_key, Kind::SEALING_KEY) {
-        return Bytes15::refused(WRONG_LENGTH);
-    }
     if number.0 > Kind::TA51_HIGHEST {
-        return Bytes15::refused(WRONG_NUMBER);
+        return Err(Refusal::WrongNumber);
     }
-    let key = key16(part16(sealing_key, 0), version);
-    seal_if(
-        true,
-        Algorithm::Ta51,
-        key,
-        join_10_2(part10(cipher_key, 0), [0, number.0 as u8]),
-    )
+    Ok([0, number.0 as u8])
+}
+
+#[tactic(auto, unfolding(standard::specs::Seals::ta51_call, standard::specs::Seals::seal_call, standard::specs::Seals::seal, standard::specs::Seals::sealed))]
+pub fn ta51(
+    cipher_key: &[u8],
+    version: Version,
+    sealing_key: &[u8],
+    number: KeyNumber,
+) -> Result<[u8; 15], Refusal>
+    ensures { bytes15 result ≡ ta51_call cipher_key.now version sealing_key.now number }
+{
+    let (cipher_key, sealing_key) = both_exactly(cipher_key, sealing_key)?;
+    let number = number_of_five_bits(number)?;
+    let key = key16(sealing_key, version);
+    Ok(seal_key(Algorithm::Ta51, key, cipher_key, number))
 }
 
 #[tactic(auto, unfolding(standard::specs::Seals::ta52_call, standard::specs::Seals::unseal_call, standard::specs::Seals::unseal, standard::specs::Seals::fails))]
-pub fn ta52(text: &[u8], sealing_key: &[u8], version: Version) -> UnsealedNumbered
-    ensures { result ≡ ta52_call text.now sealing_key.now version }
+pub fn ta52(text: &[u8], sealing_key: &[u8], version: Version) -> Result<OpenedNumbered, Refusal>
+    ensures { unsealed_numbered_answer result ≡ ta52_call text.now sealing_key.now version }
 {
-    let opened = open16(Algorithm::Ta51, text, sealing_key, version);
-    let body = opened.body;
-    UnsealedNumbered {
-        refusal: opened.refusal,
-        key: part10(&body, 0),
-        number: number51(body),
-        failed_checks: opened.failed_checks,
-    }
+    unseal_numbered(Algorithm::Ta51, text, sealing_key, version)
 }
 
-pub fn ta81(cipher_key: &[u8], version: Version, sealing_key: &[u8], number: KeyNumber) -> Bytes15
-    ensures { result ≡ ta81_call cipher_key.now version sealing_key.now number }
+#[tactic(auto, unfolding(standard::specs::Seals::ta81_call, standard::specs::Seals::seal_call, standard::specs::Seals::seal, standard::specs::Seals::sealed))]
+pub fn ta81(
+    cipher_key: &[u8],
+    version: Version,
+    sealing_key: &[u8],
+    number: KeyNumber,
+) -> Result<[u8; 15], Refusal>
+    ensures { bytes15 result ≡ ta81_call cipher_key.now version sealing_key.now number }
 {
-    let right_lengths = have_lengths(cipher_key, Kind::CIPHER_KEY, sealing_key, Kind::SEALING_KEY);
-    let high = (number.0 / 256 % 256) as u8;
-    let low = (number.0 % 256) as u8;
-    let key = key16(part16(sealing_key, 0), version);
-    seal_if(
-        right_lengths,
-        Algorithm::Ta81,
-        key,
-        join_10_2(part10(cipher_key, 0), [high, low]),
-    )
+    let (cipher_key, sealing_key) = both_exactly(cipher_key, sealing_key)?;
+    let number = number.0.to_be_bytes();
+    let key = key16(sealing_key, version);
+    Ok(seal_key(Algorithm::Ta81, key, cipher_key, number))
 }
 
 #[tactic(auto, unfolding(standard::specs::Seals::ta82_call, standard::specs::Seals::unseal_call, standard::specs::Seals::unseal, standard::specs::Seals::fails))]
-pub fn ta82(text: &[u8], sealing_key: &[u8], version: Version) -> UnsealedNumbered
-    ensures { result ≡ ta82_call text.now sealing_key.now version }
+pub fn ta82(text: &[u8], sealing_key: &[u8], version: Version) -> Result<OpenedNumbered, Refusal>
+    ensures { unsealed_numbered_answer result ≡ ta82_call text.now sealing_key.now version }
 {
-    let opened = open16(Algorithm::Ta81, text, sealing_key, version);
-    let body = opened.body;
-    UnsealedNumbered {
-        refusal: opened.refusal,
-        key: part10(&body, 0),
-        number: number81(body),
-        failed_checks: opened.failed_checks,
-    }
+    unseal_numbered(Algorithm::Ta81, text, sealing_key, version)
 }
 
-pub fn ta91(group_key: &[u8], version: Version, sealing_key: &[u8]) -> Bytes15
-    ensures { result ≡ ta91_call group_key.now version sealing_key.now }
+#[tactic(auto, unfolding(standard::specs::Seals::ta91_call, standard::specs::Seals::seal_call, standard::specs::Seals::seal, standard::specs::Seals::sealed))]
+pub fn ta91(group_key: &[u8], version: Version, sealing_key: &[u8]) -> Result<[u8; 15], Refusal>
+    ensures { bytes15 result ≡ ta91_call group_key.now version sealing_key.now }
 {
-    let right_lengths = have_lengths(group_key, Kind::GROUP_KEY, sealing_key, Kind::SEALING_KEY);
-    let key = key16(part16(sealing_key, 0), version);
-    seal_if(right_lengths, Algorithm::Ta91, key, part12(group_key, 0))
+    let (group_key, sealing_key) = both_exactly(group_key, sealing_key)?;
+    let key = key16(sealing_key, version);
+    Ok(seal_body(Algorithm::Ta91, key, group_key))
 }
 
 #[tactic(auto, unfolding(standard::specs::Seals::ta92_call, standard::specs::Seals::unseal_call, standard::specs::Seals::unseal, standard::specs::Seals::fails))]
-pub fn ta92(text: &[u8], sealing_key: &[u8], version: Version) -> UnsealedGroup
-    ensures { result ≡ ta92_call text.now sealing_key.now version }
+pub fn ta92(text: &[u8], sealing_key: &[u8], version: Version) -> Result<Opened<12>, Refusal>
+    ensures { unsealed_group_answer result ≡ ta92_call text.now sealing_key.now version }
 {
-    let opened = open16(Algorithm::Ta91, text, sealing_key, version);
-    let body = opened.body;
-    UnsealedGroup {
-        refusal: opened.refusal,
-        key: body,
-        failed_checks: opened.failed_checks,
-    }
+    let (text, sealing_key) = both_exactly(text, sealing_key)?;
+    let opened = open_text(Algorithm::Ta91, key16(sealing_key, version), text);
+    let key = opened.body;
+    Ok(Opened {
+        key,
+        failed_checks: opened.failed,
+    })
 }
