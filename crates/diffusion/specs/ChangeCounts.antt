@@ -4,13 +4,18 @@ use Rattle.std.specs.Prelude.{◌≡◌, ℕ, ◌+◌, ◌*◌, ◌≤◌, min, 
 use Rattle.standard.specs.Bytes.{xors}
 use Rattle.standard.specs.Diffusion.{flipped, bits_set}
 use Rattle.standard.specs.Hurdle.{encrypt_with}
+use Rattle.diffusion.specs.declared.figures.Figures.{Figures}
 
 unfoldable pub change_with : (keys block : List ℕ) → ℕ → ℕ
 change_with keys b i = bits_set (xors 8 (encrypt_with keys b) (encrypt_with keys (flipped i b)))
 
--- the total t, the least l and the greatest g go on, over the changes cs, to t', l' and g'
-pub record Counted (t l g : ℕ) (cs : List ℕ) (t' l' g' : ℕ) : Type 0 where
-  pub total : t' ≡ foldl ◌+◌ t cs
-  pub least : l' ≡ foldl min l cs
-  pub greatest : g' ≡ foldl max g cs
-  pub most : t' ≤ t + 64 * length cs
+-- the figures of no changes. No change is above 64, so the least starts there
+abbrev pub none : Figures
+none = record { total = 0; least = 64; greatest = 0 }
+
+-- the figures f go on, over the changes cs, to g
+pub record Counted (f : Figures) (cs : List ℕ) (g : Figures) : Type 0 where
+  pub total : g.total ≡ foldl ◌+◌ f.total cs
+  pub least : g.least ≡ foldl min f.least cs
+  pub greatest : g.greatest ≡ foldl max f.greatest cs
+  pub most : g.total ≤ f.total + 64 * length cs

@@ -1,11 +1,16 @@
 -- The steps of the two loops over a list, for records of any size: a scan that looks for a fault, and a pass that writes.
-use Rattle.standard.proofs.Prelude.{◌≡◌, refl, sym, ap, ◌∙◌, subst, ◌⊎◌, inl, inr, List, ◌++◌, append-nil, ℕ, zero, suc, ◌+◌, ◌-◌, ◌*◌, ◌≤◌, ◌<◌}
+use Rattle.standard.proofs.Prelude.{◌≡◌, refl, sym, ap, ◌∙◌, subst, ◌⊎◌, inl, inr, List, [], ◌++◌, append-nil, ℕ, zero, suc, ◌+◌, ◌-◌, ◌*◌, ◌/◌, ◌≤◌, ◌<◌}
 use Rattle.standard.proofs.Prelude.{add-sub_cancel_left, mul-zero, mul-suc, mul-le-mul_left, le_of_suc-le-suc, eq-or-lt_of_le, add-zero, add-one, arith, length}
 use Rattle.standard.proofs.Prelude.{take, drop, length-append, length-take, length-drop, drop_of_length-le, take_all, take_at, drop_at, drop-drop}
 use mathlib.Core.List.{append_assoc}
+use native.Mathlib.Nat.{div-add-mod}
+use lib.ListN.{get_or}
+use Rattle.std.proofs.lemmas.List.{get_or-drop}
+use Rattle.std.specs.Simd.{first_chunks}
 use Rattle.standard.proofs.AnswerLaws.{first_fault_lem, first_one}
 use Rattle.standard.proofs.BookLaws.{joined_length, joined_at}
-use Rattle.standard.proofs.BytesLaws.{lent_part, part_left}
+use Rattle.standard.proofs.BytesLaws.{lent_part, part_left, part_lent, table_same}
+use Rattle.standard.specs.Bytes.{◌!◌, part}
 use Rattle.standard.specs.Lists.{record_at, joined}
 use Rattle.lists.specs.Walks.{Clean, Stopped, replace_at, replace_from}
 
@@ -27,6 +32,21 @@ lent w i xs h = lent_part (w * i) w xs h
 -- and has w bytes
 pub lent_length : (w i : ℕ) (xs : List ℕ) → w * i + w ≤ length xs → length (take (w * i + w - w * i) (drop (w * i) xs)) ≡ w
 lent_length w i xs h = simp (length-take, length-drop) (omega (arith, h))
+
+-- chunk i of a string's whole chunks of w bytes is record i
+pub chunk_at : (w : ℕ) (xs : List ℕ) {chunks : List (List ℕ)} → chunks ≡ first_chunks w (length xs / w) xs → length chunks ≡ length xs / w
+    → (i : ℕ) → i < length chunks → get_or chunks i [] ≡ record_at w xs i
+chunk_at w xs e l i h =
+    ap (λ (c : List (List ℕ)). get_or c i []) e ∙ go (length xs / w) xs i (omega (arith, l, h)) (omega (arith, div-add-mod (length xs) w))
+  where
+    go : (n : ℕ) (ys : List ℕ) (i : ℕ) → i < n → w * n ≤ length ys → get_or (first_chunks w n ys) i [] ≡ record_at w ys i
+    go zero ys i k m = absurd (omega arith)
+    go (suc n) ys zero k m =
+        part_lent 0 w ys (omega (arith, m, mul-suc w n)) ∙ ap (λ (a : ℕ). part a w ys) (sym (mul-zero w))
+    go (suc n) ys (suc i) k m =
+        go n (drop w ys) i (le_of_suc-le-suc k) (omega (arith, m, mul-suc w n, length-drop w ys))
+        ∙ table_same w (λ j. drop w ys ! (w * i + j)) (λ j. ys ! (w * suc i + j))
+        (λ j q. get_or-drop w ys (w * i + j) 0 ∙ ap (◌!◌ ys) (omega (arith, mul-suc w i)))
 
 -- a part of v bytes is overwritten whole by a string of as many
 overwritten : (v : ℕ) (own y exit : List ℕ) → length own ≡ v → length y ≡ v → exit ≡ take (length own) y ++ drop v own → exit ≡ y

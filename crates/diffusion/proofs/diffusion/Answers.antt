@@ -1,17 +1,12 @@
-use Rattle.std.proofs.Common.{◌∙◌, arith}
-use Rattle.diffusion.proofs.CountLaws.{list_refused, no_records, all_counted}
+use Rattle.std.proofs.Common.{arith}
+use Rattle.diffusion.proofs.CountLaws.{none_counted, all_counted}
 use Rattle.diffusion.proofs.diffusion.Goals as goal
-
-pub returns-then-refusal-ne0 : goal.returns-then-refusal-ne0
-returns-then-refusal-ne0 c =
-    c.no_changes.ensures ∙ list_refused c.args.records.now _ c.lengths-refusal.ensures c.if-refusal-ne0.true
 
 pub returns-then-n-eq0 : goal.returns-then-n-eq0
 returns-then-n-eq0 c =
-    c.no_changes-then-n-eq0.ensures
-    ∙ no_records c.args.records.now _ c.lengths-refusal.ensures c.if-refusal-ne0.false c.if-n-eq0.true
+    rw c.in_ok-n.ensures.records.0 (none_counted c.args.records.now c.in_ok-n.ensures.tests c.count-figures.ensures (omega (arith, c.in_ok-n.ensures.records)))
 
-pub returns : goal.returns
-returns c =
-    all_counted c.args.records.now _ c.lengths-refusal.ensures c.if-refusal-ne0.false c.if-n-eq0.false
-    (λ i. omega (arith, c.type_inv.records i)) _ _ _ c.count-t.ensures
+pub returns-else-n-eq0 : goal.returns-else-n-eq0
+returns-else-n-eq0 c =
+    rw c.in_ok-n.ensures.records.0
+    (all_counted c.args.records.now c.in_ok-n.ensures.tests c.count-figures.ensures (λ z. omega (arith, c.in_ok-n.ensures.records)) (λ i. omega (arith, c.type_inv.records i)))
