@@ -1,4 +1,5 @@
 -- Lines that grow at the end, and texts written into an output one after the other.
+use Rattle.standard.proofs.Prelude.{ap₂, ◌*◌, zero-le, drop-drop, le-ltb}
 use Rattle.standard.proofs.Prelude.{◌≡◌, refl, sym, ap, ◌∙◌, List, [], ◌∷◌, ◌++◌, append-nil, ℕ, zero, suc, ◌+◌, ◌-◌, ◌≤◌, ◌<◌, add-one}
 use Rattle.standard.proofs.Prelude.{arith, length, take, drop, length-append, length-drop, length-take, take_all, take_at, drop_at}
 use mathlib.Core.List.{append_assoc}
@@ -11,8 +12,14 @@ use lib.Seq.{length-take-le, take-nil, take-suc}
 use Rattle.std.proofs.lemmas.List.{drop-replicate}
 use Rattle.standard.specs.Bytes.{◌!◌}
 use Rattle.standard.specs.Lines.{hex_byte, hex}
+use Rattle.standard.specs.Lists.{joined, record_at}
+use Rattle.std.specs.Simd.{first_chunks}
+use lib.ListN.{get_or}
+use Rattle.standard.proofs.BytesLaws.{part_lent}
+use native.Mathlib.Nat.{mul-zero, mul-le-mul_left}
+use Rattle.standard.specs.Lines.{text_call}
 use Rattle.lines.proofs.TextLaws.{hex_step, digits_none, digits_last, digits_more}
-use Rattle.lines.specs.LineStates.{room, ◌▸◌, padding, IsPadded}
+use Rattle.lines.specs.LineStates.{room, ◌▸◌, padding, IsPadded, Over}
 
 -- ---- one text after the other
 
@@ -107,3 +114,66 @@ module _ (bytes w exit : List ℕ) (n : ℕ) (h : IsPadded n bytes)
         ∙ drop-replicate (length w) (room - n) 0
         ∙ ap (λ (k : ℕ). replicate k 0) (omega (arith, e));
   }
+
+-- ---- texts over an output
+
+-- a lent part that goes to the end, `&mut xs[at..]`: it is the whole rest
+module _ (at : ℕ) (xs : List ℕ) where
+  pub lent_rest : take (length xs - at) (drop at xs) ≡ drop at xs
+  lent_rest = take_all (length xs - at) (drop at xs) (simp length-drop (omega arith))
+
+  pub lent_none : drop (length xs - at) (drop at xs) ≡ []
+  lent_none = drop_of_length-le (drop at xs) {i = length xs - at} (simp length-drop (omega arith))
+
+-- ---- texts over an output, one after the other
+
+over : (w out : List ℕ) {end : ℕ} {exit : List ℕ} → length w ≤ length out → end ≡ length w → exit ≡ w ++ drop (length w) out → Over w out end exit
+over w out {end} {exit} h e f = record { ends = e; bytes = f; within = omega (arith, e, kept); kept = kept }
+  where
+    kept : length exit ≡ length out
+    kept = ap length f ∙ simp (length-append, length-drop) (omega arith)
+
+pub over_none : (out : List ℕ) → Over [] out 0 out
+over_none out = record { ends = refl; bytes = refl; within = zero-le; kept = refl }
+
+-- a text over an output, as the call that writes it answers
+pub over_answered : (w out : List ℕ) {end : ℕ} {exit : List ℕ} → Over w out end exit → (record { refusal = 0; written = end }, exit) ≡ text_call w out
+unfolding text_call
+over_answered w out p = rw (p.ends, p.bytes, le-ltb (length out) (length w) (omega (arith, p.ends, p.within, p.kept)))
+
+-- w, copied into the rest of the output after v
+pub over_next : (v w out₀ : List ℕ) {at : ℕ} {out exit : List ℕ} → length (v ++ w) ≤ length out₀ → Over v out₀ at out
+    → exit ≡ take (length (take (length out - at) (drop at out))) w ++ drop (length w) (take (length out - at) (drop at out))
+    → Over (v ++ w) out₀ (at + length w) (take at out ++ (exit ++ drop (length out - at) (drop at out)))
+over_next v w out₀ {at} {out} {exit} h p q =
+    let rest = drop (length v) out₀ in
+    let front : take at out ≡ v = ap₂ take p.ends p.bytes ∙ take_at v rest (length v) refl in
+    let after : take (length out - at) (drop at out) ≡ rest = lent_rest at out ∙ ap₂ drop p.ends p.bytes ∙ drop_at v rest (length v) refl in
+    let whole : take (length rest) w ≡ w = take_all (length rest) w (simp length-drop (omega (arith, h, length-append v w))) in
+    over (v ++ w) out₀ h (ap (λ (n : ℕ). n + length w) p.ends ∙ sym (length-append v w))
+    (rw (front, lent_none at out, append-nil, q, after, whole, drop-drop, append_assoc, length-append))
+
+-- ---- the lines g 0, g 1, .. one after the other
+
+pub joined_most : (g : ℕ → List ℕ) → ((j : ℕ) → length (g j) ≤ room) → (n : ℕ) → length (joined n g) ≤ room * n
+joined_most g h zero = omega arith
+joined_most g h (suc n) = simp length-append (omega (arith, joined_most g h n, h n))
+
+-- a turn of a loop that copies line i after those before it
+pub lines_next : (g : ℕ → List ℕ) (i : ℕ) (out₀ : List ℕ) {at : ℕ} {line out exit : List ℕ} → line ≡ g i
+    → length (joined (suc i) g) ≤ length out₀ → Over (joined i g) out₀ at out
+    → exit ≡ take (length (take (length out - at) (drop at out))) line ++ drop (length line) (take (length out - at) (drop at out))
+    → Over (joined (i + 1) g) out₀ (at + length line) (take at out ++ (exit ++ drop (length out - at) (drop at out)))
+lines_next g i out₀ e h p q = rw (e, add-one i) (over_next (joined i g) (g i) out₀ h p (rw e at q))
+
+-- row i of the rows of w bytes that a list was cut into
+pub row_at : (w k : ℕ) (xs : List ℕ) (i : ℕ) (d : List ℕ) → w * k ≤ length xs → i < k → get_or (first_chunks w k xs) i d ≡ record_at w xs i
+row_at w zero xs i d h l = absurd (omega arith)
+row_at w (suc k) xs zero d h l = rw mul-zero (part_lent 0 w xs (omega (arith, h)))
+row_at w (suc k) xs (suc i) d h l =
+    let rest : length xs - w ≡ length (drop w xs) = sym (length-drop w xs) in
+    let most : w * (i + 1) ≤ w * k = mul-le-mul_left w (omega arith) in
+    row_at w k (drop w xs) i d (omega (arith, h, rest)) (omega arith)
+    ∙ sym (part_lent (w * i) w (drop w xs) (omega (arith, h, rest, most)))
+    ∙ ap (take w) (drop-drop (w * i) w xs ∙ ap (λ (n : ℕ). drop n xs) (omega arith))
+    ∙ part_lent (w * suc i) w xs (omega (arith, h, most))

@@ -1,40 +1,61 @@
 -- The lines of the tables one after the other, and the ways in which the call returns.
-use Rattle.standard.proofs.Prelude.{◌≡◌, refl, sym, ap, ◌∙◌, List, [], ◌∷◌, ◌++◌, ℕ, ◌-◌, ◌≤◌, ◌<◌, arith, length, take, drop}
+use Rattle.standard.proofs.Prelude.{◌≡◌, refl, ap, ◌∙◌, List, [], ◌∷◌, ◌++◌, ℕ, ◌+◌, ◌-◌, ◌/◌, ◌≤◌, ◌<◌, arith, length, take, drop}
 use Rattle.standard.proofs.PrintedTablesLaws.{inverse_made, line_length, text_length}
 use Rattle.standard.specs.Bytes.{◌!◌, part}
 use Rattle.standard.specs.Hurdle.{S, S⁻¹}
 use Rattle.standard.specs.PrintedTables.{inverse, rotations, spaced, table_line, table_lines, tables_text, tables_call}
 use Rattle.standard.specs.Lines.{ascii, hex_byte, text_call}
-use Rattle.standard.specs.Lines.{TextAnswer}
-use Rattle.lines.proofs.LineLaws.{line_append, line_whole, text_short, text_whole, over_next}
-use Rattle.lines.specs.LineStates.{shown, empty_line, ◌▸◌, Over}
-use Rattle.lines.specs.declared.Line.{Line}
+use Rattle.lines.proofs.LineLaws.{line_none, line_append, line_after, line_next, line_whole, over_answered, over_next, row_at}
+use Rattle.standard.proofs.Prelude.{lt-ltb}
+use Rattle.standard.specs.Lists.{record_at}
+use Rattle.std.specs.Simd.{first_chunks}
+use lib.ListN.{get_or}
+use Rattle.lines.specs.LineStates.{◌▸◌, Over}
 
--- an entry more, at the end
-pub spaced_step : (t : List ℕ) (x : ℕ) → spaced (t ++ (x ∷ [])) ≡ spaced t ++ (hex_byte x ++ ascii " ")
+-- ---- entries, with a space after each
+
+pub spaced_none : (l : List ℕ) → l ≡ l ▸ spaced []
+unfolding spaced
+spaced_none l = line_none l
+
+spaced_step : (t : List ℕ) (x : ℕ) → spaced (t ++ (x ∷ [])) ≡ spaced t ++ (hex_byte x ++ ascii " ")
 unfolding spaced
 spaced_step [] x = refl
 spaced_step (y ∷ t) x = ap (λ (w : List ℕ). (hex_byte y ++ ascii " ") ++ w) (spaced_step t x)
 
+pub spaced_next : (l t : List ℕ) (i : ℕ) (r u v : List ℕ) → i < length t → r ≡ l ▸ spaced (take i t) → u ≡ r ▸ hex_byte (t ! i) → v ≡ u ▸ ascii " "
+    → v ≡ l ▸ spaced (take (i + 1) t)
+spaced_next l t i r u v h e f g =
+    line_next spaced (λ x. hex_byte x ++ ascii " ") spaced_step l t i h e (line_after r (hex_byte (t ! i)) (ascii " ") f g)
+
+pub ruleset spaced_steps = (spaced_none, spaced_next)
+
 -- a whole line, from the fifteen entries that are lent
-pub line_shown : (t s : List ℕ) {l : Line} → s ≡ part 0 15 t → l ≡ empty_line ▸ spaced s ▸ hex_byte (t ! 15) ▸ ascii "\n" → shown l ≡ table_line t
+pub line_shown : (t s : List ℕ) {l : List ℕ} → s ≡ part 0 15 t → l ≡ [] ▸ spaced s ▸ hex_byte (t ! 15) ▸ ascii "\n" → l ≡ table_line t
 unfolding table_line
 line_shown t s {l} e f =
     line_whole (table_line t) {l = l}
-    (f ∙ ap (λ (w : List ℕ). empty_line ▸ spaced w ▸ hex_byte (t ! 15) ▸ ascii "\n") e ∙ simp line_append refl)
+    (f ∙ ap (λ (w : List ℕ). [] ▸ spaced w ▸ hex_byte (t ! 15) ▸ ascii "\n") e ∙ simp line_append refl)
     (omega (arith, line_length t))
+
+-- row i of a table
+pub row_line : (t : List ℕ) (i : ℕ) (d : List ℕ) {rows : List (List ℕ)} {line text : List ℕ} → length t ≡ 256 → rows ≡ first_chunks 16 (length t / 16) t
+    → i < length t / 16 → line ≡ table_line (get_or rows i d) → text ≡ line → text ≡ table_line (record_at 16 t i)
+row_line t i d long cut h e f =
+    f ∙ e ∙ ap table_line (ap (λ (rows : List (List ℕ)). get_or rows i d) cut ∙ row_at 16 (length t / 16) t i d (omega (arith, long)) h)
 
 -- ---- the call
 
 module _ (out : List ℕ) where
   pub short : length out < 816 → (record { refusal = 12; written = 0 }, out) ≡ tables_call out
-  short h = text_short tables_text out (sym text_length) h
+  unfolding text_call
+  short h = rw (lt-ltb (length out) (length tables_text) (omega (arith, h, text_length)))
 
-  pub whole : {at : ℕ} {r : TextAnswer} {line out₁ exit : List ℕ} → 816 ≤ length out → Over (table_lines 16 S⁻¹) out at out₁
-      → line ≡ table_line rotations → (r, exit) ≡ text_call line (take (length out₁ - at) (drop at out₁))
+  pub whole : {at : ℕ} {line out₁ exit : List ℕ} → 816 ≤ length out → Over (table_lines 16 S⁻¹) out at out₁ → line ≡ table_line rotations
+      → exit ≡ take (length (take (length out₁ - at) (drop at out₁))) line ++ drop (length line) (take (length out₁ - at) (drop at out₁))
       → (record { refusal = 0; written = 816 }, take at out₁ ++ (exit ++ drop (length out₁ - at) (drop at out₁))) ≡ tables_call out
   unfolding tables_text
   whole {at} {out₁ = out₁} h a e b =
       let lines : Over (table_lines 16 (inverse S)) out at out₁ = rw inverse_made a in
-      let both = over_next (table_lines 16 (inverse S)) (table_line rotations) out (omega (arith, text_length)) lines (rw e at b) in
-      rw (both.bytes, ← text_length) (text_whole tables_text out (omega (arith, text_length)))
+      let both = over_next (table_lines 16 (inverse S)) (table_line rotations) out (omega (arith, h, text_length)) lines (rw e at b) in
+      rw (← text_length) (rw both.ends at (over_answered tables_text out both))

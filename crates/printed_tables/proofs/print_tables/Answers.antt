@@ -4,9 +4,9 @@ use Rattle.printed_tables.proofs.PrintLaws.{short, whole}
 use Rattle.printed_tables.proofs.print_tables.Goals as goal
 
 pub returns-then-out-lt-TABLES_TEXT : goal.returns-then-out-lt-TABLES_TEXT
-returns-then-out-lt-TABLES_TEXT c = rw c.refused.ensures (short c.args.out.now c.if-out-lt-TABLES_TEXT.true)
+returns-then-out-lt-TABLES_TEXT c = short c.args.out.now c.if-out-lt-TABLES_TEXT.true
 
 pub returns : goal.returns
 returns c =
-    let lines = rw c.inverse-inverse.ensures at c.table_lines-at.ensures in
-    whole c.args.out.now c.if-out-lt-TABLES_TEXT.false lines (c.table_line.ensures ∙ ap table_line c.rotations-rotations.ensures) c.write.ensures
+    let lines = rw c.inverse.ensures at c.table_lines-at.ensures in
+    whole c.args.out.now c.if-out-lt-TABLES_TEXT.false lines (c.text.ensures ∙ c.table_line.ensures ∙ ap table_line c.rotations.ensures) c.copy.ensures

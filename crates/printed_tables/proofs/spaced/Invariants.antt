@@ -1,14 +1,8 @@
--- The first i bytes are in the line.
-use Rattle.std.proofs.Common.{◌≡◌, ◌-◌, ◌≤◌, length, take}
+-- The entries before this one are in the line.
+use Rattle.std.proofs.Common.{[], ◌≡◌, take}
 use Rattle.standard.specs.PrintedTables.{spaced}
-use Rattle.lines.specs.LineStates.{empty_line, ◌▸◌}
+use Rattle.lines.specs.LineStates.{◌▸◌}
 use Rattle.printed_tables.proofs.spaced.Given as goal
 
-abbrev pub invariant-loop-i : goal.invariant-loop-i
-invariant-loop-i l = record {
-  within : l.i ≤ length l.t;
-  so_far : l.l ≡ empty_line ▸ spaced (take l.i l.t);
-}
-
-abbrev pub decreases-loop-i : goal.decreases-loop-i
-decreases-loop-i l = length l.t - l.i
+abbrev pub invariant-loop-x : goal.invariant-loop-x
+invariant-loop-x l = l.l ≡ [] ▸ spaced (take l.x-index l.t)
