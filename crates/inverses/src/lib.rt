@@ -4,110 +4,88 @@
 
 mod bits;
 
-ghost use Rattle.std.specs.Prelude.{[], ◌∷◌, ◌≡◌};
-ghost use Rattle.standard.specs.Bytes.{same as same_of};
+ghost use Rattle.std.specs.Prelude.{Ok, Err, [], ◌∷◌, ◌≡◌};
+ghost use Rattle.standard.specs.Answers.{value_answer, cell_answer, carrier_identity_answer};
+ghost use Rattle.standard.specs.Bytes.{choose, xors, same as same_of};
 ghost use Rattle.standard.specs.Inverses.{field as field_of, tb1⁻¹_call, tb3⁻¹_call, tb5⁻¹_call, tb6⁻¹_call};
-ghost use Rattle.standard.specs.Refusals.{no_input, first, value as value_of, cell as cell_of, carrier_identity};
+ghost use Rattle.standard.specs.declared.Refusal.TheVariants.{NoInput};
 
-use crate::bits::{field, unmixed};
-use arrays::{have_lengths, part8, same};
+use crate::bits::field;
+use arrays::{both_exactly, exactly, part, same, xor};
 use mixing::{tb1, tb3, tb5, tb6, valid_width};
-use standard::{CarrierIdentity, Cell, NO_INPUT, Value, WRONG_LENGTH, WRONG_WIDTH};
+use standard::{CarrierFields, CellFields, Refusal};
 
-// The value, if what was made of it is the result.
-fn confirmed(value: u32, made: [u8; 16], res: &[u8]) -> Value
-    ensures { result ≡ value_of (first ((same_of made res.now, no_input) ∷ [])) value }
+// The first eight bytes of what was mixed into a key.
+fn unmixed<const N: usize>(key: [u8; N], res: [u8; N]) -> [u8; 8]
+    ensures { result ≡ xors 8 key.entry res.entry }
 {
-    if !same(&made, res) {
-        return Value::refused(NO_INPUT);
-    }
-    Value { refusal: 0, value }
+    xor(part(&key, 0), part(&res, 0))
 }
 
-pub fn tb1_inverse(res: &[u8], width: u64) -> Value
-    ensures { result ≡ tb1⁻¹_call res.now width }
+// The fields, if what was made of them is the result. Each fits its width, so the algorithm that made it refused none.
+fn confirmed<T: Copy, const N: usize>(fields: T, made: [u8; N], res: [u8; N]) -> Result<T, Refusal>
+    ensures { result ≡ choose (same_of made.entry res.entry) (Ok fields) (Err NoInput) }
 {
-    if res.len() != 16 {
-        return Value::refused(WRONG_LENGTH);
+    if !same(&made, &res) {
+        return Err(Refusal::NoInput);
     }
-    if !valid_width(width) {
-        return Value::refused(WRONG_WIDTH);
-    }
-    let value = field(part8(res, 0), 0, width);
-    let made = tb1(value as u64, width);
-    let bytes = made.bytes;
-    confirmed(value, bytes, res)
+    Ok(fields)
 }
 
-pub fn tb3_inverse(input: &[u8], res: &[u8], width: u64) -> Value
-    ensures { result ≡ tb3⁻¹_call input.now res.now width }
+#[tactic(auto, using(crate::proofs::AgainLaws::tb1_tests, crate::proofs::AgainLaws::tb1_again))]
+pub fn tb1_inverse(res: &[u8], width: u64) -> Result<u32, Refusal>
+    ensures { value_answer result ≡ tb1⁻¹_call res.now width }
 {
-    if !have_lengths(input, 16, res, 16) {
-        return Value::refused(WRONG_LENGTH);
-    }
+    let res = exactly(res)?;
     if !valid_width(width) {
-        return Value::refused(WRONG_WIDTH);
+        return Err(Refusal::WrongWidth);
+    }
+    let value = field(part(&res, 0), 0, width);
+    confirmed(value, tb1(value.into(), width)?, res)
+}
+
+#[tactic(auto, using(standard::proofs::RefusalLaws::both_taken, crate::proofs::AgainLaws::tb3_tests, crate::proofs::AgainLaws::tb3_again, crate::proofs::AgainLaws::tb3_found))]
+pub fn tb3_inverse(input: &[u8], res: &[u8], width: u64) -> Result<u32, Refusal>
+    ensures { value_answer result ≡ tb3⁻¹_call input.now res.now width }
+{
+    let (input, res) = both_exactly(input, res)?;
+    if !valid_width(width) {
+        return Err(Refusal::WrongWidth);
     }
     let value = field(unmixed(input, res), 0, width);
-    let made = tb3(input, value as u64, width);
-    let bytes = made.bytes;
-    confirmed(value, bytes, res)
+    confirmed(value, tb3(&input, value.into(), width)?, res)
 }
 
-// The fields that TB5 mixes in, read off the front.
-fn cell_at(front: [u8; 8]) -> Cell
-    ensures { result ≡ cell_of 0 (field_of 0 14 front) (field_of 14 12 front) (field_of 26 6 front) }
+#[tactic(auto, using(standard::proofs::RefusalLaws::both_taken, crate::proofs::AgainLaws::tb5_tests, crate::proofs::AgainLaws::tb5_again, crate::proofs::AgainLaws::tb5_found))]
+pub fn tb5_inverse(cipher_key: &[u8], res: &[u8]) -> Result<CellFields, Refusal>
+    ensures { cell_answer result ≡ tb5⁻¹_call cipher_key.now res.now }
 {
-    Cell {
-        refusal: 0,
+    let (cipher_key, res) = both_exactly(cipher_key, res)?;
+    let front = unmixed(cipher_key, res);
+    let fields = CellFields {
         location_area: field(front, 0, 14),
         carrier: field(front, 14, 12),
         colour_code: field(front, 26, 6),
-    }
-}
-
-pub fn tb5_inverse(cipher_key: &[u8], res: &[u8]) -> Cell
-    ensures { result ≡ tb5⁻¹_call cipher_key.now res.now }
-{
-    if !have_lengths(cipher_key, 10, res, 10) {
-        return Cell::refused(WRONG_LENGTH);
-    }
-    let fields = cell_at(unmixed(cipher_key, res));
+    };
     let made = tb5(
-        cipher_key,
-        fields.location_area as u64,
-        fields.carrier as u64,
-        fields.colour_code as u64,
-    );
-    let bytes = made.bytes;
-    if !same(&bytes, res) {
-        return Cell::refused(NO_INPUT);
-    }
-    fields
+        &cipher_key,
+        fields.location_area.into(),
+        fields.carrier.into(),
+        fields.colour_code.into(),
+    )?;
+    confirmed(fields, made, res)
 }
 
-// The fields that TB6 mixes in, read off the front.
-fn carrier_identity_at(front: [u8; 8]) -> CarrierIdentity
-    ensures { result ≡ carrier_identity 0 (field_of 0 12 front) (field_of 12 24 front) }
+#[tactic(auto, using(standard::proofs::RefusalLaws::both_taken, crate::proofs::AgainLaws::tb6_tests, crate::proofs::AgainLaws::tb6_again, crate::proofs::AgainLaws::tb6_found))]
+pub fn tb6_inverse(cipher_key: &[u8], res: &[u8]) -> Result<CarrierFields, Refusal>
+    ensures { carrier_identity_answer result ≡ tb6⁻¹_call cipher_key.now res.now }
 {
-    CarrierIdentity {
-        refusal: 0,
+    let (cipher_key, res) = both_exactly(cipher_key, res)?;
+    let front = unmixed(cipher_key, res);
+    let fields = CarrierFields {
         carrier: field(front, 0, 12),
         identity: field(front, 12, 24),
-    }
-}
-
-pub fn tb6_inverse(cipher_key: &[u8], res: &[u8]) -> CarrierIdentity
-    ensures { result ≡ tb6⁻¹_call cipher_key.now res.now }
-{
-    if !have_lengths(cipher_key, 10, res, 10) {
-        return CarrierIdentity::refused(WRONG_LENGTH);
-    }
-    let fields = carrier_identity_at(unmixed(cipher_key, res));
-    let made = tb6(cipher_key, fields.carrier as u64, fields.identity as u64);
-    let bytes = made.bytes;
-    if !same(&bytes, res) {
-        return CarrierIdentity::refused(NO_INPUT);
-    }
-    fields
+    };
+    let made = tb6(&cipher_key, fields.carrier.into(), fields.identity.into())?;
+    confirmed(fields, made, res)
 }

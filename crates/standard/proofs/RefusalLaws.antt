@@ -1,5 +1,5 @@
 -- A refusal's number is not 0, and what the libraries' contracts say of a refusal follows from that.
-use Rattle.standard.proofs.Prelude.{◌≡◌, refl, sym, ap, ◌∙◌, Bool, true, false, true≢false, ℕ, eqb, eqb-true, List, length}
+use Rattle.standard.proofs.Prelude.{◌≡◌, refl, sym, ap, ◌∙◌, ◌&&◌, Bool, true, false, true≢false, ℕ, eqb, eqb-true, List, length}
 use Rattle.std.specs.Prelude.{Result, Ok, Err, is_ok}
 use Rattle.std.specs.Result.{result_unwrap_or}
 use Rattle.standard.proofs.BytesLaws.{part_whole}
@@ -41,3 +41,14 @@ taken n xs {x} = go (has_length n xs) refl
 
 pub taken_whole : (n : ℕ) (xs : List ℕ) {x : List ℕ} → Ok x ≡ exactly n xs → x ≡ part 0 n xs
 taken_whole n xs e = (taken n xs e).1 ∙ sym (part_whole n xs (eqb-true (length xs) n (taken n xs e).0))
+
+-- and two of them that were taken
+pub both_taken : (m n : ℕ) (a b : List ℕ) {p : List ℕ × List ℕ} → Ok p ≡ choose (has_length m a && has_length n b) (Ok (a, b)) (Err WrongLength)
+    → (has_length m a ≡ true) × (has_length n b ≡ true) × (p.0 ≡ a) × (p.1 ≡ b)
+both_taken m n a b {p} = go (has_length m a) (has_length n b) refl refl
+  where
+    go : (s t : Bool) → has_length m a ≡ s → has_length n b ≡ t → Ok p ≡ choose (s && t) (Ok (a, b)) (Err WrongLength)
+        → (has_length m a ≡ true) × (has_length n b ≡ true) × (p.0 ≡ a) × (p.1 ≡ b)
+    go true true h k e = (h, k, cc, cc)
+    go true false h k e = cc
+    go false t h k e = cc
