@@ -53,10 +53,11 @@ def items(text, word):
 
 
 def shape(tokens):
-    """The tokens with names by their first place, numbers and widths as one."""
+    """The tokens with names by their first place, numbers and widths as one; a struct's fields keep theirs."""
     seen, out = {}, []
-    for t in tokens:
-        if t in KEYWORDS or not re.match(r"[A-Za-z0-9_]", t):
+    fields = "struct" in tokens[:2]
+    for n, t in enumerate(tokens):
+        if t in KEYWORDS or not re.match(r"[A-Za-z0-9_]", t) or (fields and tokens[n + 1 : n + 2] == [":"]):
             out.append(t)
         elif NUMBER.match(t):
             out.append("0")
