@@ -1,9 +1,9 @@
 // The derivations on typed arrays.
 ghost use Rattle.std.specs.Prelude.{[], ◌∷◌, ◌++◌, ◌≡◌, ◌+◌, ◌-◌};
 ghost use Rattle.standard.specs.Bytes.{◌!◌, ◌⊕◌, table, part};
-ghost use Rattle.standard.specs.Keys.{core as core_of, ta71 as ta71Of, int as int_of};
+ghost use Rattle.standard.specs.Keys.{core as core_of, ta71 as ta71_of, int as int_of};
 
-use arrays::{bytes3, join_6_12, part10, part12, part16, xor10, xor16};
+use arrays::{bytes3, join, part, xor};
 use cores::{bl1, exp2};
 
 // BL1 of the expanded seed.
@@ -19,26 +19,24 @@ pub fn core(key: [u8; 16], seed: [u8; 10]) -> [u8; 16]
 pub fn reversed(seed: [u8; 10]) -> [u8; 10]
     ensures { result ≡ table 10 (λ i. seed ! (9 - i)) }
 {
-    [
-        seed[9], seed[8], seed[7], seed[6], seed[5], seed[4], seed[3], seed[2], seed[1], seed[0],
-    ]
+    let mut out = seed;
+    out.reverse();
+    out
 }
 
 // TA71's key input: A9 to A4, A3 ⊕ B9 to A0 ⊕ B6, B5 to B0, which is A and six zero bytes ⊕ six zero bytes and B.
 fn key_input(a: [u8; 10], b: [u8; 10]) -> [u8; 16]
     ensures { result ≡ part 0 6 a ++ table 4 (λ i. a ! (6 + i) ⊕ b ! i) ++ part 4 6 b }
 {
-    let left = part16(&a, 0);
-    let right = part16(&join_6_12([0; 6], part12(&b, 0)), 0);
-    xor16(left, right)
+    xor(part(&a, 0), join([0; 6], b))
 }
 
 // TA71 on typed arrays. SHR3 leaves the three leftmost and the three rightmost bytes out.
 #[tactic(auto, unfolding(standard::specs::Keys::ta71, standard::specs::Keys::ta71_key, standard::specs::Expansions::shr3))]
 pub fn ta71_of(a: [u8; 10], b: [u8; 10]) -> [u8; 10]
-    ensures { result ≡ ta71Of a b }
+    ensures { result ≡ ta71_of a b }
 {
-    part10(&core(key_input(a, b), xor10(a, b)), 3)
+    part(&core(key_input(a, b), xor(a, b)), 3)
 }
 
 // Three copies of the network identity's three bytes, and a zero byte.
@@ -53,5 +51,5 @@ fn copies(x: [u8; 3]) -> [u8; 10]
 pub(crate) fn int(gck0: [u8; 10], mni: u64) -> [u8; 10]
     ensures { result ≡ int_of gck0 mni }
 {
-    xor10(gck0, copies(bytes3(mni)))
+    xor(gck0, copies(bytes3(mni)))
 }

@@ -1,38 +1,61 @@
 // The two masks of TA12 and TA22: their tests, and the bytes that they choose.
-ghost use Rattle.std.specs.Prelude.{◌++◌, ◌≡◌, length, take, drop};
+ghost use Rattle.std.specs.Prelude.{◌++◌, ◌≡◌, length, take, drop, IfOk, Ok};
 ghost use Rattle.std.specs.Int.Count.{ones};
+ghost use Rattle.standard.specs.Answers.{authentication_answer, refused_by};
 ghost use Rattle.standard.specs.Keys.{chosen, split as split_of};
 ghost use Rattle.standard.specs.Refusals.{mask_tests, first};
 ghost use Rattle.keys.specs.Masks.{Counted};
 
-use standard::{Authentication, SHARED_BIT, WRONG_MASK};
+use standard::{Refusal, ResponseAndKey};
 
-// The number of the first test that the masks fail; 0 if none.
-pub fn mask_refusal(response_mask: u16, key_mask: u16) -> u32
-    ensures { result ≡ first (mask_tests response_mask key_mask) }
-{
-    let counted = (u16::count_ones(response_mask) == 4) & (u16::count_ones(key_mask) == 10);
-    if !counted {
-        return WRONG_MASK;
+// Masks that no test refuses.
+#[derive(Clone, Copy, Debug, PartialEq, Eq)]
+pub struct Masks {
+    pub response: u16,
+    pub key: u16,
+    ghost counted: { Counted response key },
+}
+
+impl Masks {
+    // 7 and 8: the masks have four and ten ones, and share none.
+    pub fn new(response: u16, key: u16) -> Result<Masks, Refusal>
+        ensures tests { refused_by result ≡ first (mask_tests response key) }
+        ensures masks { IfOk result (λ m. (m.response ≡ response) × (m.key ≡ key)) }
+    {
+        let counted = (u16::count_ones(response) == 4) & (u16::count_ones(key) == 10);
+        if !counted {
+            return Err(Refusal::WrongMask);
+        }
+        if response & key != 0 {
+            return Err(Refusal::SharedBit);
+        }
+        Ok(Masks { response, key })
     }
-    if response_mask & key_mask != 0 {
-        return SHARED_BIT;
+
+    // The response and the key of an output. They have 4 and 10 bytes because the masks have passed their tests.
+    pub(crate) fn split(self, output: [u8; 16]) -> ResponseAndKey
+        ensures { authentication_answer (Ok result) ≡ split_of self.response self.key output }
+    {
+        let mut response = [0u8; 4];
+        fill(self.response, output, &mut response);
+        let mut key = [0u8; 10];
+        fill(self.key, output, &mut key);
+        ResponseAndKey { response, key }
     }
-    0
 }
 
 // Of the bytes B15 to B0 those whose bit is set, higher bytes first, into the front of the lent part, as far as both go.
 pub fn choose(mask: u16, output: [u8; 16], out: &mut [u8])
     ensures { out.new ≡ take (length out.old) (chosen mask output) ++ drop (length (chosen mask output)) out.old }
 {
-    let n = out.len();
-    let mut i: usize = 16;
-    let mut k: usize = 0;
-    while (i > 0) & (k < n) {
-        i -= 1;
-        let chosen = (mask >> i) % 2 == 1;
+    let mut k = 0;
+    for j in 0..16 {
+        if k == out.len() {
+            break;
+        }
+        let chosen = (mask >> (15 - j)) % 2 == 1;
         if chosen {
-            out[k] = output[15 - i];
+            out[k] = output[j];
             k += 1;
         }
     }
@@ -45,20 +68,4 @@ fn fill(mask: u16, output: [u8; 16], out: &mut [u8])
 {
     let n = u16::count_ones(mask) as usize;
     choose(mask, output, &mut out[..n]);
-}
-
-// The response and the key. They have 4 and 10 bytes because the masks have passed their tests.
-pub(crate) fn split(output: [u8; 16], response_mask: u16, key_mask: u16) -> Authentication
-    requires { Counted response_mask key_mask }
-    ensures { result ≡ split_of response_mask key_mask output }
-{
-    let mut response = [0u8; 4];
-    fill(response_mask, output, &mut response);
-    let mut key = [0u8; 10];
-    fill(key_mask, output, &mut key);
-    Authentication {
-        refusal: 0,
-        response,
-        key,
-    }
 }

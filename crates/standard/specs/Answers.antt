@@ -122,9 +122,9 @@ abbrev pub card_answer : Result RestoredCard Refusal → Card
 card_answer (Ok c) = record { refusal = 0; key = c.key; card = c.card }
 card_answer (Err r) = record { refusal = refusal_number r; key = zeros 12; card = zeros 16 }
 
-abbrev pub ring_answer : Result RingAndResponses Refusal → RingMade
-ring_answer (Ok m) = record { refusal = 0; ring = m.ring; response1 = m.response1; response2 = m.response2 }
-ring_answer (Err r) = record { refusal = refusal_number r; ring = zeros ring_size; response1 = zeros 4; response2 = zeros 4 }
+abbrev pub ring_made_answer : Result RingAndResponses Refusal → RingMade
+ring_made_answer (Ok m) = record { refusal = 0; ring = m.ring; response1 = m.response1; response2 = m.response2 }
+ring_made_answer (Err r) = record { refusal = refusal_number r; ring = zeros ring_size; response1 = zeros 4; response2 = zeros 4 }
 
 abbrev pub tally_answer : Result Changes Refusal → Tally
 tally_answer (Ok t) = record { refusal = 0; flips = t.flips; total = t.total; least = t.least; greatest = t.greatest }

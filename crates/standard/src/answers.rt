@@ -1,7 +1,7 @@
 // A refusal's number, and the structs that C has, each of what a call of the libraries gives.
 ghost use Rattle.standard.specs.Answers.{refusal_number, bytes8, bytes10, bytes15, bytes16, authentication_answer, identity_answer, unsealed_answer};
 ghost use Rattle.standard.specs.Answers.{unsealed_numbered_answer, unsealed_group_answer, value_answer, cell_answer, carrier_identity_answer, card_answer};
-ghost use Rattle.standard.specs.Answers.{ring_answer, book_answer, counted_answer, tally_answer};
+ghost use Rattle.standard.specs.Answers.{ring_made_answer, book_answer, counted_answer, tally_answer};
 ghost use Rattle.std.specs.Prelude.{◌≡◌};
 
 use crate::{
@@ -308,7 +308,7 @@ impl From<Result<RestoredCard, Refusal>> for Card {
 }
 
 impl From<Result<RingAndResponses, Refusal>> for RingMade {
-    ghost from_gives = { λ given answer. answer ≡ ring_answer given };
+    ghost from_gives = { λ given answer. answer ≡ ring_made_answer given };
 
     fn from(given: Result<RingAndResponses, Refusal>) -> RingMade {
         match given {

@@ -1,21 +1,15 @@
 use Rattle.std.proofs.Common.{arith}
 use Rattle.standard.specs.Bytes.{bit}
-use Rattle.keys.proofs.MaskLaws.{gather_none, gather_more, gather_past}
+use Rattle.keys.proofs.MaskLaws.{gather_none, gather_all, gather_full, turn_stored, turn_passed}
 use Rattle.keys.proofs.masks.choose.Goals as goal
+use Rattle.keys.proofs.masks.choose.Goals.{then-chosen, else-chosen}
 
-pub loop-i-init : goal.loop-i-init
-loop-i-init c = record { low = omega arith; gathered = gather_none c.args.mask c.args.output c.args.out.now }
+pub loop-j-init : goal.loop-j-init
+loop-j-init c = gather_none c.args.mask c.args.output c.args.out.now
 
-pub loop-i-preserved-then-chosen : goal.loop-i-preserved-then-chosen
+pub loop-j-preserved : goal.loop-j-preserved
 unfolding bit
-loop-i-preserved-then-chosen c = record {
-  low = omega arith;
-  gathered = gather_more c.loop-i.invariant.gathered (grind arith) c.if-chosen.true (grind arith);
-}
-
-pub loop-i-preserved : goal.loop-i-preserved
-unfolding bit
-loop-i-preserved c = record {
-  low = omega arith;
-  gathered = gather_past c.loop-i.invariant.gathered (grind arith) c.if-chosen.false;
-}
+loop-j-preserved c = elim c.if-chosen.branch [
+  | then-chosen w ↦ turn_stored c.loop-j-test.true c.loop-j.invariant w.if-chosen.true (grind arith) w.k-is w.out-is
+  | else-chosen w ↦ turn_passed c.loop-j-test.true c.loop-j.invariant w.if-chosen.false w.k-is w.out-is
+]
