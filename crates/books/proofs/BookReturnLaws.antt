@@ -1,77 +1,102 @@
--- The cases of a book call, as its code comes to them.
-use Rattle.standard.proofs.Prelude.{◌≡◌, sym, ap, ap₂, ◌∙◌, Bool, List, ◌∷◌, ◌++◌, ℕ, ◌+◌, ◌*◌, ◌/◌, ◌<◌, arith, length, drop, eq-eqb, ne_eqb}
-use Rattle.lists.proofs.ListReturnLaws.{call_refused, call_stopped, call_done}
-use Rattle.lists.specs.Walks.{Clean, Stopped}
+-- How a book call returns.
+use Rattle.standard.proofs.Prelude.{◌≡◌, ap, ap₂, ◌∙◌, Bool, true, false, List, ◌∷◌, ◌++◌, ℕ, ◌+◌, ◌*◌, ◌/◌, ◌≤◌, arith, eqb, length, drop, eq-eqb, ne_eqb, eqb-false}
+use Rattle.std.specs.Prelude.{Ok, Err}
+use Rattle.lists.proofs.ListReturnLaws.{stopped_first, call_refused, call_stopped, call_done}
+use Rattle.lists.specs.Walks.{Clean, FirstFault}
 use Rattle.standard.proofs.AnswerLaws.{no_fault}
+use Rattle.standard.proofs.RefusalLaws.{not_zero, taken}
+use Rattle.standard.specs.Answers.{refusal_number, refused_by, exactly, counted_answer}
 use Rattle.standard.specs.Books.{counted, book_call}
-use Rattle.standard.specs.Lists.{each, list_tests, refused}
+use Rattle.standard.specs.Bytes.{choose}
+use Rattle.standard.specs.Lists.{each, list_tests}
 use Rattle.standard.specs.Refusals.{wrong_length, has_length, first}
 use Rattle.standard.specs.Runs.{first_pass, second_pass, call_runs}
 use Rattle.standard.specs.Sizes.{ring_size}
+use Rattle.standard.specs.declared.CountedAnswer.{CountedAnswer}
+use Rattle.standard.specs.declared.Refusal.{Refusal}
+use Rattle.standard.specs.declared.Refusal.TheVariants.{WrongLength}
 use Rattle.books.specs.BothDirections.{size_of, output_size_of, record_of, conversion_of, fault_at, inspection_at}
 use Rattle.books.specs.declared.direction.Direction.{Direction}
 
 -- ---- the cipher runs
 
 module _ (head n : ℕ) (g l : ℕ → ℕ) where
-  runs_refused : (head ≡ 0 → ⊥) → 0 ≡ call_runs head n g l
-  runs_refused z = rw (ne_eqb head 0 z)
+  runs_refused : (refusal : Refusal) → refusal_number refusal ≡ head → 0 ≡ call_runs head n g l
+  runs_refused refusal e = rw (← e, not_zero refusal)
 
-  runs_stopped : head ≡ 0 → (refusal index : ℕ) → Stopped n g refusal index → (refusal ≡ 0 → ⊥) → first_pass n g l ≡ call_runs head n g l
-  runs_stopped z refusal index s f =
-      let h : index < n = (s.some f).0 in
-      let other : index ≡ n → ⊥ = λ e. omega arith in
-      rw (z, ← s.at, ne_eqb index n other) (omega arith)
+  runs_stopped : 0 ≡ head → {refusal : Refusal} {index : ℕ} → FirstFault n g refusal index → first_pass n g l ≡ call_runs head n g l
+  runs_stopped z {refusal} {index} s =
+      let other : index ≡ n → ⊥ = λ e. omega (arith, s.within) in
+      rw (← z, ← stopped_first n g s, ne_eqb index n other) (omega arith)
 
-  runs_done : head ≡ 0 → Clean g n → first_pass n g l + second_pass n ≡ call_runs head n g l
-  runs_done z none = rw (z, eq-eqb _ _ (no_fault n g none))
+  runs_done : 0 ≡ head → Clean g n → first_pass n g l + second_pass n ≡ call_runs head n g l
+  runs_done z none = rw (← z, eq-eqb _ _ (no_fault n g none))
+
+pub second_most : (n : ℕ) → second_pass n ≤ 1 + 2 * n
+second_most n = go (eqb n 0)
+  where
+    go : (t : Bool) → choose t 0 1 + 2 * n ≤ 1 + 2 * n
+    go true = omega arith
+    go false = omega arith
 
 -- ---- the answer, the output and the runs: the tests are the ring's length, and then those of the lengths
 
-module _ (r : List ℕ) (w : Direction) (xs out : List ℕ) where
+module _ (r : List ℕ) (d : Direction) (xs out : List ℕ) where
   abbrev n : ℕ
-  n = length xs / size_of w
-
-  abbrev bytes : ℕ
-  bytes = output_size_of w * n
-
-  abbrev made : List ℕ
-  made = each n (size_of w) (record_of r w) xs
+  n = length xs / size_of d
 
   abbrev lengths : List (Bool × ℕ)
-  lengths = list_tests (size_of w) (output_size_of w) (length xs) (length out)
+  lengths = list_tests (size_of d) (output_size_of d) (length xs) (length out)
 
   abbrev tests : List (Bool × ℕ)
   tests = (has_length ring_size r, wrong_length) ∷ lengths
 
-  head_refused : {head : ℕ} → head ≡ first tests → (head ≡ 0 → ⊥) → counted (refused head 0, out) 0 ≡ book_call (conversion_of r w) r xs out
+  abbrev Answers : CountedAnswer × List ℕ → Type 0
+  Answers a = a ≡ book_call (conversion_of r d) r xs out
+
+  abbrev made : List ℕ
+  made = each n (size_of d) (record_of r d) xs
+
+  refused : (refusal : Refusal) → refusal_number refusal ≡ first tests
+      → Answers (counted_answer (Err (record { refusal = refusal; index = 0; runs = 0 })), out)
   unfolding book_call
-  head_refused {head} e z =
-      ap₂ counted (call_refused tests e n (fault_at r w xs) (output_size_of w) made out z)
-      (runs_refused head n (fault_at r w xs) (inspection_at w xs) z ∙ ap (λ (k : ℕ). call_runs k n (fault_at r w xs) (inspection_at w xs)) e)
+  refused refusal e =
+      ap₂ counted (call_refused tests n (fault_at r d xs) (output_size_of d) made out refusal e)
+      (runs_refused (first tests) n (fault_at r d xs) (inspection_at d xs) refusal e)
 
-  pub ring_refused : (length r ≡ ring_size → ⊥) → counted (refused wrong_length 0, out) 0 ≡ book_call (conversion_of r w) r xs out
-  ring_refused h = head_refused (rw (ne_eqb _ _ h)) (λ e. omega arith)
+  pub ring_refused : {refusal : Refusal} → Err refusal ≡ exactly ring_size r
+      → Answers (counted_answer (Err (record { refusal = refusal; index = 0; runs = 0 })), out)
+  ring_refused {refusal} e = refused refusal (go (has_length ring_size r) (ap refused_by e))
+    where
+      go : (t : Bool) → refusal_number refusal ≡ refused_by (choose t (Ok r) (Err WrongLength)) → refusal_number refusal ≡ choose t (first lengths) wrong_length
+      go true h = absurd (eqb-false _ _ (not_zero refusal) h)
+      go false h = h
 
-  module _ (h : length r ≡ ring_size) (refusal : ℕ) (e : refusal ≡ first lengths) where
-    head : refusal ≡ first tests
-    head = rw (eq-eqb _ _ h) e
+  module _ {ring : List ℕ} (e : Ok ring ≡ exactly ring_size r) where
+    tested : {refusal : ℕ} → refusal ≡ first lengths → refusal ≡ first tests
+    tested h = rw (taken ring_size r e).0 h
 
-    pub lengths_refused : (refusal ≡ 0 → ⊥) → counted (refused refusal 0, out) 0 ≡ book_call (conversion_of r w) r xs out
-    lengths_refused z = head_refused head z
+    pub lengths_refused : (refusal : Refusal) → refusal_number refusal ≡ first lengths
+        → Answers (counted_answer (Err (record { refusal = refusal; index = 0; runs = 0 })), out)
+    lengths_refused refusal h = refused refusal (tested h)
 
-    module _ (z : refusal ≡ 0) where
-      pub record_refused : (k i runs : ℕ) → Stopped n (fault_at r w xs) k i → runs ≡ first_pass n (fault_at r w xs) (inspection_at w xs) → (k ≡ 0 → ⊥)
-          → counted (refused k i, out) runs ≡ book_call (conversion_of r w) r xs out
+    module _ {records : ℕ} (q : records ≡ n) (z : 0 ≡ first lengths) where
+      pub record_refused : {refusal : Refusal} {index runs : ℕ} → FirstFault records (fault_at ring d xs) refusal index
+          → runs ≡ first_pass records (fault_at ring d xs) (inspection_at d xs)
+          → Answers (counted_answer (Err (record { refusal = refusal; index = index; runs = runs })), out)
       unfolding book_call
-      record_refused k i runs s p f =
-          ap₂ counted (call_stopped tests head n (fault_at r w xs) (output_size_of w) made out z k i s f)
-          (p ∙ runs_stopped (first tests) n (fault_at r w xs) (inspection_at w xs) (sym head ∙ z) k i s f)
+      record_refused {refusal} {index} s p =
+          let g = fault_at r d xs in
+          let s' : FirstFault n g refusal index = rw ((taken ring_size r e).1, q) at s in
+          ap₂ counted (call_stopped tests n g (output_size_of d) made out (tested z) refusal index s')
+          (rw ((taken ring_size r e).1, q) at p ∙ runs_stopped (first tests) n g (inspection_at d xs) (tested z) s')
 
-      pub all_written : Clean (fault_at r w xs) n → (exit : List ℕ) → exit ≡ made ++ drop bytes out
-          → (inspections writes : ℕ) → inspections ≡ first_pass n (fault_at r w xs) (inspection_at w xs) → writes ≡ second_pass n
-          → (record { refusal = 0; index = n; written = bytes; runs = inspections + writes }, exit) ≡ book_call (conversion_of r w) r xs out
+      pub written : Clean (fault_at ring d xs) records
+          → {inspections writes : ℕ} → inspections ≡ first_pass records (fault_at ring d xs) (inspection_at d xs) → writes ≡ second_pass records
+          → {exit : List ℕ} → exit ≡ each records (size_of d) (record_of ring d) xs ++ drop (output_size_of d * records) out
+          → Answers (counted_answer (Ok (record { records = records; bytes = output_size_of d * records; runs = inspections + writes })), exit)
       unfolding book_call
-      all_written none exit k inspections writes p q =
-          ap₂ counted (call_done tests head n (fault_at r w xs) (output_size_of w) made out z none exit k)
-          (ap₂ ◌+◌ p q ∙ runs_done (first tests) n (fault_at r w xs) (inspection_at w xs) (sym head ∙ z) none)
+      written none p w x =
+          rw (x, p, w, (taken ring_size r e).1, q)
+          (ap₂ counted (call_done tests n (fault_at r d xs) (output_size_of d) made out (tested z) (rw ((taken ring_size r e).1, q) at none))
+          (runs_done (first tests) n (fault_at r d xs) (inspection_at d xs) (tested z) (rw ((taken ring_size r e).1, q) at none)))

@@ -4,7 +4,7 @@ ghost use Rattle.books.specs.BothDirections.{size_of, output_size_of};
 
 use standard::{PLAIN_RECORD, SEALED_RECORD};
 
-#[derive(Clone, Copy)]
+#[derive(Clone, Copy, Debug, PartialEq, Eq)]
 pub enum Direction {
     Sealing,
     Opening,

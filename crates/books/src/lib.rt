@@ -6,74 +6,78 @@ mod direction;
 mod walk;
 
 ghost use Rattle.std.specs.Prelude.{◌≡◌};
+ghost use Rattle.standard.specs.Answers.{book_answer, counted_answer};
 ghost use Rattle.standard.specs.Books.{book_call, seal_book, open_book, check_plain};
 ghost use Rattle.books.specs.BothDirections.{conversion_of};
 
+use crate::convert::Book;
 use crate::direction::Direction;
-use crate::walk::{scan, write};
+use arrays::exactly;
 use lists::{lengths, lengths_and_output};
-use records::ring_bytes;
-use standard::{BookAnswer, CountedAnswer, PLAIN_RECORD, RING, RingBytes, WRONG_LENGTH};
+use standard::{CountedRefusal, CountedWritten, PLAIN_RECORD, RING, RefusedAt, RingBytes, Written};
 
 // Two passes: the first looks for a refusal, the second writes.
-fn book_call(direction: Direction, ring: &[u8], book: &[u8], out: &mut [u8]) -> CountedAnswer
-    ensures { (result, out.new) ≡ book_call (conversion_of ring.now direction) ring.now book.now out.old }
+fn book_call(
+    direction: Direction,
+    ring: &[u8],
+    book: &[u8],
+    out: &mut [u8],
+) -> Result<CountedWritten, CountedRefusal>
+    ensures { (counted_answer result, out.new) ≡ book_call (conversion_of ring.now direction) ring.now book.now out.old }
 {
-    if ring.len() != RING {
-        return CountedAnswer::refused(WRONG_LENGTH, 0, 0);
-    }
-    let size = direction.size();
+    let ring: RingBytes = exactly(ring)?;
     let output_size = direction.output_size();
-    let refusal = lengths_and_output(size, output_size, book.len(), out.len());
-    if refusal != 0 {
-        return CountedAnswer::refused(refusal, 0, 0);
-    }
-    let keys = ring_bytes(ring);
-    let n = book.len() / size as usize;
-    let stop = scan(direction, &keys, book, n);
-    if stop.refusal != 0 {
-        return CountedAnswer::refused(stop.refusal, stop.index, stop.runs);
-    }
-    let runs = write(direction, &keys, book, n, out);
-    CountedAnswer {
-        refusal: 0,
-        index: n,
-        written: output_size as usize * n,
-        runs: stop.runs + runs,
-    }
+    let records = lengths_and_output(direction.size(), output_size, book.len(), out.len())?;
+    let book = Book {
+        direction,
+        ring: &ring,
+        bytes: book,
+        records,
+    };
+    let inspections = book.scan()?;
+    let runs = inspections + book.write(out);
+    Ok(CountedWritten {
+        records,
+        bytes: output_size as usize * records,
+        runs,
+    })
 }
 
 #[tactic(auto, unfolding(standard::specs::Books::seal_book))]
-pub fn seal_book(ring: &[u8], plain: &[u8], out: &mut [u8]) -> CountedAnswer
-    ensures { (result, out.new) ≡ seal_book ring.now plain.now out.old }
+pub fn seal_book(
+    ring: &[u8],
+    plain: &[u8],
+    out: &mut [u8],
+) -> Result<CountedWritten, CountedRefusal>
+    ensures { (counted_answer result, out.new) ≡ seal_book ring.now plain.now out.old }
 {
     book_call(Direction::Sealing, ring, plain, out)
 }
 
 #[tactic(auto, unfolding(standard::specs::Books::open_book))]
-pub fn open_book(ring: &[u8], sealed: &[u8], out: &mut [u8]) -> CountedAnswer
-    ensures { (result, out.new) ≡ open_book ring.now sealed.now out.old }
+pub fn open_book(
+    ring: &[u8],
+    sealed: &[u8],
+    out: &mut [u8],
+) -> Result<CountedWritten, CountedRefusal>
+    ensures { (counted_answer result, out.new) ≡ open_book ring.now sealed.now out.old }
 {
     book_call(Direction::Opening, ring, sealed, out)
 }
 
 // The checks of sealing without 11 and 12; they ask for no ring.
-pub fn check_plain(plain: &[u8]) -> BookAnswer
-    ensures { result ≡ check_plain plain.now }
+pub fn check_plain(plain: &[u8]) -> Result<Written, RefusedAt>
+    ensures { book_answer result ≡ check_plain plain.now }
 {
-    let refusal = lengths(PLAIN_RECORD as u32, plain.len());
-    if refusal != 0 {
-        return BookAnswer::refused(refusal, 0);
-    }
-    let n = plain.len() / PLAIN_RECORD;
-    let no_ring: RingBytes = [0; RING];
-    let found = scan(Direction::Sealing, &no_ring, plain, n);
-    if found.refusal != 0 {
-        return BookAnswer::refused(found.refusal, found.index);
-    }
-    BookAnswer {
-        refusal: 0,
-        index: n,
-        written: 0,
+    let records = lengths(PLAIN_RECORD as u32, plain.len())?;
+    let book = Book {
+        direction: Direction::Sealing,
+        ring: &[0; RING],
+        bytes: plain,
+        records,
+    };
+    match book.scan() {
+        Ok(_) => Ok(Written { records, bytes: 0 }),
+        Err(CountedRefusal { refusal, index, .. }) => Err(RefusedAt { refusal, index }),
     }
 }

@@ -1,19 +1,22 @@
+use Rattle.std.proofs.lemmas.Result.{err_from_is_err_and}
 use Rattle.lists.proofs.ListReturnLaws.{answer_refused, answer_stopped, answer_done}
 use Rattle.standard.specs.Books.{check_plain}
 use Rattle.books.proofs.check_plain.Goals as goal
 
-pub returns-then-refusal-ne0 : goal.returns-then-refusal-ne0
+pub returns-in_err-records : goal.returns-in_err-records
 unfolding check_plain
-returns-then-refusal-ne0 c = rw (c.refused.ensures, ← c.lengths-refusal.ensures) (answer_refused _ _ _ _ c.if-refusal-ne0.true)
+returns-in_err-records c =
+    let p = err_from_is_err_and c.from_residual.result c.from_residual.ensures.1 in
+    rw (p.1, p.2) (answer_refused _ _ _ _ _ c.in_err-records.ensures.tests)
 
-pub returns-then-found-ne0 : goal.returns-then-found-ne0
+pub returns-in-Ok : goal.returns-in-Ok
 unfolding check_plain
-returns-then-found-ne0 c =
-    rw (c.refused-then-found-ne0.ensures, ← c.lengths-refusal.ensures)
-    (answer_stopped _ _ _ _ c.if-refusal-ne0.false _ _ c.scan-found.ensures.0 c.if-found-ne0.true)
+returns-in-Ok c =
+    let records = c.in_ok-records.ensures in
+    rw (← records.records.0) (answer_done _ _ _ _ records.tests c.in-Ok.ensures.0)
 
-pub returns : goal.returns
+pub returns-in-Err : goal.returns-in-Err
 unfolding check_plain
-returns c =
-    rw (← c.lengths-refusal.ensures)
-    (answer_done _ _ _ _ c.if-refusal-ne0.false (c.scan-found.ensures.0.none c.if-found-ne0.false))
+returns-in-Err c =
+    let records = c.in_ok-records.ensures in
+    rw (← records.records.0) (answer_stopped _ _ _ _ records.tests _ _ c.in-Err.ensures.0)
