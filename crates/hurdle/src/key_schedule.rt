@@ -5,30 +5,25 @@ ghost use Rattle.standard.specs.Bytes.{◌!◌, table};
 ghost use Rattle.standard.specs.Hurdle.{schedule as schedule_of};
 
 use crate::tables::{MASKS, ROTATIONS};
+use arrays::join;
 
 // The key and the key again, so that a rotated key is a part of it.
 pub fn doubled(key: [u8; 16]) -> [u8; 32]
     ensures { result ≡ table 32 (λ i. key ! (i % 16)) }
 {
-    let mut out = [0u8; 32];
-    for i in 0..32 {
-        out[i] = key[i % 16];
-    }
-    out
+    join(key, key)
 }
 
 // All sixteen round keys, each bytes 11..0 of its Q.
 pub(crate) fn lay_out_round_keys(key: [u8; 16]) -> [u8; 192]
     ensures { result ≡ schedule_of key }
 {
-    let rotations = ROTATIONS;
-    let masks = MASKS;
     let twice = doubled(key);
     let mut keys = [0u8; 192];
     for i in 0..16 {
-        let from = rotations[i] + 4;
+        let from = ROTATIONS[i] + 4;
         for j in 0..12 {
-            keys[i * 12 + j] = twice[from + j] ^ masks[i * 12 + j];
+            keys[i * 12 + j] = twice[from + j] ^ MASKS[i * 12 + j];
         }
     }
     keys

@@ -1,120 +1,50 @@
 // Four blocks side by side, one to a lane, each lane under round keys of its own. In a block each lookup waits for the one before; the
 // lanes take four links in turn, so that the lookups of one overlap with those of the others.
-ghost use Rattle.std.specs.Prelude.{◌≡◌, ◌+◌, ◌≤◌, ◌++◌, length};
-ghost use Rattle.standard.specs.Bytes.{◌!◌, part};
-ghost use Rattle.standard.specs.Hurdle.{crypt as crypt_of, round_key};
+ghost use Rattle.std.specs.Prelude.{◌≡◌, ◌<◌, ◌++◌};
+ghost use Rattle.standard.specs.Bytes.{◌!◌};
+ghost use Rattle.standard.specs.Hurdle.{crypt as crypt_of, round_key as round_key_of};
 ghost use Rattle.hurdle.specs.Lanes.{lanes, lane, lent, each_lane};
-ghost use Rattle.hurdle.specs.RoundSteps.{bytes4, first_over, second_over, third_over, f_over, exchanged_by, rounds_over, place as place_of, HalvesOf};
-ghost use Rattle.hurdle.specs.RoundSteps.{halves_at, part_at};
+ghost use Rattle.hurdle.specs.RoundSteps.{bytes4, f_over, round_over, rounds_over, place as place_of, HalvesOf, halves_at};
 
-use crate::round::{Halves, Part, block_of, first, place, second, split, third};
-use crate::tables::{s_copy, spread_copy};
+use crate::round::{
+    Direction, Halves, Part, block_of, exchanged, first, round_key, second, split, third,
+};
+use std::array;
 
-fn first_x4(
-    s: &[u8; 256],
-    w: &[u32; 256],
-    h: [Halves; 4],
-    keys: [&[u8; 192]; 4],
-    at: usize,
-) -> [u8; 4]
-    requires { at + 12 ≤ 192 }
-    ensures { result ≡ lanes (λ j. first_over s.now (bytes4 (halves_at h j).r)
-        (part at 12 (lent keys.entry j))) }
+// f in each lane, four links at a time.
+#[tactic(auto, unfolding(crate::specs::RoundSteps::f_over))]
+fn f_x4(h: [Halves; 4], k: [&[u8; 12]; 4]) -> [u32; 4]
+    ensures { each_lane (λ j. result ! j ≡ f_over (bytes4 (halves_at h j).r) (lent k.entry j)) }
 {
-    [
-        first(s, w, h[0].r, &keys[0][..], at),
-        first(s, w, h[1].r, &keys[1][..], at),
-        first(s, w, h[2].r, &keys[2][..], at),
-        first(s, w, h[3].r, &keys[3][..], at),
-    ]
+    let t: [u8; 4] = array::from_fn(|j| first(h[j].r, k[j]));
+    let p: [Part; 4] = array::from_fn(|j| second(t[j], h[j].r, k[j]));
+    array::from_fn(|j| third(p[j], h[j].r, k[j]))
 }
 
-fn second_x4(
-    s: &[u8; 256],
-    w: &[u32; 256],
-    t: [u8; 4],
-    h: [Halves; 4],
-    keys: [&[u8; 192]; 4],
-    at: usize,
-) -> [Part; 4]
-    requires { at + 12 ≤ 192 }
-    ensures { result ≡ lanes (λ j. second_over s.now w.now (t ! j) (bytes4 (halves_at h j).r)
-        (part at 12 (lent keys.entry j))) }
+// A round in each lane.
+fn round_x4(h: [Halves; 4], k: [&[u8; 12]; 4]) -> [Halves; 4]
+    ensures { each_lane (λ j. halves_at result j ≡ round_over (lent k.entry j) (halves_at h j)) }
 {
-    [
-        second(s, w, t[0], h[0].r, &keys[0][..], at),
-        second(s, w, t[1], h[1].r, &keys[1][..], at),
-        second(s, w, t[2], h[2].r, &keys[2][..], at),
-        second(s, w, t[3], h[3].r, &keys[3][..], at),
-    ]
+    let y = f_x4(h, k);
+    array::from_fn(|j| exchanged(h[j], y[j]))
 }
 
-fn third_x4(
-    s: &[u8; 256],
-    w: &[u32; 256],
-    p: [Part; 4],
-    h: [Halves; 4],
-    keys: [&[u8; 192]; 4],
-    at: usize,
-) -> [u32; 4]
-    requires { at + 12 ≤ 192 }
-    ensures { result ≡ lanes (λ j. third_over s.now w.now (part_at p j) (bytes4 (halves_at h j).r)
-        (part at 12 (lent keys.entry j))) }
+// The round keys at one place in each lane.
+fn round_keys(keys: [&[u8; 192]; 4], n: usize) -> [&[u8; 12]; 4]
+    requires { n < 16 }
+    ensures { each_lane (λ j. lent result j ≡ round_key_of (lent keys.entry j) n) }
 {
-    [
-        third(s, w, p[0], h[0].r, &keys[0][..], at),
-        third(s, w, p[1], h[1].r, &keys[1][..], at),
-        third(s, w, p[2], h[2].r, &keys[2][..], at),
-        third(s, w, p[3], h[3].r, &keys[3][..], at),
-    ]
-}
-
-// f in each lane.
-fn f_x4(s: &[u8; 256], w: &[u32; 256], h: [Halves; 4], keys: [&[u8; 192]; 4], at: usize) -> [u32; 4]
-    requires { at + 12 ≤ 192 }
-    ensures { result ≡ lanes (λ j. f_over s.now w.now (bytes4 (halves_at h j).r)
-        (part at 12 (lent keys.entry j))) }
-{
-    let t = first_x4(s, w, h, keys, at);
-    let p = second_x4(s, w, t, h, keys, at);
-    third_x4(s, w, p, h, keys, at)
-}
-
-// The end of a round in each lane, written out: calls would cost time here.
-fn exchanged_x4(h: [Halves; 4], y: [u32; 4]) -> [Halves; 4]
-    ensures { result ≡ lanes (λ j. exchanged_by (halves_at h j) (y ! j)) }
-{
-    [
-        Halves {
-            l: h[0].r,
-            r: h[0].l ^ y[0],
-        },
-        Halves {
-            l: h[1].r,
-            r: h[1].l ^ y[1],
-        },
-        Halves {
-            l: h[2].r,
-            r: h[2].l ^ y[2],
-        },
-        Halves {
-            l: h[3].r,
-            r: h[3].l ^ y[3],
-        },
-    ]
+    keys.map(|k| round_key(k, n))
 }
 
 // The sixteen rounds in each lane.
-fn rounds_x4(keys: [&[u8; 192]; 4], h: [Halves; 4], back: bool) -> [Halves; 4]
-    ensures { each_lane (λ j. halves_at result j ≡ rounds_over back
-        (lent keys.entry j) 16 (halves_at h j)) }
+#[tactic(auto, unfolding(crate::specs::RoundSteps::rounds_over))]
+fn rounds_x4(keys: [&[u8; 192]; 4], h: [Halves; 4], direction: Direction) -> [Halves; 4]
+    ensures { each_lane (λ j. halves_at result j ≡ rounds_over direction (lent keys.entry j) 16 (halves_at h j)) }
 {
-    let s = s_copy();
-    let w = spread_copy();
     let mut state = h;
     for i in 0..16 {
-        let y = f_x4(&s, &w, state, keys, place(back, i) * 12);
-        let next = exchanged_x4(state, y);
+        let next = round_x4(state, round_keys(keys, direction.place(i)));
         state = next;
     }
     state
@@ -123,28 +53,18 @@ fn rounds_x4(keys: [&[u8; 192]; 4], h: [Halves; 4], back: bool) -> [Halves; 4]
 fn split_x4(x: [[u8; 8]; 4]) -> [Halves; 4]
     ensures { each_lane (λ j. HalvesOf (lane x j) (halves_at result j)) }
 {
-    let a = x[0];
-    let b = x[1];
-    let c = x[2];
-    let d = x[3];
-    [split(a), split(b), split(c), split(d)]
+    x.map(split)
 }
 
-fn block_of_x4(h: [Halves; 4]) -> [[u8; 8]; 4]
-    ensures { result ≡ lanes (λ j. bytes4 (halves_at h j).r ++ bytes4 (halves_at h j).l) }
+fn blocks_of(h: [Halves; 4]) -> [[u8; 8]; 4]
+    ensures { each_lane (λ j. lane result j ≡ bytes4 (halves_at h j).r ++ bytes4 (halves_at h j).l) }
 {
-    [
-        block_of(h[0]),
-        block_of(h[1]),
-        block_of(h[2]),
-        block_of(h[3]),
-    ]
+    h.map(block_of)
 }
 
-// The four blocks through sixteen rounds; `back` takes the round keys in reverse order.
-pub(crate) fn crypt_x4(keys: [&[u8; 192]; 4], x: [[u8; 8]; 4], back: bool) -> [[u8; 8]; 4]
-    ensures { result ≡ lanes (λ j. crypt_of
-        (λ i. round_key (lent keys.entry j) (place_of back i)) (lane x j)) }
+// The four blocks through sixteen rounds.
+pub(crate) fn crypt_x4(keys: [&[u8; 192]; 4], x: [[u8; 8]; 4], direction: Direction) -> [[u8; 8]; 4]
+    ensures { result ≡ lanes (λ j. crypt_of (λ i. round_key_of (lent keys.entry j) (place_of direction i)) (lane x j)) }
 {
-    block_of_x4(rounds_x4(keys, split_x4(x), back))
+    blocks_of(rounds_x4(keys, split_x4(x), direction))
 }

@@ -17,12 +17,12 @@ ghost use Rattle.standard.specs.Hurdle.{encrypt as encrypt_of, encrypt_call, dec
 use crate::key_schedule::lay_out_round_keys;
 use crate::lanes::crypt_x4;
 use crate::round::crypt;
-use crate::tables::{S_INVERSE, entry, s_copy};
+use crate::tables::{s_at, s_inverse_at};
 use arrays::both_exactly;
 pub use key_schedule::doubled;
-pub use round::{Halves, block_of, round_under, split};
+pub use round::{Direction, Halves, block_of, round_under, split};
 use standard::Refusal;
-pub use tables::{A, D, S, SPREAD};
+pub use tables::{A, D, S};
 
 // All sixteen round keys, the first one first.
 pub fn schedule(key: [u8; 16]) -> [u8; 192]
@@ -35,26 +35,26 @@ pub fn schedule(key: [u8; 16]) -> [u8; 192]
 pub fn encrypt_with(keys: &[u8; 192], block: [u8; 8]) -> [u8; 8]
     ensures { result ≡ encrypt_with keys.now block }
 {
-    crypt(keys, block, false)
+    crypt(keys, block, Direction::Encrypting)
 }
 
 pub fn decrypt_with(keys: &[u8; 192], block: [u8; 8]) -> [u8; 8]
     ensures { result ≡ decrypt_with keys.now block }
 {
-    crypt(keys, block, true)
+    crypt(keys, block, Direction::Decrypting)
 }
 
 // Four blocks side by side, each under its own round keys. One set of keys may be lent to all four.
 pub fn encrypt_with_x4(keys: [&[u8; 192]; 4], x: [[u8; 8]; 4]) -> [[u8; 8]; 4]
     ensures { result ≡ lanes (λ j. encrypt_with (lent keys.entry j) (lane x j)) }
 {
-    crypt_x4(keys, x, false)
+    crypt_x4(keys, x, Direction::Encrypting)
 }
 
 pub fn decrypt_with_x4(keys: [&[u8; 192]; 4], x: [[u8; 8]; 4]) -> [[u8; 8]; 4]
     ensures { result ≡ lanes (λ j. decrypt_with (lent keys.entry j) (lane x j)) }
 {
-    crypt_x4(keys, x, true)
+    crypt_x4(keys, x, Direction::Decrypting)
 }
 
 // A block under a key.
@@ -63,49 +63,42 @@ pub fn encrypt_block(key: [u8; 16], block: [u8; 8]) -> [u8; 8]
     ensures { result ≡ encrypt_of key block }
 {
     let keys = lay_out_round_keys(key);
-    crypt(&keys, block, false)
-}
-
-fn entries(s: &[u8; 256], x: [u8; 3]) -> [u8; 3]
-    ensures { result ≡ table 3 (λ i. s.now ! (x ! i)) }
-{
-    [entry(s, x[0]), entry(s, x[1]), entry(s, x[2])]
+    crypt(&keys, block, Direction::Encrypting)
 }
 
 // S at each of three bytes, as TA61's permutation takes it.
 pub fn substitute(x: [u8; 3]) -> [u8; 3]
     ensures { result ≡ table 3 (λ i. s_of ! (x ! i)) }
 {
-    let s = s_copy();
-    entries(&s, x)
+    x.map(|b| s_at(usize::from(b)))
 }
 
 pub fn substitute_back(x: [u8; 3]) -> [u8; 3]
     ensures { result ≡ table 3 (λ i. s_inverse_of ! (x ! i)) }
 {
-    entries(&S_INVERSE, x)
+    x.map(|b| s_inverse_at(usize::from(b)))
 }
 
 // A call in either direction, over strings of any length.
 #[tactic(auto, unfolding(crate::specs::RoundSteps::crypt_call))]
-fn crypted(key: &[u8], block: &[u8], back: bool) -> Result<[u8; 8], Refusal>
-    ensures { bytes8 result ≡ crypt_call key.now block.now back }
+fn crypted(key: &[u8], block: &[u8], direction: Direction) -> Result<[u8; 8], Refusal>
+    ensures { bytes8 result ≡ crypt_call key.now block.now direction }
 {
     let (key, block) = both_exactly(key, block)?;
     let keys = lay_out_round_keys(key);
-    Ok(crypt(&keys, block, back))
+    Ok(crypt(&keys, block, direction))
 }
 
 #[tactic(auto, unfolding(crate::specs::RoundSteps::crypt_call, standard::specs::Hurdle::encrypt_call, standard::specs::Hurdle::encrypt))]
 pub fn encrypt(key: &[u8], block: &[u8]) -> Result<[u8; 8], Refusal>
     ensures { bytes8 result ≡ encrypt_call key.now block.now }
 {
-    crypted(key, block, false)
+    crypted(key, block, Direction::Encrypting)
 }
 
 #[tactic(auto, unfolding(crate::specs::RoundSteps::crypt_call, standard::specs::Hurdle::decrypt_call, standard::specs::Hurdle::decrypt))]
 pub fn decrypt(key: &[u8], block: &[u8]) -> Result<[u8; 8], Refusal>
     ensures { bytes8 result ≡ decrypt_call key.now block.now }
 {
-    crypted(key, block, true)
+    crypted(key, block, Direction::Decrypting)
 }

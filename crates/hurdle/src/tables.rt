@@ -1,7 +1,7 @@
 // The constants of HURDLE-II (000, 6.5 and 6.7).
-ghost use Rattle.std.specs.Prelude.{◌≡◌};
+ghost use Rattle.std.specs.Prelude.{◌≡◌, ◌<◌};
 ghost use Rattle.standard.specs.Bytes.{◌!◌};
-ghost use Rattle.standard.specs.Hurdle.{S as s_of};
+ghost use Rattle.standard.specs.Hurdle.{S as s_of, S⁻¹ as s_inverse_of};
 ghost use Rattle.hurdle.specs.RoundSteps.{spreads};
 
 pub const S: [u8; 256] = *b"\
@@ -41,7 +41,7 @@ pub const S_INVERSE: [u8; 256] = *b"\
     \xe0\xe4\xb6\xe9\x00\x8c\xd0\xc9\x41\xd7\xeb\x76\x7c\xfc\x7d\xfe";
 
 // The low four bits of each entry of S, spread over the bytes of a word: bit n is the lowest bit of byte n.
-pub const SPREAD: [u32; 256] = [
+static SPREAD: [u32; 256] = [
     0x0010000, 0x0010001, 0x0000001, 0x0000000, 0x1000100, 0x1000100, 0x0010101, 0x0010101,
     0x1000000, 0x1010001, 0x1010001, 0x1010001, 0x0010100, 0x1010001, 0x1000100, 0x1010001,
     0x1000000, 0x0000000, 0x0000100, 0x1000000, 0x0010100, 0x1010000, 0x1010100, 0x0000000,
@@ -82,10 +82,10 @@ pub const D: [u8; 16] = *b"\x3c\xa7\xec\x25\x79\x57\xdf\xc0\x38\x0a\x33\x1e\xf3\
 pub const A: [usize; 16] = [5, 5, 5, 5, 3, 7, 5, 5, 5, 5, 7, 3, 5, 5, 5, 5];
 
 // How far the key is rotated in each round key: the running sums of a1, a2, .. modulo 16.
-pub const ROTATIONS: [usize; 16] = [0, 5, 10, 15, 4, 7, 14, 3, 8, 13, 2, 9, 12, 1, 6, 11];
+pub(crate) static ROTATIONS: [usize; 16] = [0, 5, 10, 15, 4, 7, 14, 3, 8, 13, 2, 9, 12, 1, 6, 11];
 
 // The round keys of the zero key: what D leaves in each round key, whatever the key.
-pub const MASKS: [u8; 192] = *b"\
+pub(crate) static MASKS: [u8; 192] = *b"\
     \x00\x00\x00\x00\x00\x00\x00\x00\x00\x00\x00\x00\
     \x79\x57\xdf\xc0\x38\x0a\x33\x1e\xf3\x8c\xf4\xf7\
     \x73\x64\xc1\x33\xb4\xfe\xc4\x22\x54\x60\xd1\x8e\
@@ -103,22 +103,29 @@ pub const MASKS: [u8; 192] = *b"\
     \xc4\x22\x54\x60\xd1\x8e\x6b\x78\x2c\x1d\x73\x64\
     \xf7\x3c\xa7\xec\x25\x79\x57\xdf\xc0\x38\x0a\x33";
 
-// An entry of a table. Naming a constant copies it whole, so callers copy it once, out of their loops.
-pub(crate) fn entry(s: &[u8; 256], x: u8) -> u8
-    ensures { result ≡ s.now ! x }
+// The tables that f and TA61 look up. Naming a constant copies it whole, and a static is read in its place.
+static S_ENTRIES: [u8; 256] = S;
+
+static S_INVERSE_ENTRIES: [u8; 256] = S_INVERSE;
+
+// A function that names a table is proved with all its entries in sight, so the others call these.
+pub(crate) fn s_at(i: usize) -> u8
+    requires { i < 256 }
+    ensures { result ≡ s_of ! i }
 {
-    s[x as usize]
+    S_ENTRIES[i]
 }
 
-// Copies of S and SPREAD, to be lent. A function that names a table is proved with all its entries in sight, so the others call these.
-pub(crate) fn s_copy() -> [u8; 256]
-    ensures { result ≡ s_of }
+pub(crate) fn s_inverse_at(i: usize) -> u8
+    requires { i < 256 }
+    ensures { result ≡ s_inverse_of ! i }
 {
-    S
+    S_INVERSE_ENTRIES[i]
 }
 
-pub(crate) fn spread_copy() -> [u32; 256]
-    ensures { result ≡ spreads }
+pub(crate) fn spread_at(i: usize) -> u32
+    requires { i < 256 }
+    ensures { result ≡ spreads ! i }
 {
-    SPREAD
+    SPREAD[i]
 }

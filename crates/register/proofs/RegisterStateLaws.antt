@@ -1,12 +1,12 @@
 -- The loops of the code turn the register and the halves as the definitions do.
 use Rattle.standard.proofs.Prelude.{◌≡◌, sym, ap, ap₂, ◌∙◌, List, ◌++◌, ℕ, ◌+◌, ◌-◌, ◌%◌, ◌<◌, mod-eq_of_lt, add-one, length}
 use Rattle.hurdle.proofs.RoundLaws.{round_word}
-use Rattle.hurdle.specs.RoundSteps.{bytes4, half_bytes, round_over, spreads, HalvesOf}
+use Rattle.hurdle.specs.RoundSteps.{bytes4, half_bytes, round_over, HalvesOf}
 use Rattle.hurdle.specs.declared.round.Halves.{Halves as Words}
 use Rattle.standard.proofs.RegisterLaws.{same_cipher}
 use Rattle.standard.proofs.BytesLaws.{table_at}
 use Rattle.standard.specs.Bytes.{◌!◌, table, part, xors}
-use Rattle.standard.specs.Hurdle.{S, Halves, D, a, rotl, next, encrypt, decrypt}
+use Rattle.standard.specs.Hurdle.{Halves, D, a, rotl, next, encrypt, decrypt}
 use Rattle.standard.specs.Register.{step, step_back, turned, State, round_under, onward, backward, encrypt_register, decrypt_register}
 use Rattle.register.specs.RegisterStates.{state_of}
 
@@ -14,7 +14,7 @@ abbrev state : List ℕ → Halves → State
 state q h = record { register = q; halves = h }
 
 -- a round over the code's copies of S and its spread bits
-under : (q : List ℕ) (h o : Words) → o ≡ round_over S spreads (part 4 12 q) h → half_bytes o ≡ round_under q (half_bytes h)
+under : (q : List ℕ) (h o : Words) → o ≡ round_over (part 4 12 q) h → half_bytes o ≡ round_under q (half_bytes h)
 under q h o e = ap half_bytes e ∙ round_word (part 4 12 q) h
 
 -- a byte of the register twice over
@@ -23,7 +23,7 @@ twice_byte q xs i n e h = ap (λ (l : List ℕ). l ! (i + n)) e ∙ table_at 32 
 
 -- one turn of encryption
 pub onward_more : (rots : List ℕ) (i : ℕ) (s : State) (q : List ℕ) (h : Words) (q₁ : List ℕ) (h₁ : Words) → rots ≡ a → state_of q h ≡ onward i s
-    → h₁ ≡ round_over S spreads (part 4 12 q) h → q₁ ≡ next (rots ! i) q → state_of q₁ h₁ ≡ onward (i + 1) s
+    → h₁ ≡ round_over (part 4 12 q) h → q₁ ≡ next (rots ! i) q → state_of q₁ h₁ ≡ onward (i + 1) s
 unfolding onward
 onward_more rots i s q h q₁ h₁ t e r p =
     ap₂ state (p ∙ ap (λ (b : List ℕ). next (b ! i) q) t) (under q h h₁ r)
@@ -32,7 +32,7 @@ onward_more rots i s q h q₁ h₁ t e r p =
 
 -- one turn of decryption
 pub backward_more : (rots : List ℕ) (i : ℕ) (s : State) (q : List ℕ) (h : Words) (q₁ : List ℕ) (h₁ : Words) → rots ≡ a → state_of q h ≡ backward i s
-    → q₁ ≡ rotl (16 - rots ! (15 - i)) (xors 16 q D) → h₁ ≡ round_over S spreads (part 4 12 q₁) h → state_of q₁ h₁ ≡ backward (i + 1) s
+    → q₁ ≡ rotl (16 - rots ! (15 - i)) (xors 16 q D) → h₁ ≡ round_over (part 4 12 q₁) h → state_of q₁ h₁ ≡ backward (i + 1) s
 unfolding backward
 backward_more rots i s q h q₁ h₁ t e p r =
     let back : q₁ ≡ step_back (15 - i) q = p ∙ ap (λ (b : List ℕ). rotl (16 - b ! (15 - i)) (xors 16 q D)) t in

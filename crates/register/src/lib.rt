@@ -10,7 +10,7 @@ ghost use Rattle.standard.specs.Register.{turned as turned_of, onward as onward_
 ghost use Rattle.register.specs.RegisterStates.{state_of, crypt as crypt_of, crypt_call};
 
 use arrays::{both_exactly, exactly, xor};
-use hurdle::{A, D, Halves, S, SPREAD, block_of, doubled, round_under, split};
+use hurdle::{A, D, Halves, block_of, doubled, round_under, split};
 use standard::Refusal;
 
 // Rotated left by n bytes: sixteen bytes of the register twice over, from byte n on.
@@ -55,13 +55,11 @@ struct State {
 fn onward(key: [u8; 16], block: Halves) -> State
     ensures { state_of result.register result.halves ≡ onward_of 16 (state_of key block) }
 {
-    let s = S;
-    let w = SPREAD;
     let a = A;
     let mut q = key;
     let mut h = block;
     for i in 0..16 {
-        h = round_under(&s, &w, h, &q);
+        h = round_under(h, &q);
         q = step(&q, a[i]);
     }
     State {
@@ -74,14 +72,12 @@ fn onward(key: [u8; 16], block: Halves) -> State
 fn backward(key: [u8; 16], block: Halves) -> State
     ensures { state_of result.register result.halves ≡ backward_of 16 (state_of key block) }
 {
-    let s = S;
-    let w = SPREAD;
     let a = A;
     let mut q = key;
     let mut h = block;
     for i in 0..16 {
         q = step_back(&q, a[15 - i]);
-        h = round_under(&s, &w, h, &q);
+        h = round_under(h, &q);
     }
     State {
         register: q,

@@ -1,7 +1,5 @@
 use Rattle.std.proofs.Common.{◌≡◌, refl, arith}
-use Rattle.hurdle.specs.RoundSteps.{spreads}
-use Rattle.standard.specs.Bytes.{bit}
-use Rattle.standard.specs.Hurdle.{S, a}
+use Rattle.standard.specs.Hurdle.{a}
 use Rattle.standard.specs.Register.{onward}
 use Rattle.register.proofs.RegisterStateLaws.{onward_more}
 use Rattle.register.proofs.onward.Goals as goal
@@ -11,7 +9,7 @@ unfolding onward
 loop-i-init c = refl
 
 pub loop-i-preserved : goal.loop-i-preserved
-unfolding S spreads bit a
+unfolding a
 loop-i-preserved c = onward_more a c.loop-i.i _ c.loop-i.q c.loop-i.h _ _ refl c.loop-i.invariant c.round_under-h.ensures c.step-q.ensures
 
 pub returns : goal.returns

@@ -1,7 +1,7 @@
--- 2 · i rounds are made.
-use Rattle.std.proofs.Common.{◌≡◌, ◌*◌}
+-- i rounds are made.
+use Rattle.std.proofs.Common.{◌≡◌}
 use Rattle.hurdle.specs.RoundSteps.{rounds_over}
 use Rattle.hurdle.proofs.round.rounds.Given as goal
 
 abbrev pub invariant-loop-i : goal.invariant-loop-i
-invariant-loop-i l = l.state ≡ rounds_over l.back l.keys (2 * l.i) l.fn.h
+invariant-loop-i l = l.state ≡ rounds_over l.direction l.keys l.i l.fn.h

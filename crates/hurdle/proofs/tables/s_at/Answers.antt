@@ -1,6 +1,6 @@
 use Rattle.std.proofs.Common.{refl}
 use Rattle.standard.specs.Hurdle.{S}
-use Rattle.hurdle.proofs.tables.s_copy.Goals as goal
+use Rattle.hurdle.proofs.tables.s_at.Goals as goal
 
 pub returns : goal.returns
 unfolding S
