@@ -7,7 +7,7 @@ use std::env::FillError;
 use std::rt::Env;
 
 fn main(rt: HostRuntime) {
-    if answer_version(&rt, b"printtables").len > 0 {
+    if answer_version(&rt, b"printtables").is_some() {
         return;
     }
     if !matches!(rt.arg(1, &mut []), Err(FillError::NotPresent)) {
@@ -15,6 +15,7 @@ fn main(rt: HostRuntime) {
         return;
     }
     let mut out = [0u8; TABLES_TEXT];
-    let answer = print_tables(&mut out);
-    write_output(&rt, b"printtables", &out, answer.written);
+    if let Ok(written) = print_tables(&mut out) {
+        write_output(&rt, b"printtables", &out, written);
+    }
 }

@@ -1,44 +1,27 @@
 // What the programs share: input read to its end, output written, and a line on standard error that says what went wrong.
 #![tactic(auto)]
 
-ghost use Rattle.std.specs.Prelude.{true, ◌⊎◌, ◌≡◌, ◌≤◌, eqb, length, min, take, IfOk, OnOk};
+mod ring_input;
+
+ghost use Rattle.std.specs.Prelude.{true, [], ◌≡◌, ◌≤◌, eqb, length, min, take, IfOk, IfSome, OnOk};
 ghost use Rattle.std.specs.Io.{StartsWith};
 ghost use Rattle.std.specs.Io.KnownBytes.{Appends, ReadConsumes};
 ghost use Rattle.standard.specs.Bytes.{same as same_of};
 ghost use Rattle.standard.specs.Lines.{ascii};
-ghost use Rattle.lines.specs.LineStates.{empty_line, ◌▸◌};
-ghost use Rattle.programs.specs.Reading.{input_of, Gathered, Read, RingRead, ReadToEnd};
+ghost use Rattle.lines.specs.LineStates.{◌▸◌};
+ghost use Rattle.programs.specs.Reading.{counted, Gathered, Read, RingRead, ReadToEnd};
 
 use arrays::{copy, same};
 use lines::{Line, ROOM};
 use reports::{report, report_counted};
-use standard::{BookAnswer, CountedAnswer, MOST_RECORDS, RING, RingBytes, SEALED_RECORD};
+pub use ring_input::RingInput;
+use standard::{BookAnswer, CountedAnswer, MOST_RECORDS, RING, SEALED_RECORD};
 use std::env::FillError;
 use std::fmt::InlineText;
 use std::fs::File;
 use std::io;
 use std::io::{ErrorKind, Write};
 use std::rt::Env;
-
-// What was read: how many bytes, and whether reading failed. Standard error then has a line about it.
-#[derive(Clone, Copy)]
-pub struct Input {
-    pub len: usize,
-    pub failed: bool,
-}
-
-pub const FAILED: Input = Input {
-    len: 0,
-    failed: true,
-};
-
-// The bytes of a ring, as far as they were read.
-#[derive(Clone, Copy)]
-pub struct RingInput {
-    pub ring: RingBytes,
-    pub len: usize,
-    pub failed: bool,
-}
 
 // The longest input that a program has room for: a byte more than the longest sealed book.
 const LONGEST: usize = SEALED_RECORD * MOST_RECORDS + 1;
@@ -56,27 +39,21 @@ const EILSEQ: i32 = 84;
 // The most bytes of an error's text.
 const ERROR_TEXT: usize = 320;
 
-fn least(a: usize, b: usize) -> usize
-    ensures { result ≡ min a b }
-{
-    if a < b { a } else { b }
-}
-
 // One piece of the input, by way of an array of its own, so that the bytes after it stay as they are.
 fn read_piece<R: io::Read>(from: &mut R, buf: &mut [u8]) -> io::Result<usize>
-    ensures left { Read (input_of result) buf.old buf.new }
+    ensures left { Read (counted result) buf.old buf.new }
     ensures known { ReadConsumes (R.remaining from.old) (R.remaining from.new) result buf.new }
 {
     let mut bytes = [0u8; PIECE];
-    let most = least(buf.len(), bytes.len());
+    let most = buf.len().min(bytes.len());
     let n = from.read(&mut bytes[..most])?;
     copy(&bytes[..n], buf);
     Ok(n)
 }
 
-// Input that comes in pieces is read until it ends or the buffer is full.
+// Input that comes in pieces is read until it ends or the buffer is full. No `read_to_end`: it asks for a heap, and goes on after an interrupt.
 fn read_all<R: io::Read>(from: &mut R, buf: &mut [u8]) -> io::Result<usize>
-    ensures left { Gathered (input_of result) buf.old buf.new }
+    ensures left { Gathered (counted result) buf.old buf.new }
     ensures known { IfOk result (ReadToEnd (R.remaining from.old) (R.remaining from.new) (length buf.new) buf.new) }
 {
     let mut n = 0;
@@ -91,18 +68,19 @@ fn read_all<R: io::Read>(from: &mut R, buf: &mut [u8]) -> io::Result<usize>
 }
 
 // The same by way of an array of the longest input, copied once at the end: where a read fails, the pieces before it do not reach the buffer.
+// Not one function with `read_piece` and a closure for the read: its contract would have to say what the closure left of the reader's bytes.
 fn read_whole<R: io::Read>(from: &mut R, buf: &mut [u8]) -> io::Result<usize>
-    ensures left { Read (input_of result) buf.old buf.new }
+    ensures left { Read (counted result) buf.old buf.new }
     ensures known { IfOk result (ReadToEnd (R.remaining from.old) (R.remaining from.new) (min (length buf.new) LONGEST) buf.new) }
 {
     let mut all = [0u8; LONGEST];
-    let most = least(buf.len(), all.len());
+    let most = buf.len().min(all.len());
     let n = read_all(from, &mut all[..most])?;
     copy(&all[..n], buf);
     Ok(n)
 }
 
-// All the bytes, or the reason why not. A write that takes none has failed.
+// All the bytes, or the reason why not. No `write_all`: it goes on after an interrupt, and has other words for a write that takes none.
 fn write_whole<W: Write>(to: &mut W, bytes: &[u8]) -> io::Result<()>
     ensures { OnOk result (Appends (W.contents to.old) (W.contents to.new) bytes.now) }
 {
@@ -154,20 +132,21 @@ fn fail(rt: &HostRuntime, program: &[u8], what: &[u8], error: io::Error) {
     write_error(rt, b"\n");
 }
 
-// What a read came to. Where it failed, a line on standard error says why.
-fn told(rt: &HostRuntime, program: &[u8], what: &[u8], read: io::Result<usize>) -> Input
-    ensures { result ≡ input_of read }
+// What came of it. Where it failed, a line on standard error says why.
+fn told<T>(rt: &HostRuntime, program: &[u8], what: &[u8], outcome: io::Result<T>) -> Option<T>
+    ensures { result ≡ counted outcome }
 {
-    match read {
-        Ok(len) => Input { len, failed: false },
+    match outcome {
+        Ok(value) => Some(value),
         Err(error) => {
             fail(rt, program, what, error);
-            FAILED
+            None
         }
     }
 }
 
-pub fn read_input(rt: &HostRuntime, program: &[u8], buf: &mut [u8]) -> Input
+// How many bytes were read. None: reading failed, and a line on standard error says why.
+pub fn read_input(rt: &HostRuntime, program: &[u8], buf: &mut [u8]) -> Option<usize>
     ensures { Read result buf.old buf.new }
 {
     let read = read_whole(&mut rt.stdin(), buf);
@@ -175,20 +154,18 @@ pub fn read_input(rt: &HostRuntime, program: &[u8], buf: &mut [u8]) -> Input
 }
 
 fn open(rt: &HostRuntime, path: &[u8]) -> io::Result<File> {
-    match str::from_utf8(path) {
-        Ok(text) => File::open(rt, text),
-        Err(_) => Err(io::Error::from_raw_os_error(EILSEQ)),
-    }
+    let text = str::from_utf8(path).map_err(|_| io::Error::from_raw_os_error(EILSEQ))?;
+    File::open(rt, text)
 }
 
 fn read_path(rt: &HostRuntime, path: &[u8], buf: &mut [u8]) -> io::Result<usize>
-    ensures { Read (input_of result) buf.old buf.new }
+    ensures { Read (counted result) buf.old buf.new }
 {
     let mut file = open(rt, path)?;
     read_whole(&mut file, buf)
 }
 
-fn read_file(rt: &HostRuntime, program: &[u8], path: &[u8], buf: &mut [u8]) -> Input
+fn read_file(rt: &HostRuntime, program: &[u8], path: &[u8], buf: &mut [u8]) -> Option<usize>
     ensures { Read result buf.old buf.new }
 {
     let read = read_path(rt, path, buf);
@@ -199,43 +176,31 @@ fn read_file(rt: &HostRuntime, program: &[u8], path: &[u8], buf: &mut [u8]) -> I
 fn argument(rt: &HostRuntime, i: usize, buf: &mut [u8]) -> io::Result<usize>
     ensures { IfOk result (λ n. n ≤ length buf.new) }
 {
-    match rt.arg(i, buf) {
-        Ok(n) => Ok(n),
-        Err(FillError::TooLong) => Err(io::Error::from_raw_os_error(ENAMETOOLONG)),
-        Err(FillError::NotPresent) => Err(io::Error::from_raw_os_error(EINVAL)),
-    }
+    rt.arg(i, buf).map_err(|error| {
+        io::Error::from_raw_os_error(match error {
+            FillError::TooLong => ENAMETOOLONG,
+            FillError::NotPresent => EINVAL,
+        })
+    })
 }
 
 // The file that the first argument names.
-pub fn read_argument(rt: &HostRuntime, program: &[u8], buf: &mut [u8]) -> Input
+pub fn read_argument(rt: &HostRuntime, program: &[u8], buf: &mut [u8]) -> Option<usize>
     ensures { Read result buf.old buf.new }
 {
     let mut path = [0u8; PIECE];
-    match argument(rt, 1, &mut path) {
-        Ok(n) => read_file(rt, program, &path[..n], buf),
-        Err(error) => {
-            fail(rt, program, b"first argument", error);
-            FAILED
-        }
-    }
+    let found = argument(rt, 1, &mut path);
+    let n = told(rt, program, b"first argument", found)?;
+    read_file(rt, program, &path[..n], buf)
 }
 
 // Whether there is an argument i, however long. The program's own name is argument 0.
 fn has_argument(rt: &HostRuntime, i: usize) -> bool {
-    match rt.arg(i, &mut []) {
-        Err(FillError::NotPresent) => false,
-        _ => true,
-    }
+    !matches!(rt.arg(i, &mut []), Err(FillError::NotPresent))
 }
 
 fn has_one_argument(rt: &HostRuntime) -> bool {
     has_argument(rt, 1) && !has_argument(rt, 2)
-}
-
-// A line to standard error.
-fn write_line(rt: &HostRuntime, l: Line) {
-    let bytes = l.bytes;
-    let _ = put(&mut rt.stderr(), &bytes, l.size());
 }
 
 fn usage(program: &[u8]) -> Line {
@@ -245,40 +210,25 @@ fn usage(program: &[u8]) -> Line {
         .word(b" RING\n")
 }
 
-fn ring_input(ring: RingBytes, input: Input) -> RingInput
-    ensures { result ≡ record { ring = ring; len = input.len; failed = input.failed } }
-{
-    RingInput {
-        ring,
-        len: input.len,
-        failed: input.failed,
-    }
-}
-
 // The ring, from the first bytes of the file that the only argument names. A shorter file is left to the calls, which refuse it.
-pub fn read_ring(rt: &HostRuntime, program: &[u8]) -> RingInput
+pub fn read_ring(rt: &HostRuntime, program: &[u8]) -> Option<RingInput>
     ensures { RingRead result }
 {
     let mut ring = [0u8; RING];
     if !has_one_argument(rt) {
-        write_line(rt, usage(program));
-        return ring_input(ring, FAILED);
+        write_error(rt, usage(program).text());
+        return None;
     }
-    let input = read_argument(rt, program, &mut ring);
-    ring_input(ring, input)
+    let len = read_argument(rt, program, &mut ring)?;
+    Some(RingInput { ring, len })
 }
 
 // The first n bytes to standard output. True only where there are so many, and all were taken.
 pub fn write_output(rt: &HostRuntime, program: &[u8], bytes: &[u8], n: usize) -> bool
     ensures { result ≡ true → n ≤ length bytes.now }
 {
-    match put(&mut rt.stdout(), bytes, n) {
-        Ok(()) => true,
-        Err(error) => {
-            fail(rt, program, b"standard output", error);
-            false
-        }
-    }
+    let written = put(&mut rt.stdout(), bytes, n);
+    told(rt, program, b"standard output", written).is_some()
 }
 
 // The first n bytes of a line about an answer, on standard error. Whether there was no refusal.
@@ -293,25 +243,23 @@ fn report_line(rt: &HostRuntime, refusal: u32, line: &[u8], n: usize) -> bool
 pub fn report_answer(rt: &HostRuntime, answer: BookAnswer) -> bool
     ensures { result ≡ eqb answer.refusal 0 }
 {
-    let refusal = answer.refusal;
     let mut line = [0u8; ROOM];
-    let reported = report(answer, &mut line);
-    report_line(rt, refusal, &line, reported.written)
+    let n = report(answer, &mut line).unwrap_or(0);
+    report_line(rt, answer.refusal, &line, n)
 }
 
 // The same for sealing and opening a book, with the block cipher runs.
 pub fn report_counted_answer(rt: &HostRuntime, answer: CountedAnswer) -> bool
     ensures { result ≡ eqb answer.refusal 0 }
 {
-    let refusal = answer.refusal;
     let mut line = [0u8; ROOM];
-    let reported = report_counted(answer, &mut line);
-    report_line(rt, refusal, &line, reported.written)
+    let n = report_counted(answer, &mut line).unwrap_or(0);
+    report_line(rt, answer.refusal, &line, n)
 }
 
 // The program's name and the release.
 fn version_line(program: &[u8]) -> Line
-    ensures { result ≡ empty_line ▸ program.now ▸ ascii " 1.1.0\n" }
+    ensures { result ≡ [] ▸ program.now ▸ ascii " 1.1.0\n" }
 {
     Line::empty().word(program).word(b" 1.1.0\n")
 }
@@ -328,21 +276,18 @@ fn version_asked(rt: &HostRuntime) -> bool {
         return false;
     }
     let mut bytes = [0u8; PIECE];
-    match argument(rt, 1, &mut bytes) {
-        Ok(n) => is_version(&bytes[..n]),
-        Err(_) => false,
-    }
+    argument(rt, 1, &mut bytes).is_ok_and(|n| is_version(&bytes[..n]))
 }
 
 // What was written about the release, on standard output: a line if `--version` is the only argument, else nothing.
-pub fn answer_version(rt: &HostRuntime, program: &[u8]) -> Line
-    ensures { (result ≡ empty_line) ⊎ (result ≡ empty_line ▸ program.now ▸ ascii " 1.1.0\n") }
+pub fn answer_version(rt: &HostRuntime, program: &[u8]) -> Option<Line>
+    ensures { IfSome result (λ line. line ≡ [] ▸ program.now ▸ ascii " 1.1.0\n") }
 {
     if !version_asked(rt) {
-        return Line::empty();
+        return None;
     }
-    let l = version_line(program);
-    let bytes = l.bytes;
-    write_output(rt, program, &bytes, l.size());
-    l
+    let line = version_line(program);
+    let text = line.text();
+    write_output(rt, program, text, text.len());
+    Some(line)
 }
