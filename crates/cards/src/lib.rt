@@ -1,50 +1,46 @@
 // Smudged key cards: a group key in its TB7 form, of which some bytes are unreadable, restored group by group.
 #![tactic(auto)]
 
-ghost use Rattle.std.specs.Prelude.{◌≡◌, ◌-◌, ◌/◌, ◌%◌, ◌^◌, ◌<◌, ◌≤◌, eqb};
-ghost use Rattle.standard.specs.Bytes.{choose};
-ghost use Rattle.standard.specs.Cards.{readable as readable_of, erasures as erasures_of, group_parity, at_most_one, agrees as agrees_of};
-ghost use Rattle.standard.specs.Cards.{every_group, restored as restored_of, key_of, restore_call};
+ghost use Rattle.std.specs.Prelude.{◌≡◌, ◌+◌, ◌<◌, ◌≤◌};
+ghost use Rattle.std.specs.List.{list_all};
+ghost use Rattle.standard.specs.Answers.{card_answer};
+ghost use Rattle.standard.specs.Cards.{unreadable as unreadable_of, readable as readable_of, erasures as erasures_of, group_parity, at_most_one, agrees as agrees_of};
+ghost use Rattle.standard.specs.Cards.{restored as restored_of, key_of, restore_call};
 
-use arrays::part16;
-use standard::{Card, GROUP_DISAGREES, GROUP_UNREADABLE, WRONG_LENGTH};
+use arrays::exactly;
+use standard::{Refusal, RestoredCard};
+use std::array;
 
-// The mask's bit of the byte at index i from the left: 1 where that is unreadable.
-fn erased(unreadable: u16, i: usize) -> u16
+// Where the card's four groups begin.
+const GROUPS: [usize; 4] = [0, 4, 8, 12];
+
+// The mask's bit of the byte at index i from the left is set.
+#[tactic(auto, unfolding(standard::specs::Bytes::bit))]
+fn unreadable_at(unreadable: u16, i: usize) -> bool
     requires { i < 16 }
-    ensures { (result ≡ unreadable / 2 ^ (15 - i) % 2) × (result < 2) }
+    ensures { result ≡ unreadable_of unreadable i }
 {
-    (unreadable >> (15 - i)) % 2
-}
-
-// The first in the place of an erasure, else the second.
-fn pick(erased: u16, a: u8, b: u8) -> u8
-    ensures { result ≡ choose (eqb erased 1) a b }
-{
-    if erased == 1 { a } else { b }
+    (unreadable >> (15 - i)) % 2 == 1
 }
 
 // The readable bytes, and 0 in the place of the others.
 fn readable(card: [u8; 16], unreadable: u16) -> [u8; 16]
     ensures { result ≡ readable_of card unreadable }
 {
-    let mut out = [0u8; 16];
-    for i in 0..16 {
-        out[i] = pick(erased(unreadable, i), 0, card[i]);
-    }
-    out
+    array::from_fn(move |i| if unreadable_at(unreadable, i) {
+        0
+    } else {
+        card[i]
+    })
 }
 
 // How many bytes of the group from index a on are unreadable.
-#[tactic(auto, unfolding(standard::specs::Bytes::bit))]
-fn erasures(unreadable: u16, a: usize) -> u16
+#[tactic(auto, using(crate::proofs::GroupLaws::erasures_are_ones))]
+fn erasures(unreadable: u16, a: usize) -> u32
     requires { a ≤ 12 }
     ensures { result ≡ erasures_of unreadable a }
 {
-    erased(unreadable, a)
-        + erased(unreadable, a + 1)
-        + erased(unreadable, a + 2)
-        + erased(unreadable, a + 3)
+    ((unreadable >> (12 - a)) % 16).count_ones()
 }
 
 // The ⊕ of the group's readable bytes.
@@ -57,75 +53,51 @@ fn group_parity(read: [u8; 16], a: usize) -> u8
 
 // No group has more than one unreadable byte.
 fn at_most_one(unreadable: u16) -> bool
-    ensures { result ≡ every_group (at_most_one unreadable) }
+    ensures { result ≡ list_all (at_most_one unreadable) GROUPS }
 {
-    (erasures(unreadable, 0) <= 1)
-        & (erasures(unreadable, 4) <= 1)
-        & (erasures(unreadable, 8) <= 1)
-        & (erasures(unreadable, 12) <= 1)
+    GROUPS.iter().all(|a| erasures(unreadable, *a) <= 1)
 }
 
-// The group is not all readable, or its fourth byte is the ⊕ of the others.
-fn agrees(read: [u8; 16], unreadable: u16, a: usize) -> bool
-    requires { a ≤ 12 }
-    ensures { result ≡ agrees_of read unreadable a }
-{
-    (erasures(unreadable, a) != 0) | (group_parity(read, a) == 0)
-}
-
+// In each group some byte is unreadable, or the fourth is the ⊕ of the others.
 fn agree(read: [u8; 16], unreadable: u16) -> bool
-    ensures { result ≡ every_group (agrees_of read unreadable) }
+    ensures { result ≡ list_all (agrees_of read unreadable) GROUPS }
 {
-    agrees(read, unreadable, 0)
-        & agrees(read, unreadable, 4)
-        & agrees(read, unreadable, 8)
-        & agrees(read, unreadable, 12)
+    GROUPS.iter().all(|a| erasures(unreadable, *a) != 0 || group_parity(read, *a) == 0)
 }
 
 // Each unreadable byte from the others of its group.
 fn restored(read: [u8; 16], unreadable: u16) -> [u8; 16]
     ensures { result ≡ restored_of read unreadable }
 {
-    let mut out = [0u8; 16];
-    for i in 0..16 {
-        out[i] = pick(
-            erased(unreadable, i),
-            group_parity(read, 4 * (i / 4)),
-            read[i],
-        );
-    }
-    out
+    array::from_fn(move |i| {
+        if unreadable_at(unreadable, i) {
+            group_parity(read, 4 * (i / 4))
+        } else {
+            read[i]
+        }
+    })
 }
 
 // The first three bytes of each group.
 fn key_of(card: [u8; 16]) -> [u8; 12]
     ensures { result ≡ key_of card }
 {
-    [
-        card[0], card[1], card[2], card[4], card[5], card[6], card[8], card[9], card[10], card[12],
-        card[13], card[14],
-    ]
+    array::from_fn(move |i| card[i + i / 3])
 }
 
 #[tactic(auto, unfolding(standard::specs::Cards::restore_call))]
-pub fn restore_card(card: &[u8], unreadable: u16) -> Card
-    ensures { result ≡ restore_call card.now unreadable }
+pub fn restore_card(card: &[u8], unreadable: u16) -> Result<RestoredCard, Refusal>
+    ensures { card_answer result ≡ restore_call card.now unreadable }
 {
-    if card.len() != 16 {
-        return Card::refused(WRONG_LENGTH);
-    }
+    let card = exactly(card)?;
     if !at_most_one(unreadable) {
-        return Card::refused(GROUP_UNREADABLE);
+        return Err(Refusal::GroupUnreadable);
     }
-    let read = readable(part16(card, 0), unreadable);
+    let read = readable(card, unreadable);
     if !agree(read, unreadable) {
-        return Card::refused(GROUP_DISAGREES);
+        return Err(Refusal::GroupDisagrees);
     }
-    let whole = restored(read, unreadable);
-    let key = key_of(whole);
-    Card {
-        refusal: 0,
-        key,
-        card: whole,
-    }
+    let card = restored(read, unreadable);
+    let key = key_of(card);
+    Ok(RestoredCard { key, card })
 }

@@ -1,23 +1,12 @@
-use Rattle.std.proofs.Common.{◌∙◌, arith, length-set}
-use Rattle.standard.proofs.FillLaws.{fill_next, filled}
+use Rattle.std.proofs.Common.{rules, arith}
+use Rattle.std.proofs.lemmas.Grind.{common_steps}
+use Rattle.standard.proofs.MadeLaws.{made_table}
 use Rattle.standard.specs.Bytes.{◌!◌, choose}
 use Rattle.standard.specs.Cards.{unreadable, readable}
-use Rattle.cards.proofs.GroupLaws.{picked}
 use Rattle.cards.proofs.readable.Goals as goal
-
-pub loop-i-preserved : goal.loop-i-preserved
-loop-i-preserved c =
-    let at = c.loop-i in
-    let m = c.args.unreadable in
-    record {
-      out_len = length-set at.out _ _ ∙ at.invariant.out_len;
-      filled =
-          fill_next at.out (λ j. choose (unreadable m j) 0 (c.args.card ! j)) at.i _ (omega arith)
-          (picked m at.i c.erased.ensures.0 _ _ c.pick.ensures) at.invariant.filled;
-    }
 
 pub returns : goal.returns
 unfolding readable
 returns c =
-    filled c.loop-i.out (λ j. choose (unreadable c.args.unreadable j) 0 (c.args.card ! j)) 16 c.loop-i.i c.loop-i.invariant.out_len
-    (omega arith) c.loop-i.invariant.filled
+    made_table _ _ (λ i. choose (unreadable c.args.unreadable i) 0 (c.args.card ! i)) 16
+    (λ i y q l k. (grind (arith, common_steps), search rules)) _ c.from_fn.ensures.items
