@@ -1,6 +1,6 @@
 -- Flips and the bits that change, under round keys laid out first; sums and extremes that go on from turn to turn; and the ways in which
 -- the call returns.
-use Rattle.standard.proofs.Prelude.{◌≡◌, refl, sym, ap, ◌∙◌, List, ◌++◌, ℕ, ◌+◌, ◌*◌, ◌/◌, ◌^◌, ◌<◌, add-one}
+use Rattle.standard.proofs.Prelude.{◌≡◌, refl, sym, ap, ◌∙◌, List, [], ◌++◌, ℕ, ◌+◌, ◌*◌, ◌/◌, ◌^◌, ◌<◌, add-one}
 use Rattle.standard.proofs.Prelude.{arith, length, length-append}
 use Prim.Native.Nat.{min, max}
 use mathlib.Core.List.{foldl, foldl-append}
@@ -51,6 +51,9 @@ unfolding record_changes change_with change encrypt
 record_under r keys block e f = rw (e, f) refl
 
 -- ---- figures that go on
+
+pub counted_none : {a : Figures} → Counted a [] a
+counted_none = record { total = refl; least = refl; greatest = refl; most = omega arith }
 
 module _ {a b c : Figures} where
   -- over further changes

@@ -7,8 +7,8 @@ use Rattle.standard.proofs.BytesLaws.{spelled}
 use Rattle.standard.proofs.LineageLaws.{from_same, value_length, parents_before, value_step}
 use Rattle.standard.specs.Bytes.{◌!◌, table, part}
 use Rattle.standard.specs.Keys.{core, ta71}
-use Rattle.standard.specs.Lineage.{operation, parent1, parent2, filled, parent_tests, lineage_fault}
-use Rattle.standard.specs.Lineage.{derived, value_from, value_of}
+use Rattle.standard.specs.Lineage.{operation, filled, parent_tests, lineage_fault}
+use Rattle.standard.specs.Lineage.{derived, value_of}
 use Rattle.standard.specs.Lists.{record_at}
 use Rattle.standard.specs.Mixing.{tb4}
 use Rattle.standard.specs.Refusals.{wrong_filling, first}
@@ -17,21 +17,19 @@ use Rattle.lineage.specs.SheetValues.{from_values}
 
 -- ---- the refusal of a record
 
-module _ (s : List ℕ) (i : ℕ) where
-  abbrev p : List ℕ
-  p = record_at sheet_size s i
-
+module _ (s : List ℕ) (i : ℕ) (p : List ℕ) (e : p ≡ record_at sheet_size s i) where
   pub fault_filling : filled p ≡ false → wrong_filling ≡ lineage_fault s i
   unfolding lineage_fault
-  fault_filling e = rw e
+  fault_filling f = rw (sym (ap filled e) ∙ f)
 
   pub fault_given : filled p ≡ true → operation p ≡ 0 → 0 ≡ lineage_fault s i
   unfolding lineage_fault
-  fault_given e z = rw (e, eq-eqb (operation p) 0 z)
+  fault_given f z = rw (sym (ap filled e) ∙ f, eq-eqb _ 0 (sym (ap operation e) ∙ z))
 
   pub fault_parents : filled p ≡ true → (operation p ≡ 0 → ⊥) → first (parent_tests s p i) ≡ lineage_fault s i
   unfolding lineage_fault
-  fault_parents e z = rw (e, ne_eqb (operation p) 0 z)
+  fault_parents f z =
+      ap (λ (q : List ℕ). first (parent_tests s q i)) e ∙ rw (sym (ap filled e) ∙ f, ne_eqb _ 0 (λ k. z (ap operation e ∙ k)))
 
 -- ---- the value o of an operation k, as code makes it of two values and the ten bytes t of the second
 
@@ -62,16 +60,6 @@ module _ (k : ℕ) (a b : List ℕ) {t o : List ℕ} (et : t ≡ part 0 10 b) wh
 -- ---- the value of a record
 
 module _ (s values : List ℕ) (i : ℕ) where
-  pub value_given : operation (record_at sheet_size s i) ≡ 0 → part 6 16 (record_at sheet_size s i) ≡ from_values s values i
-  unfolding from_values value_from
-  value_given z = rw (eq-eqb (operation (record_at sheet_size s i)) 0 z)
-
-  pub value_derived : (a b : List ℕ) → (operation (record_at sheet_size s i) ≡ 0 → ⊥)
-      → a ≡ record_at value_size values (parent1 (record_at sheet_size s i)) → b ≡ record_at value_size values (parent2 (record_at sheet_size s i))
-      → part 0 value_size (derived (operation (record_at sheet_size s i)) a b) ≡ from_values s values i
-  unfolding from_values value_from
-  value_derived a b z ea eb = rw (ea, eb, ne_eqb (operation (record_at sheet_size s i)) 0 z)
-
   -- where the values before it are written, it is the record's
   pub value_next : (n : ℕ) → Clean (lineage_fault s) n → i < n → (out₀ : List ℕ) → PrefixWritten value_size (value_of s) out₀ i values
       → from_values s values i ≡ value_of s i

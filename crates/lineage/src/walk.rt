@@ -1,50 +1,34 @@
 // The two passes over a sheet: the first looks for a refusal, the second writes the values.
-ghost use Rattle.std.specs.Prelude.{◌++◌, ◌≡◌, ◌*◌, ◌≤◌, length, drop};
-ghost use Rattle.lists.specs.Walks.{Clean, Stopped};
+ghost use Rattle.std.specs.Prelude.{◌++◌, ◌≡◌, ◌*◌, ◌≤◌, OnOk, IfErr, length, drop};
+ghost use Rattle.lists.specs.Walks.{Clean, FirstFault};
 ghost use Rattle.standard.specs.Lineage.{lineage_fault, value_of};
 ghost use Rattle.standard.specs.Lists.{joined};
-ghost use Rattle.standard.specs.Sizes.{sheet_size, value_size};
+ghost use Rattle.standard.specs.Sizes.{value_size};
 
-use crate::fault::record_fault;
+use crate::fault::check_record;
 use crate::value::value_of;
-use arrays::copy;
-use standard::SHEET_VALUE;
+use standard::{RefusedAt, SHEET_VALUE};
 
-// Where the scan stopped: at the first record that is refused, or after the last with 0.
-#[derive(Drop)]
-pub struct Stop {
-    pub refusal: u32,
-    pub index: usize,
-}
-
-pub(crate) fn scan(sheet: &[u8], n: usize) -> Stop
-    requires { sheet_size * n ≤ length sheet.now }
-    ensures { Stopped n (lineage_fault sheet.now) result.refusal result.index }
+pub(crate) fn scan(sheet: &[u8], n: u16) -> Result<(), RefusedAt>
+    ensures clean { OnOk result (Clean (lineage_fault sheet.now) n) }
+    ensures first { IfErr result (λ at. FirstFault n (lineage_fault sheet.now) at.refusal at.index) }
 {
-    let mut index = 0;
-    while index < n {
-        let refusal = record_fault(sheet, index);
-        if refusal != 0 {
-            return Stop { refusal, index };
-        }
-        index += 1;
+    for i in 0..n {
+        let index = usize::from(i);
+        check_record(sheet, i).map_err(|refusal| RefusedAt { refusal, index })?;
     }
-    Stop {
-        refusal: 0,
-        index: n,
-    }
+    Ok(())
 }
 
 // The values, each into its own part of the output; a parent's is read where it was written.
-pub(crate) fn write(sheet: &[u8], n: usize, out: &mut [u8])
-    requires { (sheet_size * n ≤ length sheet.now) × (value_size * n ≤ length out.old) × Clean (lineage_fault sheet.now) n }
+pub(crate) fn write(sheet: &[u8], n: u16, out: &mut [u8])
+    requires room { value_size * n ≤ length out.old }
+    requires clean { Clean (lineage_fault sheet.now) n }
     ensures { out.new ≡ joined n (value_of sheet.now) ++ drop (value_size * n) out.old }
 {
-    let mut i = 0;
-    while i < n {
+    for i in 0..n {
         let value = value_of(sheet, &out[..], i);
-        let b = SHEET_VALUE * i;
-        copy(&value, &mut out[b..b + SHEET_VALUE]);
-        i += 1;
+        let b = SHEET_VALUE * usize::from(i);
+        out[b..b + SHEET_VALUE].copy_from_slice(&value);
     }
 }

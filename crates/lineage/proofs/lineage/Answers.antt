@@ -1,20 +1,13 @@
-use Rattle.lists.proofs.ListReturnLaws.{call_refused, call_stopped, call_done}
+use Rattle.std.proofs.Common.{◌≡◌}
+use Rattle.std.proofs.lemmas.Result.{err_from_is_err_and}
+use Rattle.lists.proofs.ListReturnLaws.{call_stopped}
 use Rattle.standard.specs.Lineage.{lineage_call}
 use Rattle.lineage.proofs.lineage.Goals as goal
 
-pub returns-then-refusal-ne0 : goal.returns-then-refusal-ne0
+pub returns-in_err-scan : goal.returns-in_err-scan
 unfolding lineage_call
-returns-then-refusal-ne0 c =
-    rw c.refused.ensures (call_refused _ c.lengths_and_output-refusal.ensures _ _ _ _ _ c.if-refusal-ne0.true)
-
-pub returns-then-stop-ne0 : goal.returns-then-stop-ne0
-unfolding lineage_call
-returns-then-stop-ne0 c =
-    rw c.refused-then-stop-ne0.ensures
-    (call_stopped _ c.lengths_and_output-refusal.ensures _ _ _ _ _ c.if-refusal-ne0.false _ _ c.scan-stop.ensures c.if-stop-ne0.true)
-
-pub returns : goal.returns
-unfolding lineage_call
-returns c =
-    call_done _ c.lengths_and_output-refusal.ensures _ _ _ _ _ c.if-refusal-ne0.false (c.scan-stop.ensures.none c.if-stop-ne0.false) _
-    c.write.ensures
+returns-in_err-scan c =
+    let out = c.from_residual-in_err-scan in
+    let same = err_from_is_err_and {Q = λ y. y ≡ c.in_err-scan.field-0.0} out.result out.ensures.1 in
+    rw (same.1, same.2)
+    (call_stopped _ _ _ _ _ _ c.in_ok-n.ensures.tests _ _ (rw c.in_ok-n.ensures.records.0 at c.in_err-scan.ensures.first))
