@@ -4,106 +4,64 @@
 ghost use Rattle.std.specs.Prelude.{◌≡◌, [], ◌∷◌, ◌++◌};
 ghost use Rattle.standard.specs.Bytes.{◌!◌, ◌⊕◌, ◌⊞◌, part, xors};
 ghost use Rattle.standard.specs.Cores.{bl1_with, bl1 as bl1_of, bl2 as bl2_of};
-ghost use Rattle.standard.specs.Expansions.{exp1, exp2 as exp2_of, exp4 as exp4_of, xor_of};
-ghost use Rattle.cores.specs.CoreOutputs.{Sums as SumsOf, with_sums, bl2_with, counted};
+ghost use Rattle.standard.specs.Expansions.{exp1, exp2 as exp2_of, exp4 as exp4_of, sum_at, xor_of};
+ghost use Rattle.cores.specs.CoreOutputs.{bl2_with, counted};
 
 use arrays::{join, part, xor};
 use hurdle::{decrypt_with, encrypt_with, schedule};
 use standard::TEXT_RUNS;
-use std::num::wrapping_add_u8;
 
-// The byte sum of the ⊕ values of the five pairs.
-fn sum_of_xors(b: [u8; 10]) -> u8
-    ensures { result ≡ xor_of 0 2 b ⊞ xor_of 2 2 b ⊞ xor_of 4 2 b ⊞ xor_of 6 2 b ⊞ xor_of 8 2 b }
+// EXP1, after each pair its ⊕, and a last byte.
+pub fn exp1_with(x: [u8; 10], last: u8) -> [u8; 16]
+    ensures { result ≡ exp1 x ++ (last ∷ []) }
 {
-    let two = wrapping_add_u8(b[0] ^ b[1], b[2] ^ b[3]);
-    let three = wrapping_add_u8(two, b[4] ^ b[5]);
-    let four = wrapping_add_u8(three, b[6] ^ b[7]);
-    wrapping_add_u8(four, b[8] ^ b[9])
+    let [a, b, c, d, e, f, g, h, i, j] = x;
+    let [ab, cd, ef, gh, ij] = [a ^ b, c ^ d, e ^ f, g ^ h, i ^ j];
+    [a, b, ab, c, d, cd, e, f, ef, g, h, gh, i, j, ij, last]
 }
 
-// EXP1, and a last byte.
-pub fn exp1_with(b: [u8; 10], last: u8) -> [u8; 16]
-    ensures { result ≡ exp1 b ++ (last ∷ []) }
+// The byte sum of the ⊕ values of the five pairs.
+fn sum_of_xors(x: [u8; 10]) -> u8
+    ensures { result ≡ xor_of 0 2 x ⊞ xor_of 2 2 x ⊞ xor_of 4 2 x ⊞ xor_of 6 2 x ⊞ xor_of 8 2 x }
 {
-    [
-        b[0],
-        b[1],
-        b[0] ^ b[1],
-        b[2],
-        b[3],
-        b[2] ^ b[3],
-        b[4],
-        b[5],
-        b[4] ^ b[5],
-        b[6],
-        b[7],
-        b[6] ^ b[7],
-        b[8],
-        b[9],
-        b[8] ^ b[9],
-        last,
-    ]
+    let [a, b, c, d, e, f, g, h, i, j] = x;
+    (a ^ b)
+        .wrapping_add(c ^ d)
+        .wrapping_add(e ^ f)
+        .wrapping_add(g ^ h)
+        .wrapping_add(i ^ j)
 }
 
 #[tactic(auto, unfolding(standard::specs::Expansions::exp2))]
-pub fn exp2(b: [u8; 10]) -> [u8; 16]
-    ensures { result ≡ exp2_of b }
+pub fn exp2(x: [u8; 10]) -> [u8; 16]
+    ensures { result ≡ exp2_of x }
 {
-    exp1_with(b, sum_of_xors(b))
+    exp1_with(x, sum_of_xors(x))
 }
 
 // The byte sums of the five pairs.
-#[derive(Clone, Copy, Debug, PartialEq, Eq)]
-struct Sums {
-    a: u8,
-    b: u8,
-    c: u8,
-    d: u8,
-    e: u8,
-}
-
-fn pair_sums(x: [u8; 10]) -> Sums
-    ensures { SumsOf x result.a result.b result.c result.d result.e }
+fn pair_sums(x: [u8; 10]) -> [u8; 5]
+    ensures { result ≡ sum_at x 0 ∷ sum_at x 2 ∷ sum_at x 4 ∷ sum_at x 6 ∷ sum_at x 8 ∷ [] }
 {
-    Sums {
-        a: wrapping_add_u8(x[0], x[1]),
-        b: wrapping_add_u8(x[2], x[3]),
-        c: wrapping_add_u8(x[4], x[5]),
-        d: wrapping_add_u8(x[6], x[7]),
-        e: wrapping_add_u8(x[8], x[9]),
-    }
-}
-
-// Leftmost the ⊕ of the sums, and before each pair its sum.
-fn with_sums(x: [u8; 10], s: Sums) -> [u8; 16]
-    ensures { result ≡ with_sums x s.a s.b s.c s.d s.e }
-{
+    let [a, b, c, d, e, f, g, h, i, j] = x;
     [
-        s.a ^ s.b ^ s.c ^ s.d ^ s.e,
-        s.a,
-        x[0],
-        x[1],
-        s.b,
-        x[2],
-        x[3],
-        s.c,
-        x[4],
-        x[5],
-        s.d,
-        x[6],
-        x[7],
-        s.e,
-        x[8],
-        x[9],
+        a.wrapping_add(b),
+        c.wrapping_add(d),
+        e.wrapping_add(f),
+        g.wrapping_add(h),
+        i.wrapping_add(j),
     ]
 }
 
+// Leftmost the ⊕ of the sums, and before each pair its sum.
 #[tactic(auto, unfolding(standard::specs::Expansions::exp4))]
-pub fn exp4(b: [u8; 10]) -> [u8; 16]
-    ensures { result ≡ exp4_of b }
+pub fn exp4(x: [u8; 10]) -> [u8; 16]
+    ensures { result ≡ exp4_of x }
 {
-    with_sums(b, pair_sums(b))
+    let [a, b, c, d, e, f, g, h, i, j] = x;
+    let [ab, cd, ef, gh, ij] = pair_sums(x);
+    let all = ab ^ cd ^ ef ^ gh ^ ij;
+    [all, ab, a, b, cd, c, d, ef, e, f, gh, g, h, ij, i, j]
 }
 
 // The two blocks of a core's input.
@@ -165,16 +123,18 @@ pub fn bl1(key: [u8; 16], x: [u8; 16]) -> CoreOutput<16>
 pub fn bl2_left_input(y: [u8; 16], r: [u8; 8]) -> [u8; 8]
     ensures { result ≡ part 0 7 y ++ ((y ! 7 ⊕ r ! 7) ∷ []) }
 {
-    [y[0], y[1], y[2], y[3], y[4], y[5], y[6], y[7] ^ r[7]]
+    let mut w = left(y);
+    w[7] ^= r[7];
+    w
 }
 
 // BL2's output: what its two cipher runs gave, the left one whole, and the first seven bytes of the right one ⊕ those of y.
 pub fn bl2_output(l: [u8; 8], r: [u8; 8], y: [u8; 16]) -> CoreOutput<15>
     ensures { result ≡ counted (part 0 8 l ++ xors 7 r (part 0 7 y)) }
 {
-    let whole: [u8; 16] = join(l, xor(r, left(y)));
+    let right: [u8; 7] = xor(part(&r, 0), part(&y, 0));
     CoreOutput {
-        output: part(&whole, 0),
+        output: join(l, right),
         runs: TEXT_RUNS,
     }
 }
