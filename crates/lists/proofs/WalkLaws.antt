@@ -7,12 +7,11 @@ use native.Mathlib.Nat.{div-add-mod}
 use lib.ListN.{get_or}
 use Rattle.std.proofs.lemmas.List.{get_or-drop}
 use Rattle.std.specs.Simd.{first_chunks}
-use Rattle.standard.proofs.AnswerLaws.{first_fault_lem, first_one}
 use Rattle.standard.proofs.BookLaws.{joined_length, joined_at}
 use Rattle.standard.proofs.BytesLaws.{lent_part, part_left, part_lent, table_same}
 use Rattle.standard.specs.Bytes.{◌!◌, part}
 use Rattle.standard.specs.Lists.{record_at, joined}
-use Rattle.lists.specs.Walks.{Clean, Stopped, replace_at, replace_from}
+use Rattle.lists.specs.Walks.{Clean, replace_at, replace_from}
 
 -- the end of record i of n
 pub ends : (w i n : ℕ) → i < n → w * i + w ≤ w * n
@@ -54,33 +53,12 @@ overwritten v own y exit h l e = e ∙ rw (drop_of_length-le own {i = v} (omega 
 
 -- ---- the scan
 
-pub clean_none : (g : ℕ → ℕ) → Clean g 0
-clean_none g j h = omega arith
-
 pub clean_more : (g : ℕ → ℕ) (i : ℕ) → Clean g i → g i ≡ 0 → Clean g (i + 1)
 clean_more g i h e j k = go (eq-or-lt_of_le (le_of_suc-le-suc (subst (λ (n : ℕ). j < n) (add-one i) k)))
   where
     go : (j ≡ i) ⊎ (j < i) → g j ≡ 0
     go (inl q) = ap g q ∙ e
     go (inr q) = h j q
-
--- stopped at a record with a fault
-pub stopped_at : (n : ℕ) (g : ℕ → ℕ) (i refusal : ℕ) → i < n → Clean g i → refusal ≡ g i → (refusal ≡ 0 → ⊥) → Stopped n g refusal i
-stopped_at n g i refusal h none e some = record {
-  at = first_one (record { within = omega arith; below = none; stop = λ l z. some (e ∙ z) }) (first_fault_lem n g);
-  within = omega arith;
-  none = λ z. absurd (some z);
-  some = λ z. (h, e);
-}
-
--- no record has one
-pub stopped_not : (n : ℕ) (g : ℕ → ℕ) → Clean g n → Stopped n g 0 n
-stopped_not n g none = record {
-  at = first_one (record { within = omega arith; below = none; stop = λ h e. omega arith }) (first_fault_lem n g);
-  within = omega arith;
-  none = λ z. none;
-  some = λ z. absurd (z refl);
-}
 
 -- ---- the pass that writes: g 0, g 1, .. , v bytes each
 

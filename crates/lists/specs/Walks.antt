@@ -1,19 +1,11 @@
 -- Where a walk over the records of a list stops, and what it writes.
-use Rattle.std.specs.Prelude.{List, ◌++◌, ◌≡◌, ℕ, zero, suc, ◌+◌, ◌*◌, ◌<◌, ◌≤◌, take, drop}
+use Rattle.std.specs.Prelude.{List, ◌++◌, ◌≡◌, ℕ, zero, suc, ◌+◌, ◌*◌, ◌<◌, take, drop}
 use Rattle.standard.specs.Answers.{refusal_number}
-use Rattle.standard.specs.Lists.{first_fault}
 use Rattle.standard.specs.declared.Refusal.{Refusal}
 
 -- none of the first n records has a fault
 abbrev pub Clean : (ℕ → ℕ) → ℕ → Type 0
 Clean g n = (j : ℕ) → j < n → g j ≡ 0
-
--- a scan of n records stopped at the first fault, or after the last with 0
-pub record Stopped (n : ℕ) (g : ℕ → ℕ) (refusal index : ℕ) : Type 0 where
-  pub at : index ≡ first_fault n g
-  pub within : index ≤ n
-  pub none : refusal ≡ 0 → Clean g n
-  pub some : (refusal ≡ 0 → ⊥) → (index < n) × (refusal ≡ g index)
 
 -- the first of n records that has a fault, and the refusal that it causes
 pub record FirstFault (n : ℕ) (g : ℕ → ℕ) (refusal : Refusal) (index : ℕ) : Type 0 where
