@@ -1,63 +1,58 @@
--- The loops of the code turn the register and the halves as the definitions do.
-use Rattle.standard.proofs.Prelude.{◌≡◌, sym, ap, ap₂, ◌∙◌, List, ◌++◌, ℕ, ◌+◌, ◌-◌, ◌%◌, ◌<◌, mod-eq_of_lt, add-one, length}
+-- The code turns the register and the halves as the definitions do.
+use Rattle.standard.proofs.Prelude.{◌≡◌, refl, sym, ap, ap₂, ◌∙◌, List, ◌++◌, ℕ, ◌+◌, ◌-◌, ◌<◌, mod-eq_of_lt, add-one, length}
 use Rattle.hurdle.proofs.RoundLaws.{round_word}
-use Rattle.hurdle.specs.RoundSteps.{bytes4, half_bytes, round_over, HalvesOf}
+use Rattle.hurdle.specs.RoundSteps.{bytes4, half_bytes, round_over, HalvesOf, place}
+use Rattle.hurdle.specs.declared.round.Direction.{Direction}
+use Rattle.hurdle.specs.declared.round.Direction.TheVariants.{Encrypting, Decrypting}
 use Rattle.hurdle.specs.declared.round.Halves.{Halves as Words}
 use Rattle.standard.proofs.RegisterLaws.{same_cipher}
-use Rattle.standard.proofs.BytesLaws.{table_at}
-use Rattle.standard.specs.Bytes.{◌!◌, table, part, xors}
-use Rattle.standard.specs.Hurdle.{Halves, D, a, rotl, next, encrypt, decrypt}
-use Rattle.standard.specs.Register.{step, step_back, turned, State, round_under, onward, backward, encrypt_register, decrypt_register}
-use Rattle.register.specs.RegisterStates.{state_of}
+use Rattle.standard.specs.Bytes.{part}
+use Rattle.standard.specs.Hurdle.{Halves, crypt, encrypt, decrypt, round_key, schedule}
+use Rattle.standard.specs.Register.{State, step, step_back, turned, round_under, onward, backward, encrypt_register, decrypt_register}
+use Rattle.register.specs.declared.State.{State as Kept}
+use Rattle.register.specs.RegisterStates.{state_of, turn, turns}
 
 abbrev state : List ℕ → Halves → State
 state q h = record { register = q; halves = h }
 
--- a round over the code's copies of S and its spread bits
+-- a round on words
 under : (q : List ℕ) (h o : Words) → o ≡ round_over (part 4 12 q) h → half_bytes o ≡ round_under q (half_bytes h)
 under q h o e = ap half_bytes e ∙ round_word (part 4 12 q) h
 
--- a byte of the register twice over
-pub twice_byte : (q xs : List ℕ) (i n : ℕ) → xs ≡ table 32 (λ j. q ! (j % 16)) → i + n < 32 → xs ! (i + n) ≡ q ! ((i + n) % 16)
-twice_byte q xs i n e h = ap (λ (l : List ℕ). l ! (i + n)) e ∙ table_at 32 (λ j. q ! (j % 16)) (i + n) h
+-- a round, and its step
+pub turned_on : (i : ℕ) (s : Kept) (q : List ℕ) (o : Words) → q ≡ step i s.register → o ≡ round_over (part 4 12 s.register) s.halves
+    → state_of (record { register = q; halves = o }) ≡ turn Encrypting i (state_of s)
+turned_on i s q o e r = ap₂ state e (under s.register s.halves o r)
 
--- one turn of encryption
-pub onward_more : (rots : List ℕ) (i : ℕ) (s : State) (q : List ℕ) (h : Words) (q₁ : List ℕ) (h₁ : Words) → rots ≡ a → state_of q h ≡ onward i s
-    → h₁ ≡ round_over (part 4 12 q) h → q₁ ≡ next (rots ! i) q → state_of q₁ h₁ ≡ onward (i + 1) s
-unfolding onward
-onward_more rots i s q h q₁ h₁ t e r p =
-    ap₂ state (p ∙ ap (λ (b : List ℕ). next (b ! i) q) t) (under q h h₁ r)
-    ∙ ap (λ (u : State). state (step i u.register) (round_under u.register u.halves)) e
-    ∙ ap (λ (n : ℕ). onward n s) (sym (add-one i))
+-- a step back, and a round
+pub turned_back : (i : ℕ) (s : Kept) (q : List ℕ) (o : Words) → q ≡ step_back (15 - i) s.register → o ≡ round_over (part 4 12 q) s.halves
+    → state_of (record { register = q; halves = o }) ≡ turn Decrypting i (state_of s)
+turned_back i s q o e r = ap₂ state e (under q s.halves o r ∙ ap (λ (x : List ℕ). round_under x (half_bytes s.halves)) e)
 
--- one turn of decryption
-pub backward_more : (rots : List ℕ) (i : ℕ) (s : State) (q : List ℕ) (h : Words) (q₁ : List ℕ) (h₁ : Words) → rots ≡ a → state_of q h ≡ backward i s
-    → q₁ ≡ rotl (16 - rots ! (15 - i)) (xors 16 q D) → h₁ ≡ round_over (part 4 12 q₁) h → state_of q₁ h₁ ≡ backward (i + 1) s
-unfolding backward
-backward_more rots i s q h q₁ h₁ t e p r =
-    let back : q₁ ≡ step_back (15 - i) q = p ∙ ap (λ (b : List ℕ). rotl (16 - b ! (15 - i)) (xors 16 q D)) t in
-    ap₂ state back (under q₁ h h₁ r ∙ ap (λ (x : List ℕ). round_under x (half_bytes h)) back)
-    ∙ ap (λ (u : State). state (step_back (15 - i) u.register) (round_under (step_back (15 - i) u.register) u.halves)) e
-    ∙ ap (λ (n : ℕ). backward n s) (sym (add-one i))
+pub turns_none : (d : Direction) (s : State) → s ≡ turns d 0 s
+unfolding onward backward
+turns_none Encrypting s = refl
+turns_none Decrypting s = refl
+
+-- one round more
+pub turn_more : (d : Direction) (i : ℕ) (s t : State) {u : State} → u ≡ turn d i t → t ≡ turns d i s → u ≡ turns d (i + 1) s
+unfolding onward backward
+turn_more Encrypting i s t e p = e ∙ ap (turn Encrypting i) p ∙ ap (λ (n : ℕ). onward n s) (sym (add-one i))
+turn_more Decrypting i s t e p = e ∙ ap (turn Decrypting i) p ∙ ap (λ (n : ℕ). backward n s) (sym (add-one i))
 
 -- one step of the register, of the first sixteen
-pub turned_more : (rots : List ℕ) (i : ℕ) (key q q₁ : List ℕ) → rots ≡ a → i < 16 → q ≡ turned key i → q₁ ≡ next (rots ! i) q → q₁ ≡ turned key (i + 1)
+pub step_more : (i : ℕ) (key q : List ℕ) {p : List ℕ} → i < 16 → q ≡ turned key i → p ≡ step i q → p ≡ turned key (i + 1)
 unfolding turned
-turned_more rots i key q q₁ t h e p =
-    p ∙ ap (λ (b : List ℕ). next (b ! i) q) t ∙ ap (step i) e ∙ rw (add-one, mod-eq_of_lt h)
-
--- ---- the block
+step_more i key q h e p = p ∙ ap (step i) e ∙ rw (add-one, mod-eq_of_lt h)
 
 -- the halves after the rounds, from those of the block
-module _ (key b out q : List ℕ) (h o : Words) (s : HalvesOf b h) (j : out ≡ bytes4 o.r ++ bytes4 o.l) where
-  pub encrypted : state_of q o ≡ onward 16 (state_of key h) → out ≡ encrypt key b
-  unfolding encrypt_register
-  encrypted e =
-      j ∙ ap (λ (t : State). t.halves.1 ++ t.halves.0) (e ∙ ap₂ (λ (x y : List ℕ). onward 16 (state key (x, y))) s.left s.right)
-      ∙ same_cipher.encrypting key b
-
-  pub decrypted : length key ≡ 16 → state_of q o ≡ backward 16 (state_of key h) → out ≡ decrypt key b
-  unfolding decrypt_register
-  decrypted k e =
-      j ∙ ap (λ (t : State). t.halves.1 ++ t.halves.0) (e ∙ ap₂ (λ (x y : List ℕ). backward 16 (state key (x, y))) s.left s.right)
-      ∙ same_cipher.decrypting key b k
+pub crypted : (d : Direction) (key b : List ℕ) {out : List ℕ} {h : Words} (s : Kept) → length key ≡ 16 → HalvesOf b h
+    → state_of s ≡ turns d 16 (state_of (record { register = key; halves = h })) → out ≡ bytes4 s.halves.r ++ bytes4 s.halves.l
+    → out ≡ crypt (λ i. round_key (schedule key) (place d i)) b
+unfolding encrypt_register decrypt_register encrypt decrypt
+crypted Encrypting key b s k e p j =
+    j ∙ ap (λ (t : State). t.halves.1 ++ t.halves.0) (p ∙ ap₂ (λ (x y : List ℕ). onward 16 (state key (x, y))) e.left e.right)
+    ∙ same_cipher.encrypting key b
+crypted Decrypting key b s k e p j =
+    j ∙ ap (λ (t : State). t.halves.1 ++ t.halves.0) (p ∙ ap₂ (λ (x y : List ℕ). backward 16 (state key (x, y))) e.left e.right)
+    ∙ same_cipher.decrypting key b k

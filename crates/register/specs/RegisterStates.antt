@@ -1,20 +1,23 @@
 -- What the rounds of the cipher with one register keep, and what they compute on their way to the definitions.
-use Rattle.std.specs.Prelude.{Bool, ◌&&◌, List, [], ◌∷◌, ℕ}
+use Rattle.std.specs.Prelude.{List, ℕ, ◌-◌}
 use Rattle.hurdle.specs.RoundSteps.{half_bytes}
-use Rattle.hurdle.specs.declared.round.Halves.{Halves as Words}
-use Rattle.standard.specs.Bytes.{choose}
-use Rattle.standard.specs.Hurdle.{encrypt, decrypt}
-use Rattle.standard.specs.Refusals.{wrong_length, has_length, first, answer8}
-use Rattle.standard.specs.Register.{State}
-use Rattle.standard.specs.declared.Bytes8.{Bytes8}
+use Rattle.hurdle.specs.declared.round.Direction.{Direction}
+use Rattle.hurdle.specs.declared.round.Direction.TheVariants.{Encrypting, Decrypting}
+use Rattle.register.specs.declared.State.{State as Kept}
+use Rattle.standard.specs.Register.{State, step, step_back, round_under, onward, backward}
 
 -- a register, and halves that are words
-abbrev pub state_of : List ℕ → Words → State
-state_of q h = record { register = q; halves = half_bytes h }
+abbrev pub state_of : Kept → State
+state_of s = record { register = s.register; halves = half_bytes s.halves }
 
--- the block in either direction, and the call
-abbrev pub crypt : List ℕ → List ℕ → Bool → List ℕ
-crypt key b back = choose back (decrypt key b) (encrypt key b)
+-- round n + 1 of those of `onward` or `backward`
+abbrev pub turn : Direction → ℕ → State → State
+turn Encrypting n s = record { register = step n s.register; halves = round_under s.register s.halves }
+turn Decrypting n s =
+    let q : List ℕ = step_back (15 - n) s.register in
+    record { register = q; halves = round_under q s.halves }
 
-unfoldable pub crypt_call : List ℕ → List ℕ → Bool → Bytes8
-crypt_call key b back = answer8 (first ((has_length 16 key && has_length 8 b, wrong_length) ∷ [])) (crypt key b back)
+-- n rounds
+abbrev pub turns : Direction → ℕ → State → State
+turns Encrypting n s = onward n s
+turns Decrypting n s = backward n s

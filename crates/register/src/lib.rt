@@ -2,137 +2,136 @@
 // round until the key is back. The calls answer what those of `hurdle` do.
 #![tactic(auto)]
 
-ghost use Rattle.std.specs.Prelude.{◌≡◌, ◌-◌, ◌≤◌};
+ghost use Rattle.std.specs.Prelude.{◌≡◌, ◌<◌, ◌≤◌};
+ghost use Rattle.hurdle.specs.RoundSteps.{place, crypt_call};
+ghost use Rattle.register.specs.RegisterStates.{state_of, turn as turn_of, turns};
 ghost use Rattle.standard.specs.Answers.{bytes8, bytes16};
-ghost use Rattle.standard.specs.Bytes.{xors};
-ghost use Rattle.standard.specs.Hurdle.{D as d_of, rotl, next, encrypt_call, decrypt_call};
-ghost use Rattle.standard.specs.Register.{turned as turned_of, onward as onward_of, backward as backward_of, register_call};
-ghost use Rattle.register.specs.RegisterStates.{state_of, crypt as crypt_of, crypt_call};
+ghost use Rattle.standard.specs.Hurdle.{crypt as crypt_of, encrypt_call, decrypt_call, rotl, round_key, schedule};
+ghost use Rattle.standard.specs.Register.{step as step_of, step_back as step_back_of, turned as turned_of, register_call};
 
 use arrays::{both_exactly, exactly, xor};
-use hurdle::{A, D, Halves, block_of, doubled, round_under, split};
+use hurdle::{A, D, Direction, Halves, block_of, doubled, round_under, split};
 use standard::Refusal;
+use std::array;
 
-// Rotated left by n bytes: sixteen bytes of the register twice over, from byte n on.
-fn rotated(q: &[u8; 16], n: usize) -> [u8; 16]
+// The rotations of the steps: a static is read in its place.
+static ROTATIONS: [usize; 16] = A;
+
+// Rotated left by n bytes: a part of the register written twice.
+fn rotated(q: [u8; 16], n: usize) -> [u8; 16]
     requires { n ≤ 16 }
-    ensures { result ≡ rotl n q.now }
+    ensures { result ≡ rotl n q }
 {
-    let twice = doubled(*q);
-    let mut out = [0u8; 16];
-    for i in 0..16 {
-        out[i] = twice[i + n];
-    }
-    out
+    let twice = doubled(q);
+    array::from_fn(|i| twice[i + n])
 }
 
-// The step that rotates by n.
-#[tactic(auto, unfolding(standard::specs::Hurdle::D))]
-fn step(q: &[u8; 16], n: usize) -> [u8; 16]
-    requires { n ≤ 16 }
-    ensures { result ≡ next n q.now }
+// The step after round i + 1.
+#[tactic(auto, unfolding(standard::specs::Hurdle::D, standard::specs::Hurdle::a))]
+fn step(q: [u8; 16], i: usize) -> [u8; 16]
+    requires { i < 16 }
+    ensures { result ≡ step_of i q }
 {
-    xor(rotated(q, n), D)
+    xor(rotated(q, ROTATIONS[i]), D)
 }
 
 // Undoes it.
-#[tactic(auto, unfolding(standard::specs::Hurdle::D))]
-fn step_back(q: &[u8; 16], n: usize) -> [u8; 16]
-    requires { n ≤ 16 }
-    ensures { result ≡ rotl (16 - n) (xors 16 q.now d_of) }
+#[tactic(auto, unfolding(standard::specs::Hurdle::D, standard::specs::Hurdle::a))]
+fn step_back(q: [u8; 16], i: usize) -> [u8; 16]
+    requires { i < 16 }
+    ensures { result ≡ step_back_of i q }
 {
-    rotated(&xor(*q, D), 16 - n)
+    rotated(xor(q, D), 16 - ROTATIONS[i])
 }
 
 // What the rounds keep: the register, and the block's halves beside it.
-#[derive(Drop)]
+#[derive(Clone, Copy)]
 struct State {
     register: [u8; 16],
     halves: Halves,
 }
 
-// Sixteen rounds of encryption: each a round under the register, and then its step.
-fn onward(key: [u8; 16], block: Halves) -> State
-    ensures { state_of result.register result.halves ≡ onward_of 16 (state_of key block) }
+// Round i + 1: encryption makes its step after the round, decryption steps back before it.
+fn turn(s: State, i: usize, direction: Direction) -> State
+    requires { i < 16 }
+    ensures { state_of result ≡ turn_of direction i (state_of s) }
 {
-    let a = A;
-    let mut q = key;
-    let mut h = block;
-    for i in 0..16 {
-        h = round_under(h, &q);
-        q = step(&q, a[i]);
-    }
-    State {
-        register: q,
-        halves: h,
+    match direction {
+        Direction::Encrypting => {
+            let q = s.register;
+            let halves = round_under(s.halves, &q);
+            State {
+                register: step(q, i),
+                halves,
+            }
+        }
+        Direction::Decrypting => {
+            let q = step_back(s.register, 15 - i);
+            State {
+                register: q,
+                halves: round_under(s.halves, &q),
+            }
+        }
     }
 }
 
-// Sixteen rounds of decryption: each the step back, and then a round under the register.
-fn backward(key: [u8; 16], block: Halves) -> State
-    ensures { state_of result.register result.halves ≡ backward_of 16 (state_of key block) }
+// All sixteen.
+fn rounds(s: State, direction: Direction) -> State
+    ensures { state_of result ≡ turns direction 16 (state_of s) }
 {
-    let a = A;
-    let mut q = key;
-    let mut h = block;
+    let mut state = s;
     for i in 0..16 {
-        q = step_back(&q, a[15 - i]);
-        h = round_under(h, &q);
+        state = turn(state, i, direction);
     }
-    State {
-        register: q,
-        halves: h,
-    }
+    state
 }
 
 // The register after so many steps.
+#[tactic(auto, unfolding(standard::specs::Register::turned))]
 fn turned(key: [u8; 16], steps: usize) -> [u8; 16]
     requires { steps ≤ 16 }
     ensures { result ≡ turned_of key steps }
 {
-    let a = A;
     let mut q = key;
     for i in 0..steps {
-        q = step(&q, a[i]);
+        let next = step(q, i);
+        q = next;
     }
     q
 }
 
-// A block in either direction.
-fn crypt(key: [u8; 16], block: [u8; 8], back: bool) -> [u8; 8]
-    ensures { result ≡ crypt_of key block back }
+// A block under a key.
+fn crypt(key: [u8; 16], block: [u8; 8], direction: Direction) -> [u8; 8]
+    ensures { result ≡ crypt_of (λ i. round_key (schedule key) (place direction i)) block }
 {
-    let halves = split(block);
-    if back {
-        let state = backward(key, halves);
-        block_of(state.halves)
-    } else {
-        let state = onward(key, halves);
-        block_of(state.halves)
-    }
+    let start = State {
+        register: key,
+        halves: split(block),
+    };
+    block_of(rounds(start, direction).halves)
 }
 
 // A call in either direction, over strings of any length.
-#[tactic(auto, unfolding(crate::specs::RegisterStates::crypt_call))]
-fn crypted(key: &[u8], block: &[u8], back: bool) -> Result<[u8; 8], Refusal>
-    ensures { bytes8 result ≡ crypt_call key.now block.now back }
+#[tactic(auto, unfolding(hurdle::specs::RoundSteps::crypt_call))]
+fn crypted(key: &[u8], block: &[u8], direction: Direction) -> Result<[u8; 8], Refusal>
+    ensures { bytes8 result ≡ crypt_call key.now block.now direction }
 {
     let (key, block) = both_exactly(key, block)?;
-    Ok(crypt(key, block, back))
+    Ok(crypt(key, block, direction))
 }
 
-#[tactic(auto, unfolding(crate::specs::RegisterStates::crypt_call, standard::specs::Hurdle::encrypt_call))]
+#[tactic(auto, unfolding(hurdle::specs::RoundSteps::crypt_call, standard::specs::Hurdle::encrypt_call, standard::specs::Hurdle::encrypt))]
 pub fn encrypt_register(key: &[u8], block: &[u8]) -> Result<[u8; 8], Refusal>
     ensures { bytes8 result ≡ encrypt_call key.now block.now }
 {
-    crypted(key, block, false)
+    crypted(key, block, Direction::Encrypting)
 }
 
-#[tactic(auto, unfolding(crate::specs::RegisterStates::crypt_call, standard::specs::Hurdle::decrypt_call))]
+#[tactic(auto, unfolding(hurdle::specs::RoundSteps::crypt_call, standard::specs::Hurdle::decrypt_call, standard::specs::Hurdle::decrypt))]
 pub fn decrypt_register(key: &[u8], block: &[u8]) -> Result<[u8; 8], Refusal>
     ensures { bytes8 result ≡ decrypt_call key.now block.now }
 {
-    crypted(key, block, true)
+    crypted(key, block, Direction::Decrypting)
 }
 
 // The register after any number of steps: after each sixteen they begin anew.

@@ -1,13 +1,6 @@
 use Rattle.std.proofs.Common.{rules}
-use Rattle.register.proofs.RegisterStateLaws.{encrypted, decrypted}
+use Rattle.register.proofs.RegisterStateLaws.{crypted}
 use Rattle.register.proofs.crypt.Goals as goal
 
-pub returns-then-back : goal.returns-then-back
-returns-then-back c =
-    rw c.if-back.true
-    (decrypted c.args.key c.args.block _ _ _ _ c.split-halves.ensures c.block_of.ensures (search rules) c.backward-state.ensures)
-
-pub returns-else-back : goal.returns-else-back
-returns-else-back c =
-    rw c.if-back.false
-    (encrypted c.args.key c.args.block _ _ _ _ c.split-halves.ensures c.block_of-else-back.ensures c.onward-state.ensures)
+pub returns : goal.returns
+returns c = crypted c.args.direction c.args.key c.args.block c.rounds.result (search rules) c.split.ensures c.rounds.ensures c.block_of.ensures
