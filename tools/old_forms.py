@@ -11,10 +11,6 @@ import re
 import sys
 from pathlib import Path
 
-KEYWORDS = set(
-    "as break const continue else enum extern false fn for if impl in let loop match mod move mut pub ref return self Self "
-    "struct trait true type unsafe use where while Ok Err Some None Result Option".split()
-)
 NUMBER = re.compile(r"^(0x[0-9a-fA-F_]+|[0-9][0-9_]*)(u8|u16|u32|u64|usize)?$")
 TYPES = {"u8", "u16", "u32", "u64", "usize"}
 TOKEN = re.compile(r'"[^"]*"|b"[^"]*"|[A-Za-z_][A-Za-z0-9_]*|[0-9][0-9a-zA-Z_]*|->|=>|::|\.\.=?|[<>=!]=|&&|\|\||<<|>>|\S')
@@ -53,19 +49,22 @@ def items(text, word):
 
 
 def shape(tokens):
-    """The tokens with names by their first place, numbers and widths as one; a struct's fields keep theirs."""
-    seen, out = {}, []
+    """The tokens with the item's own name and what it binds by their first place, numbers and widths as one."""
     fields = "struct" in tokens[:2]
-    for n, t in enumerate(tokens):
-        if t in KEYWORDS or not re.match(r"[A-Za-z0-9_]", t) or (fields and tokens[n + 1 : n + 2] == [":"]):
-            out.append(t)
-        elif NUMBER.match(t):
+    bound = {tokens[1]}
+    for before, t, after in zip([""] + tokens, tokens, tokens[1:] + [""]):
+        if not fields and (before in ("let", "mut", "for", "|", "(") and after in (":", "=", "in", "|", ",", ";") or after == ":"):
+            bound.add(t)
+    seen, out = {}, []
+    for t in tokens:
+        if NUMBER.match(t):
             out.append("0")
         elif t in TYPES:
             out.append("u")
-        else:
-            t = re.sub(r"[0-9]+", "", t)
+        elif t in bound:
             out.append(seen.setdefault(t, "n%d" % len(seen)))
+        else:
+            out.append(re.sub(r"(?<=[A-Za-z_])[0-9]+", "", t))
     return " ".join(out)
 
 

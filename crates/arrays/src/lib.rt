@@ -11,10 +11,10 @@ ghost use Rattle.standard.specs.Bytes.{same as same_of};
 
 pub use joins::join;
 pub use parts::{both_exactly, byte_at, copy, exactly, part};
-pub use words::{bytes3, word};
+pub use words::bytes3;
 pub use xors::xor;
 
-// Two strings are the same.
+// Two strings are the same: `==`, with the definitions' test for its contract.
 pub fn same(a: &[u8], b: &[u8]) -> bool
     ensures { result ≡ same_of a.now b.now }
 {

@@ -64,7 +64,7 @@ pub fn exp4(x: [u8; 10]) -> [u8; 16]
     [all, ab, a, b, cd, c, d, ef, e, f, gh, g, h, ij, i, j]
 }
 
-// The two blocks of a core's input.
+// The two blocks of a core's input, each under the name that the four lanes share.
 pub fn left(x: [u8; 16]) -> [u8; 8]
     ensures { result ≡ part 0 8 x }
 {
@@ -101,7 +101,7 @@ pub fn bl1_output(l: [u8; 8], r: [u8; 8]) -> CoreOutput<16>
     }
 }
 
-// BL1 under round keys that were laid out before.
+// BL1 under round keys that were laid out before. BL1 and BL2 run through their blocks in other orders, so neither is an instance of the other.
 #[tactic(auto, unfolding(standard::specs::Cores::bl1_with))]
 pub fn bl1_with(keys: &[u8; 192], x: [u8; 16]) -> CoreOutput<16>
     ensures { result ≡ counted (bl1_with keys.now x) }

@@ -56,7 +56,7 @@ pub fn ta12(
     Ok(masks.split(core(session_key, challenge)))
 }
 
-// TA22 does what TA12 does, under TA21's session key: its challenge is not reversed.
+// TA22 has a name of its own in 000 and does what TA12 does, under TA21's session key: its challenge is not reversed.
 pub fn ta22(
     session_key: &[u8],
     challenge: &[u8],
@@ -99,6 +99,7 @@ pub fn ring_of(x: RingInputs) -> Result<RingAndResponses, Refusal>
     Ok(make(x, masks))
 }
 
+// The sides come as C hands them in, any number.
 #[tactic(auto, unfolding(standard::specs::Keys::ring_call))]
 pub fn ring(
     root: &[u8],

@@ -12,6 +12,7 @@ use standard::{ResponseAndKey, RingAndResponses, RingInputs};
 // One half of the recipe: a session key from root and seed, and what it answers to a challenge. A half that does not run answers zero bytes,
 // with no cipher run.
 fn half(
+    // Not an Option of a seed: the definition (`Keys.half`) takes the output of the half that does not run, too.
     runs: bool,
     root: [u8; 16],
     seed: [u8; 10],

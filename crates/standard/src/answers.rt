@@ -1,4 +1,5 @@
-// A refusal's number, and the structs that C has, each of what a call of the libraries gives.
+// A refusal's number, and the structs that C has, each of what a call of the libraries gives. A struct has fields of its own, and so an
+// impl of its own.
 ghost use Rattle.standard.specs.Answers.{refusal_number, bytes8, bytes10, bytes15, bytes16, authentication_answer, identity_answer, unsealed_answer};
 ghost use Rattle.standard.specs.Answers.{unsealed_numbered_answer, unsealed_group_answer, value_answer, cell_answer, carrier_identity_answer, card_answer};
 ghost use Rattle.standard.specs.Answers.{ring_made_answer, book_answer, counted_answer, tally_answer};

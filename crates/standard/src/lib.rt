@@ -74,6 +74,7 @@ pub struct Version(pub u16);
 #[derive(Clone, Copy, Debug, PartialEq, Eq)]
 pub struct KeyNumber(pub u16);
 
+// One struct for each length, and one more for each key that is unsealed: an exported function's struct takes no const parameter.
 #[repr(C)]
 #[derive(Clone, Copy, Debug, PartialEq, Eq)]
 pub struct Bytes8 {
@@ -237,6 +238,7 @@ pub struct RingInputs {
     pub rand2: [u8; 10],
     pub c: [u8; 10],
     pub group_key: [u8; 12],
+    // A number, since the definition (`Keys.ring_of`) refuses by it whatever is handed in.
     pub sides: u64,
     pub response_mask: u16,
     pub key_mask: u16,
@@ -413,7 +415,7 @@ fn known(algorithm: Algorithm, under: RingKey) -> Option<Kind>
     Some(Kind { algorithm, under })
 }
 
-// The number that two bytes spell, the high one first.
+// The number that two bytes spell, the high one first. It stands beside `from_be_bytes` for both facts that its callers cite.
 #[tactic(auto, using(crate::proofs::BytesLaws::pair_bytes))]
 pub fn pair(high: u8, low: u8) -> u16
     ensures { (result ≡ 256 * high + low) × (bytes_of 2 result ≡ high ∷ low ∷ []) }
