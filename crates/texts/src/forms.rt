@@ -1,62 +1,32 @@
 // The forms of the algorithms: BL1's data input from a body of 12 bytes, and the check and the body of BL2's 15 bytes.
-ghost use Rattle.std.specs.Prelude.{◌≡◌, ◌≤◌, eqb};
-ghost use Rattle.standard.specs.Bytes.{part, choose};
+ghost use Rattle.std.specs.Prelude.{◌≡◌};
+ghost use Rattle.standard.specs.Bytes.{part};
 ghost use Rattle.standard.specs.Seals.{checks, failed_of, failed, or_on, or_of, form_of, form31, form51, form81};
 
 use arrays::part;
 use cores::exp1_with;
 use standard::Algorithm;
 
-fn input31(b: [u8; 12]) -> [u8; 16]
-    ensures { result ≡ form31.input b }
+fn input31(body: [u8; 12]) -> [u8; 16]
+    ensures { result ≡ form31.input body }
 {
-    exp1_with(part(&b, 0), 0)
+    exp1_with(part(&body, 0), 0)
 }
 
-fn input51(b: [u8; 12]) -> [u8; 16]
-    ensures { result ≡ form51.input b }
+fn input51(body: [u8; 12]) -> [u8; 16]
+    ensures { result ≡ form51.input body }
 {
-    [
-        b[0],
-        b[1],
-        b[0] ^ b[1],
-        b[2],
-        b[3],
-        b[4],
-        b[2] ^ b[3] ^ b[4],
-        b[5],
-        b[6],
-        b[7],
-        b[5] ^ b[6] ^ b[7],
-        b[8],
-        b[9],
-        b[11],
-        b[8] ^ b[9] ^ b[11],
-        0,
-    ]
+    let [a, b, c, d, e, f, g, h, i, j, _, n] = body;
+    let [ab, cde, fgh, ijn] = [a ^ b, c ^ d ^ e, f ^ g ^ h, i ^ j ^ n];
+    [a, b, ab, c, d, e, cde, f, g, h, fgh, i, j, n, ijn, 0]
 }
 
-fn input81(b: [u8; 12]) -> [u8; 16]
-    ensures { result ≡ form81.input b }
+fn input81(body: [u8; 12]) -> [u8; 16]
+    ensures { result ≡ form81.input body }
 {
-    [
-        b[0],
-        b[1],
-        b[2],
-        b[3],
-        b[0] ^ b[1] ^ b[2] ^ b[3],
-        b[4],
-        b[5],
-        b[6],
-        b[7],
-        b[4] ^ b[5] ^ b[6] ^ b[7],
-        b[8],
-        b[9],
-        b[10],
-        b[11],
-        b[8] ^ b[9] ^ b[10] ^ b[11],
-        0,
-    ]
+    let [a, b, c, d, e, f, g, h, i, j, k, l] = body;
+    let [x, y, z] = [a ^ b ^ c ^ d, e ^ f ^ g ^ h, i ^ j ^ k ^ l];
+    [a, b, c, d, x, e, f, g, h, y, i, j, k, l, z, 0]
 }
 
 // BL1's input from a body.
@@ -66,44 +36,29 @@ pub fn input_of(algorithm: Algorithm, b: [u8; 12]) -> [u8; 16]
     match algorithm {
         Algorithm::Ta31 => input31(b),
         Algorithm::Ta51 => input51(b),
-        Algorithm::Ta81 => input81(b),
-        Algorithm::Ta91 => input81(b),
+        Algorithm::Ta81 | Algorithm::Ta91 => input81(b),
     }
 }
 
 fn body31(u: [u8; 15]) -> [u8; 12]
     ensures { result ≡ form31.shrink u }
 {
-    [
-        u[0], u[1], u[3], u[4], u[6], u[7], u[9], u[10], u[12], u[13], 0, 0,
-    ]
+    let [a, b, _, c, d, _, e, f, _, g, h, _, i, j, _] = u;
+    [a, b, c, d, e, f, g, h, i, j, 0, 0]
 }
 
 fn body51(u: [u8; 15]) -> [u8; 12]
     ensures { result ≡ form51.shrink u }
 {
-    [
-        u[0],
-        u[1],
-        u[3],
-        u[4],
-        u[5],
-        u[7],
-        u[8],
-        u[9],
-        u[11],
-        u[12],
-        0,
-        u[13] % 32,
-    ]
+    let [a, b, _, c, d, e, _, f, g, h, _, i, j, n, _] = u;
+    [a, b, c, d, e, f, g, h, i, j, 0, n % 32]
 }
 
 fn body81(u: [u8; 15]) -> [u8; 12]
     ensures { result ≡ form81.shrink u }
 {
-    [
-        u[0], u[1], u[2], u[3], u[5], u[6], u[7], u[8], u[10], u[11], u[12], u[13],
-    ]
+    let [a, b, c, d, _, e, f, g, h, _, i, j, k, l, _] = u;
+    [a, b, c, d, e, f, g, h, i, j, k, l]
 }
 
 // The body of BL2's output.
@@ -113,8 +68,7 @@ pub fn body_of(algorithm: Algorithm, u: [u8; 15]) -> [u8; 12]
     match algorithm {
         Algorithm::Ta31 => body31(u),
         Algorithm::Ta51 => body51(u),
-        Algorithm::Ta81 => body81(u),
-        Algorithm::Ta91 => body81(u),
+        Algorithm::Ta81 | Algorithm::Ta91 => body81(u),
     }
 }
 
@@ -122,25 +76,21 @@ pub fn body_of(algorithm: Algorithm, u: [u8; 15]) -> [u8; 12]
 fn checks31(u: [u8; 15]) -> [u8; 5]
     ensures { result ≡ checks form31 u }
 {
-    [
-        u[0] ^ u[1] ^ u[2],
-        u[3] ^ u[4] ^ u[5],
-        u[6] ^ u[7] ^ u[8],
-        u[9] ^ u[10] ^ u[11],
-        u[12] ^ u[13] ^ u[14],
-    ]
+    let [a, b, v, c, d, w, e, f, x, g, h, y, i, j, z] = u;
+    [a ^ b ^ v, c ^ d ^ w, e ^ f ^ x, g ^ h ^ y, i ^ j ^ z]
 }
 
 // The last one is the top three bits of the number byte.
 fn checks51(u: [u8; 15]) -> [u8; 5]
     ensures { result ≡ checks form51 u }
 {
+    let [a, b, w, c, d, e, x, f, g, h, y, i, j, n, z] = u;
     [
-        u[0] ^ u[1] ^ u[2],
-        u[3] ^ u[4] ^ u[5] ^ u[6],
-        u[7] ^ u[8] ^ u[9] ^ u[10],
-        u[11] ^ u[12] ^ u[13] ^ u[14],
-        u[13] / 32,
+        a ^ b ^ w,
+        c ^ d ^ e ^ x,
+        f ^ g ^ h ^ y,
+        i ^ j ^ n ^ z,
+        n / 32,
     ]
 }
 
@@ -148,10 +98,11 @@ fn checks51(u: [u8; 15]) -> [u8; 5]
 fn checks81(u: [u8; 15]) -> [u8; 5]
     ensures { result ≡ part 0 5 (checks form81 u) }
 {
+    let [a, b, c, d, x, e, f, g, h, y, i, j, k, l, z] = u;
     [
-        u[0] ^ u[1] ^ u[2] ^ u[3] ^ u[4],
-        u[5] ^ u[6] ^ u[7] ^ u[8] ^ u[9],
-        u[10] ^ u[11] ^ u[12] ^ u[13] ^ u[14],
+        a ^ b ^ c ^ d ^ x,
+        e ^ f ^ g ^ h ^ y,
+        i ^ j ^ k ^ l ^ z,
         0,
         0,
     ]
@@ -163,16 +114,16 @@ fn checks_of(algorithm: Algorithm, u: [u8; 15]) -> [u8; 5]
     match algorithm {
         Algorithm::Ta31 => checks31(u),
         Algorithm::Ta51 => checks51(u),
-        Algorithm::Ta81 => checks81(u),
-        Algorithm::Ta91 => checks81(u),
+        Algorithm::Ta81 | Algorithm::Ta91 => checks81(u),
     }
 }
 
 // The checks or-ed together: 0 exactly if none fails.
-fn ored(c: [u8; 5]) -> u8
-    ensures { result ≡ or_on 0 (part 0 5 c) }
+fn ored(checks: [u8; 5]) -> u8
+    ensures { result ≡ or_on 0 (part 0 5 checks) }
 {
-    c[0] | c[1] | c[2] | c[3] | c[4]
+    let [a, b, c, d, e] = checks;
+    a | b | c | d | e
 }
 
 #[tactic(auto, using(crate::proofs::PadLaws::or_padded))]
@@ -182,23 +133,12 @@ pub(crate) fn or_of(algorithm: Algorithm, u: [u8; 15]) -> u8
     ored(checks_of(algorithm, u))
 }
 
-// 1 where a check fails, else 0, without a branch.
-fn fails(d: u8) -> u16
-    ensures { (result ≡ choose (eqb d 0) 0 1) × (result ≤ 1) }
-{
-    (u16::from(d) + 255) / 256
-}
-
 // A bit for each check that fails, bit 0 for the leftmost.
-fn marked(c: [u8; 5]) -> u16
-    ensures { result ≡ failed_of (part 0 5 c) }
+fn marked(checks: [u8; 5]) -> u16
+    ensures { result ≡ failed_of (part 0 5 checks) }
 {
-    let c0 = fails(c[0]);
-    let c1 = fails(c[1]);
-    let c2 = fails(c[2]);
-    let c3 = fails(c[3]);
-    let c4 = fails(c[4]);
-    c0 + 2 * (c1 + 2 * (c2 + 2 * (c3 + 2 * c4)))
+    let [a, b, c, d, e] = checks.map(|check| u16::from(check != 0));
+    a + 2 * (b + 2 * (c + 2 * (d + 2 * e)))
 }
 
 pub(crate) fn failed_of(algorithm: Algorithm, u: [u8; 15]) -> u16

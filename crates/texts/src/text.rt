@@ -6,22 +6,17 @@ ghost use Rattle.standard.specs.Seals.{failed, clear, form_of, sealed as sealed_
 
 use crate::forms::{body_of, failed_of, input_of, or_of};
 use crate::text_core::{open_core, seal_core};
-use arrays::{join, xor};
-use cores::exp4;
+use arrays::{part, xor};
+use cores::{CoreOutput, exp4};
 use standard::{Algorithm, Version};
+use std::array;
 
-// The version's two bytes, the high one first.
-fn bytes_of(version: Version) -> [u8; 2]
-    ensures { result ≡ bytes_of 2 version.0 }
+// The version written eight times, its high byte first.
+fn written(version: Version) -> [u8; 16]
+    ensures { result ≡ repeated 16 (bytes_of 2 version.0) }
 {
-    version.0.to_be_bytes()
-}
-
-// The version written four times.
-fn four_times(v: [u8; 2]) -> [u8; 8]
-    ensures { result ≡ repeated 8 v }
-{
-    [v[0], v[1], v[0], v[1], v[0], v[1], v[0], v[1]]
+    let v = version.0.to_be_bytes();
+    array::from_fn(|i| v[i % 2])
 }
 
 // The core's key for kinds 2 to 6: the version written eight times ⊕ the sealing key.
@@ -29,15 +24,7 @@ fn four_times(v: [u8; 2]) -> [u8; 8]
 pub fn key16(sealing_key: [u8; 16], version: Version) -> [u8; 16]
     ensures { result ≡ key16_of sealing_key (bytes_of 2 version.0) }
 {
-    let copies = four_times(bytes_of(version));
-    xor(join(copies, copies), sealing_key)
-}
-
-// The version written five times.
-fn five_times(v: [u8; 2]) -> [u8; 10]
-    ensures { result ≡ repeated 10 v }
-{
-    [v[0], v[1], v[0], v[1], v[0], v[1], v[0], v[1], v[0], v[1]]
+    xor(written(version), sealing_key)
 }
 
 // For kind 1 it is expanded: the version written five times ⊕ the sealing key of ten bytes.
@@ -45,7 +32,8 @@ fn five_times(v: [u8; 2]) -> [u8; 10]
 pub fn key10(sealing_key: [u8; 10], version: Version) -> [u8; 16]
     ensures { result ≡ key10_of sealing_key (bytes_of 2 version.0) }
 {
-    exp4(xor(five_times(bytes_of(version)), sealing_key))
+    let five_times = part(&written(version), 0);
+    exp4(xor(five_times, sealing_key))
 }
 
 // The sealed text of a body.
@@ -53,9 +41,7 @@ pub fn key10(sealing_key: [u8; 10], version: Version) -> [u8; 16]
 pub fn seal_body(algorithm: Algorithm, key: [u8; 16], body: [u8; 12]) -> [u8; 15]
     ensures { result ≡ sealed_of (form_of algorithm) key body }
 {
-    let o = seal_core(key, input_of(algorithm, body));
-    let text = o.output;
-    text
+    seal_core(key, input_of(algorithm, body)).output
 }
 
 // The body of a sealed text, and a bit for each of its checks that fails.
@@ -68,8 +54,7 @@ pub struct Opened {
 pub fn open_text(algorithm: Algorithm, key: [u8; 16], text: [u8; 15]) -> Opened
     ensures { result ≡ record { body = (form_of algorithm).shrink (opened_of key text); failed = failed (form_of algorithm) (opened_of key text) } }
 {
-    let o = open_core(key, text);
-    let u = o.output;
+    let u = open_core(key, text).output;
     Opened {
         body: body_of(algorithm, u),
         failed: failed_of(algorithm, u),
@@ -87,10 +72,9 @@ pub struct Flag {
 pub fn flag_of(algorithm: Algorithm, key: [u8; 16], text: [u8; 15]) -> Flag
     ensures { result ≡ record { set = not (clear (form_of algorithm) (opened_of key text)); runs = text_runs } }
 {
-    let o = open_core(key, text);
-    let u = o.output;
+    let CoreOutput { output, runs } = open_core(key, text);
     Flag {
-        set: or_of(algorithm, u) != 0,
-        runs: o.runs,
+        set: or_of(algorithm, output) != 0,
+        runs,
     }
 }

@@ -1,7 +1,6 @@
 // The core of a sealed text: BL1, without its eighth byte, seals; BL2 opens. For one text, and for four whose cores run side by side.
 ghost use Rattle.std.specs.Prelude.{◌≡◌};
 ghost use Rattle.cores.specs.CoreOutputs.{counted};
-ghost use Rattle.cores_x4.specs.OutputLanes.{output_lane};
 ghost use Rattle.standard.specs.Seals.{with8 as with8_of, opened as opened_of};
 ghost use Rattle.hurdle.specs.Lanes.{lanes, lane};
 ghost use Rattle.texts.specs.TextCores.{shortened, seal_core};
@@ -15,10 +14,8 @@ fn without8(o: CoreOutput<16>) -> CoreOutput<15>
     ensures { result ≡ shortened o }
 {
     let x = o.output;
-    let front: [u8; 7] = part(&x, 0);
-    let back: [u8; 8] = part(&x, 8);
     CoreOutput {
-        output: join(front, back),
+        output: join(part::<7>(&x, 0), part::<8>(&x, 8)),
         runs: o.runs,
     }
 }
@@ -27,10 +24,10 @@ fn without8(o: CoreOutput<16>) -> CoreOutput<15>
 pub fn with8(t: [u8; 15]) -> [u8; 16]
     ensures { result ≡ with8_of t }
 {
-    let mut left: [u8; 8] = part(&t, 0);
-    left[7] = 0;
-    let right: [u8; 8] = part(&t, 7);
-    join(left, right)
+    let mut y = [0; 16];
+    y[..7].copy_from_slice(&t[..7]);
+    y[8..].copy_from_slice(&t[7..]);
+    y
 }
 
 pub fn seal_core(key: [u8; 16], input: [u8; 16]) -> CoreOutput<15>
@@ -47,19 +44,8 @@ pub(crate) fn open_core(key: [u8; 16], text: [u8; 15]) -> CoreOutput<15>
     bl2(key, with8(text))
 }
 
-fn without8_x4(o: [CoreOutput<16>; 4]) -> [CoreOutput<15>; 4]
-    ensures { result ≡ lanes (λ j. shortened (output_lane o j)) }
-{
-    [
-        without8(o[0]),
-        without8(o[1]),
-        without8(o[2]),
-        without8(o[3]),
-    ]
-}
-
 pub fn seal_core_x4(keys: [[u8; 16]; 4], inputs: [[u8; 16]; 4]) -> [CoreOutput<15>; 4]
     ensures { result ≡ lanes (λ j. counted (seal_core (lane keys j) (lane inputs j))) }
 {
-    without8_x4(bl1_x4(keys, inputs))
+    bl1_x4(keys, inputs).map(without8)
 }
