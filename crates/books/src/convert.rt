@@ -13,6 +13,7 @@ use cores::{CoreOutput, bl2};
 use cores_x4::bl2_x4;
 use records::{core_key, kind_at, opening_input, sealing_input, write_opened, write_sealed};
 use standard::{Kind, RingBytes};
+use std::array;
 use texts::{seal_core, seal_core_x4};
 
 // What the core gives for a record of a kind.
@@ -27,7 +28,7 @@ fn core(direction: Direction, kind: Kind, ring: &RingBytes, rec: &[u8]) -> CoreO
     }
 }
 
-// What the cores of four records give, side by side.
+// What the cores of four records give, side by side. The lanes are written out: made over them by `array::from_fn`, this did not prove.
 #[tactic(auto, unfolding(standard::specs::Seals::sealed, standard::specs::Seals::opened))]
 fn core_x4(
     direction: Direction,
@@ -106,7 +107,8 @@ impl Book<'_> {
         &book[a..a + size]
     }
 
-    // What is made of record i and the core's output, at its place.
+    // What is made of record i and the core's output, at its place. That the output has room is asked here and below: in a struct with the
+    // output, each of these would have to say of all else in it that it stays.
     fn write_at(&self, kind: Kind, identity_strings: [u8; 8], i: usize, o: [u8; 15], out: &mut [u8])
         requires { (i < self.now.records) × (output_size_of self.now.direction * self.now.records ≤ length out.old) }
         ensures { out.new
@@ -150,12 +152,9 @@ impl Book<'_> {
             (λ j. convert_at self.now.ring.now identity_strings self.now.direction self.now.bytes.now (i + j)) 4 out.old)
             × (result ≡ 4 * text_runs) }
     {
-        let a = self.record_at(i);
-        let b = self.record_at(i + 1);
-        let c = self.record_at(i + 2);
-        let d = self.record_at(i + 3);
-        let kinds = [kind_at(a), kind_at(b), kind_at(c), kind_at(d)];
-        let o = core_x4(self.direction, kinds, self.ring, [a, b, c, d]);
+        let recs: [&[u8]; 4] = array::from_fn(|j| self.record_at(i + j));
+        let kinds = recs.map(kind_at);
+        let o = core_x4(self.direction, kinds, self.ring, recs);
         let mut runs = 0;
         for j in 0..4 {
             let output = o[j].output;

@@ -74,10 +74,12 @@ impl Book<'_> {
         let mut runs = identity_strings.runs;
         let fours = self.records / 4;
         for k in 0..fours {
-            runs += self.convert_x4(b, 4 * k, out);
+            let four = self.convert_x4(b, 4 * k, out);
+            runs += four;
         }
         for i in 4 * fours..self.records {
-            runs += self.convert_one(b, i, out);
+            let one = self.convert_one(b, i, out);
+            runs += one;
         }
         runs
     }

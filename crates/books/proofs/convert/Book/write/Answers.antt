@@ -6,7 +6,7 @@ pub loop-k-preserved : goal.loop-k-preserved
 loop-k-preserved c =
     let book = c.args.self.now in
     let at = c.loop-k in
-    let made = c.convert_x4-runs.ensures in
+    let made = c.convert_x4-four.ensures in
     record {
       converted =
           converted_x4 book.ring.now _ book.direction book.bytes.now c.args.out.now at.k book.records c.loop-k-test.true c.requires at.out
@@ -18,7 +18,7 @@ pub loop-i-preserved : goal.loop-i-preserved
 loop-i-preserved c =
     let book = c.args.self.now in
     let at = c.loop-i in
-    let made = c.convert_one-runs.ensures in
+    let made = c.convert_one-one.ensures in
     record {
       converted =
           converted_one book.ring.now _ book.direction book.bytes.now c.args.out.now at.i book.records c.loop-i-test.true c.requires at.out
