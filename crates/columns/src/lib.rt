@@ -10,25 +10,38 @@ ghost use Rattle.standard.specs.Sizes.{plain_size, sealed_size};
 use lists::lengths_and_output;
 use standard::{PLAIN_RECORD, RefusedAt, SEALED_RECORD, Written};
 
-// Byte j of each row of `width` bytes, of as many rows as the output has bytes.
-#[tactic(auto, using(standard::proofs::FillLaws::fill_next))]
-fn column(rows: &[u8], width: usize, j: usize, out: &mut [u8])
-    requires { (j < width) × (width * length out.old ≤ length rows.now) }
-    ensures { out.new ≡ column_of (length out.old) width rows.now j }
-{
-    for (i, to) in out.iter_mut().enumerate() {
-        *to = rows[width * i + j];
-    }
+// Rows of `width` bytes, one after the other.
+#[derive(Clone, Copy)]
+struct Rows<'a> {
+    bytes: &'a [u8],
+    count: usize,
+    width: usize,
+    ghost whole: { count * width ≤ length bytes.now },
 }
 
-// The columns of n rows of `width` bytes, one after the other.
-#[tactic(auto, using(crate::proofs::FileLaws::filed_more), unfolding(standard::specs::Columns::transposed))]
-fn transpose(rows: &[u8], n: usize, width: usize, out: &mut [u8])
-    requires { (n * width ≤ length rows.now) × (n * width ≤ length out.old) }
-    ensures { out.new ≡ transposed n width rows.now ++ drop (n * width) out.old }
-{
-    for j in 0..width {
-        column(rows, width, j, &mut out[n * j..n * j + n]);
+impl Rows<'_> {
+    // Byte j of each row.
+    #[tactic(auto, using(standard::proofs::FillLaws::fill_next))]
+    fn column(&self, j: usize, out: &mut [u8])
+        requires within { j < self.now.width }
+        requires room { length out.old ≡ self.now.count }
+        ensures { out.new ≡ column_of self.now.count self.now.width self.now.bytes.now j }
+    {
+        for (i, to) in out.iter_mut().enumerate() {
+            *to = self.bytes[self.width * i + j];
+        }
+    }
+
+    // The columns, one after the other.
+    #[tactic(auto, using(crate::proofs::FileLaws::filed_more), unfolding(standard::specs::Columns::transposed))]
+    fn transpose(&self, out: &mut [u8])
+        requires { self.now.count * self.now.width ≤ length out.old }
+        ensures { out.new ≡ transposed self.now.count self.now.width self.now.bytes.now ++ drop (self.now.count * self.now.width) out.old }
+    {
+        let n = self.count;
+        for j in 0..self.width {
+            self.column(j, &mut out[n * j..n * j + n]);
+        }
     }
 }
 
@@ -39,27 +52,23 @@ enum Way {
     FromColumns,
 }
 
-impl Way {
-    // A book of n records of w bytes into its columns, or back.
-    fn file(self, book: &[u8], w: usize, n: usize, out: &mut [u8])
-        requires { (w * n ≤ length book.now) × (w * n ≤ length out.old) }
-        ensures { out.new ≡ filed self w n book.now ++ drop (w * n) out.old }
-    {
-        match self {
-            Way::ToColumns => transpose(book, n, w, out),
-            Way::FromColumns => transpose(book, w, n, out),
-        }
-    }
-}
-
-// The call over the record's size.
+// The call over the record's size. Columns are rows, too, as many as a record has bytes.
 #[tactic(auto, using(lists::proofs::ListReturnLaws::call_refused, lists::proofs::ListReturnLaws::call_done), unfolding(standard::specs::Columns::columns_call))]
 fn rearrange(book: &[u8], size: u32, way: Way, out: &mut [u8]) -> Result<Written, RefusedAt>
     ensures { (book_answer result, out.new) ≡ columns_call size (filed way) book.now out.old }
 {
     let n = lengths_and_output(size, size, book.len(), out.len())?;
     let w = size as usize;
-    way.file(book, w, n, out);
+    let (count, width) = match way {
+        Way::ToColumns => (n, w),
+        Way::FromColumns => (w, n),
+    };
+    let rows = Rows {
+        bytes: book,
+        count,
+        width,
+    };
+    rows.transpose(out);
     Ok(Written {
         records: n,
         bytes: w * n,
