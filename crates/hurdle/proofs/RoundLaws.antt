@@ -1,13 +1,13 @@
 -- The steps of the code add up to f, to the rounds and to the block.
 use Rattle.standard.proofs.Prelude.{◌≡◌, refl, sym, ap, ap₂, ◌∙◌, List, [], ◌∷◌, ◌++◌, ℕ, zero, suc, ◌+◌, ◌*◌, ◌/◌, ◌%◌, ◌^◌, ◌<◌}
-use Rattle.standard.proofs.Prelude.{div-one, mod-eq_of_lt, add-one, arith, xor_zero_r, drop-drop, take, drop}
+use Rattle.standard.proofs.Prelude.{mod-eq_of_lt, add-one, arith, xor_zero_r, drop-drop, take, drop}
 use Rattle.std.proofs.Common.{map}
 use Rattle.std.specs.Simd.{first_chunks}
 use Rattle.std.proofs.Common.{get_or, zero-mul}
 use lib.Bits.{bit_xor, xor_shr, xor_mod}
 use Rattle.hurdle.specs.declared.round.Direction.{Direction}
 use Rattle.hurdle.specs.declared.round.Halves.{Halves as Words}
-use Rattle.standard.specs.Bytes.{◌!◌, byte, bit, ◌⊞◌, xors, bytes_of}
+use Rattle.standard.specs.Bytes.{◌!◌, byte, bit, ◌⊞◌, xors}
 use Rattle.standard.specs.Hurdle.{S, E, T, of_bits, f, Halves, round, rounds, crypt, round_key}
 use Rattle.hurdle.specs.RoundSteps.{bytes4, half_bytes, links_over, nibbles_over, second_over, third_over, f_over, spread_of, spreads}
 use Rattle.hurdle.specs.RoundSteps.{round_over, rounds_over, HalvesOf, place}
@@ -35,10 +35,6 @@ bits t n = of_bits (λ m. bit n (t m))
 bits_lt : (t : ℕ → ℕ) (n : ℕ) → bits t n < 256
 bits_lt t n =
     omega (arith, bit_lt n (t 0), bit_lt n (t 1), bit_lt n (t 2), bit_lt n (t 3), bit_lt n (t 4), bit_lt n (t 5), bit_lt n (t 6), bit_lt n (t 7))
-
--- the bytes of a word
-pub word_bytes : (w : ℕ) → bytes_of 4 w ≡ bytes4 w
-word_bytes w = rw (div-one w)
 
 -- four bytes in a word, and out again
 bytes4_of : (a b c d : ℕ) → a < 256 → b < 256 → c < 256 → d < 256 → bytes4 (a + 256 * b + 65536 * c + 16777216 * d) ≡ d ∷ c ∷ b ∷ a ∷ []

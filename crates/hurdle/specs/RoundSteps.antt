@@ -3,7 +3,7 @@ use Rattle.std.specs.Prelude.{◌≡◌, ℕ, zero, suc, ◌+◌, ◌-◌, ◌*�
 use Rattle.hurdle.specs.declared.round.Direction.{Direction}
 use Rattle.hurdle.specs.declared.round.Direction.TheVariants.{Encrypting, Decrypting}
 use Rattle.hurdle.specs.declared.round.Halves.{Halves as Words}
-use Rattle.hurdle.specs.declared.round.Part.{Part}
+use Rattle.hurdle.specs.declared.tables.Part.{Part}
 use Rattle.standard.specs.Bytes.{◌!◌, byte, bit, ◌⊕◌, ◌⊞◌, table, part}
 use Rattle.standard.specs.Hurdle.{S, E, Halves, crypt, schedule, round_key}
 use Rattle.standard.specs.Refusals.{wrong_length, has_length, first, answer8}
@@ -80,12 +80,9 @@ unfoldable pub rounds_over : Direction → List ℕ → ℕ → Words → Words
 rounds_over d keys zero h = h
 rounds_over d keys (suc n) h = round_over (round_key keys (place d n)) (rounds_over d keys n h)
 
--- of four pairs of halves, or of four parts of the chain, lane j's
+-- of four pairs of halves, lane j's
 abbrev pub halves_at : List Words → ℕ → Words
 halves_at hs j = slice_index_or hs j (record { l = 0; r = 0 })
-
-abbrev pub part_at : List Part → ℕ → Part
-part_at ps j = slice_index_or ps j (record { t = 0; y = 0 })
 
 -- the bytes of both halves
 abbrev pub half_bytes : Words → Halves

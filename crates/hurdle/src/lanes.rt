@@ -7,8 +7,9 @@ ghost use Rattle.hurdle.specs.Lanes.{lanes, lane, lent, each_lane};
 ghost use Rattle.hurdle.specs.RoundSteps.{bytes4, f_over, round_over, rounds_over, place as place_of, HalvesOf, halves_at};
 
 use crate::round::{
-    Direction, Halves, Part, block_of, exchanged, first, round_key, second, split, third,
+    Direction, Halves, block_of, exchanged, first, round_key, second, split, third,
 };
+use crate::tables::Part;
 use std::array;
 
 // f in each lane, four links at a time.

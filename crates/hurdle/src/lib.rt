@@ -70,13 +70,13 @@ pub fn encrypt_block(key: [u8; 16], block: [u8; 8]) -> [u8; 8]
 pub fn substitute(x: [u8; 3]) -> [u8; 3]
     ensures { result ≡ table 3 (λ i. s_of ! (x ! i)) }
 {
-    x.map(|b| s_at(usize::from(b)))
+    x.map(s_at)
 }
 
 pub fn substitute_back(x: [u8; 3]) -> [u8; 3]
     ensures { result ≡ table 3 (λ i. s_inverse_of ! (x ! i)) }
 {
-    x.map(|b| s_inverse_at(usize::from(b)))
+    x.map(s_inverse_at)
 }
 
 // A call in either direction, over strings of any length.

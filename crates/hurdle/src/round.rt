@@ -5,16 +5,9 @@ ghost use Rattle.standard.specs.Hurdle.{crypt as crypt_of, round_key as round_ke
 ghost use Rattle.hurdle.specs.RoundSteps.{bytes4, link_over, linked, four_over, first_over, second_over, third_over, f_over, exchanged_by, round_over, rounds_over};
 ghost use Rattle.hurdle.specs.RoundSteps.{place as place_of, HalvesOf};
 
-use crate::tables::{s_at, spread_at};
+use crate::tables::{Part, link_at};
 use arrays::{join, part};
 use std::num::wrapping_add_u8;
-
-// A byte of f's chain, and the bits of it or of four, spread.
-#[derive(Clone, Copy)]
-pub(crate) struct Part {
-    pub t: u8,
-    pub y: u32,
-}
 
 // The index of a link in S: (e + k) ⊕ t. With 256 added to one side the ⊕ is of two words; of two bytes the compiler would make a byte and
 // widen it again, and each link of the chain would take a cycle more.
@@ -25,15 +18,11 @@ fn index(t: u8, e: u8, k: u8) -> usize
     ((usize::from(wrapping_add_u8(e, k)) + 256) ^ usize::from(t)) - 256
 }
 
-// A link after t: S's byte and its bits, spread.
+// A link after t.
 fn link(t: u8, e: u8, k: u8) -> Part
     ensures { result ≡ link_over ((e ⊞ k) ⊕ t) }
 {
-    let i = index(t, e, k);
-    Part {
-        t: s_at(i),
-        y: spread_at(i),
-    }
+    link_at(index(t, e, k))
 }
 
 // Four links after t: the last one's byte, and in byte n of the word the bits n of all four.
@@ -161,6 +150,7 @@ pub(crate) fn round_key(keys: &[u8; 192], n: usize) -> &[u8; 12]
     &laid[n]
 }
 
+// The halves of a block. Neither this nor the way back is a `From`: the way back is not the inverse, it exchanges the halves.
 pub fn split(block: [u8; 8]) -> Halves
     ensures { HalvesOf block result }
 {

@@ -2,7 +2,7 @@
 ghost use Rattle.std.specs.Prelude.{◌≡◌, ◌<◌};
 ghost use Rattle.standard.specs.Bytes.{◌!◌};
 ghost use Rattle.standard.specs.Hurdle.{S as s_of, S⁻¹ as s_inverse_of};
-ghost use Rattle.hurdle.specs.RoundSteps.{spreads};
+ghost use Rattle.hurdle.specs.RoundSteps.{link_over};
 
 pub const S: [u8; 256] = *b"\
     \xf4\x65\x01\x00\xba\x7a\xa7\x47\x98\xdd\x9d\xad\x96\x5d\xaa\x3d\
@@ -109,23 +109,32 @@ static S_ENTRIES: [u8; 256] = S;
 static S_INVERSE_ENTRIES: [u8; 256] = S_INVERSE;
 
 // A function that names a table is proved with all its entries in sight, so the others call these.
-pub(crate) fn s_at(i: usize) -> u8
-    requires { i < 256 }
-    ensures { result ≡ s_of ! i }
+pub(crate) fn s_at(b: u8) -> u8
+    ensures { result ≡ s_of ! b }
 {
-    S_ENTRIES[i]
+    S_ENTRIES[usize::from(b)]
 }
 
-pub(crate) fn s_inverse_at(i: usize) -> u8
-    requires { i < 256 }
-    ensures { result ≡ s_inverse_of ! i }
+pub(crate) fn s_inverse_at(b: u8) -> u8
+    ensures { result ≡ s_inverse_of ! b }
 {
-    S_INVERSE_ENTRIES[i]
+    S_INVERSE_ENTRIES[usize::from(b)]
 }
 
-pub(crate) fn spread_at(i: usize) -> u32
+// A byte of f's chain, and the bits of it or of four, spread.
+#[derive(Clone, Copy)]
+pub(crate) struct Part {
+    pub t: u8,
+    pub y: u32,
+}
+
+// S's entry and its bits, spread. The index comes as a word, as `index` in round.rt makes it.
+pub(crate) fn link_at(i: usize) -> Part
     requires { i < 256 }
-    ensures { result ≡ spreads ! i }
+    ensures { result ≡ link_over i }
 {
-    SPREAD[i]
+    Part {
+        t: S_ENTRIES[i],
+        y: SPREAD[i],
+    }
 }

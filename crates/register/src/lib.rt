@@ -26,7 +26,7 @@ fn rotated(q: [u8; 16], n: usize) -> [u8; 16]
     array::from_fn(|i| twice[i + n])
 }
 
-// The step after round i + 1.
+// The step after round i + 1. A type of its own for such an i would be longer than the three `i < 16` of this file.
 #[tactic(auto, unfolding(standard::specs::Hurdle::D, standard::specs::Hurdle::a))]
 fn step(q: [u8; 16], i: usize) -> [u8; 16]
     requires { i < 16 }
@@ -111,7 +111,7 @@ fn crypt(key: [u8; 16], block: [u8; 8], direction: Direction) -> [u8; 8]
     block_of(rounds(start, direction).halves)
 }
 
-// A call in either direction, over strings of any length.
+// A call in either direction, over strings of any length; the two below are public beside those of `hurdle`, whose promises they keep.
 #[tactic(auto, unfolding(hurdle::specs::RoundSteps::crypt_call))]
 fn crypted(key: &[u8], block: &[u8], direction: Direction) -> Result<[u8; 8], Refusal>
     ensures { bytes8 result ≡ crypt_call key.now block.now direction }

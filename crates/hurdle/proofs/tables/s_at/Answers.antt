@@ -4,4 +4,4 @@ use Rattle.hurdle.proofs.tables.s_at.Goals as goal
 
 pub returns : goal.returns
 unfolding S
-returns c = refl
+returns c = rw c.from.ensures refl

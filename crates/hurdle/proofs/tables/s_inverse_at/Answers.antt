@@ -4,4 +4,4 @@ use Rattle.hurdle.proofs.tables.s_inverse_at.Goals as goal
 
 pub returns : goal.returns
 unfolding S⁻¹
-returns c = refl
+returns c = rw c.from.ensures refl
