@@ -4,36 +4,33 @@
 use books::{open_book, seal_book};
 use mixing::tb1;
 use seals::ta51;
-use standard::{CountedAnswer, KeyNumber, RING, RingBytes, Version};
+use standard::{
+    CountedAnswer, CountedRefusal, CountedWritten, KeyNumber, RING, Refusal, RingBytes, Version,
+};
 
 const KEYS: RingBytes = [90; RING];
 
 // A book call's refusal, index, bytes written and cipher runs.
-fn book(rt: &impl Print, words: &str, a: CountedAnswer) {
-    let refusal = a.refusal;
-    let index = a.index;
-    let written = a.written;
-    let runs = a.runs;
+fn book(rt: &impl Print, words: &str, given: Result<CountedWritten, CountedRefusal>) {
+    let CountedAnswer {
+        refusal,
+        index,
+        written,
+        runs,
+    } = given.into();
     let _ = println!(rt; "{words} {refusal} {index} {written} {runs}");
 }
 
-fn seal(rt: &impl Print, words: &str, plain: &[u8], out: &mut [u8]) {
-    book(rt, words, seal_book(&KEYS, plain, out));
-}
-
-fn open(rt: &impl Print, words: &str, sealed: &[u8], out: &mut [u8]) {
-    book(rt, words, open_book(&KEYS, sealed, out));
-}
-
-// A single call's refusal.
-fn single(rt: &impl Print, words: &str, refusal: u32) {
-    let _ = println!(rt; "{words} {refusal}");
+// A single call's refusal, and the number on which it turns.
+fn single<T: Copy>(rt: &impl Print, words: &str, number: u64, given: Result<T, Refusal>) {
+    let refusal = given.err().map_or(0, u32::from);
+    let _ = println!(rt; "{words} {number} {refusal}");
 }
 
 // Records of kind 4, each byte of a body by its place.
 fn fill(book: &mut [u8]) {
-    for i in 0..book.len() {
-        book[i] = if i % 18 == 0 { 4 } else { (i % 251) as u8 };
+    for (i, byte) in book.iter_mut().enumerate() {
+        *byte = if i % 18 == 0 { 4 } else { (i % 251) as u8 };
     }
 }
 
@@ -42,9 +39,17 @@ fn longest(rt: &impl Print) {
     let mut sealed = [0u8; 21504];
     let mut again = [0u8; 18432];
     fill(&mut plain);
-    seal(rt, "seal 1024 records", &plain, &mut sealed);
-    open(rt, "open 1024 records", &sealed, &mut again);
-    if check::same(&plain, &again) {
+    book(
+        rt,
+        "seal 1024 records",
+        seal_book(&KEYS, &plain, &mut sealed),
+    );
+    book(
+        rt,
+        "open 1024 records",
+        open_book(&KEYS, &sealed, &mut again),
+    );
+    if plain == again {
         let _ = println!(rt; "the same book");
     }
 }
@@ -53,15 +58,22 @@ fn too_long(rt: &impl Print) {
     let mut plain = [0u8; 18450];
     let mut sealed = [0u8; 21525];
     fill(&mut plain);
-    seal(rt, "seal 1025 records", &plain, &mut sealed);
-    open(rt, "open 1025 records", &sealed, &mut plain);
+    book(
+        rt,
+        "seal 1025 records",
+        seal_book(&KEYS, &plain, &mut sealed),
+    );
+    book(
+        rt,
+        "open 1025 records",
+        open_book(&KEYS, &sealed, &mut plain),
+    );
 }
 
 fn no_records(rt: &impl Print) {
-    let none = [0u8; 0];
     let mut out = [0u8; 1];
-    seal(rt, "seal no records", &none, &mut out);
-    open(rt, "open no records", &none, &mut out);
+    book(rt, "seal no records", seal_book(&KEYS, &[], &mut out));
+    book(rt, "open no records", open_book(&KEYS, &[], &mut out));
 }
 
 fn numbers(rt: &impl Print) {
@@ -70,34 +82,29 @@ fn numbers(rt: &impl Print) {
     let mut rec = [0u8; 18];
     rec[0] = 2;
     rec[17] = 31;
-    seal(rt, "seal number 31", &rec, &mut sealed);
-    open(rt, "open number 31", &sealed, &mut again);
-    sealed[20] = sealed[20] ^ 1;
-    open(rt, "open a flipped bit", &sealed, &mut again);
+    book(rt, "seal number 31", seal_book(&KEYS, &rec, &mut sealed));
+    book(rt, "open number 31", open_book(&KEYS, &sealed, &mut again));
+    sealed[20] ^= 1;
+    book(
+        rt,
+        "open a flipped bit",
+        open_book(&KEYS, &sealed, &mut again),
+    );
     rec[17] = 32;
-    seal(rt, "seal number 32", &rec, &mut sealed);
+    book(rt, "seal number 32", seal_book(&KEYS, &rec, &mut sealed));
 }
 
 fn single_numbers(rt: &impl Print) {
-    let key = [1u8; 10];
-    let sealing = [2u8; 16];
-    single(
-        rt,
-        "TA51 number 31",
-        ta51(&key, Version(7), &sealing, KeyNumber(31)).refusal,
-    );
-    single(
-        rt,
-        "TA51 number 32",
-        ta51(&key, Version(7), &sealing, KeyNumber(32)).refusal,
-    );
+    for number in [31, 32] {
+        let text = ta51(&[1; 10], Version(7), &[2; 16], KeyNumber(number));
+        single(rt, "TA51 number", u64::from(number), text);
+    }
 }
 
 fn widths(rt: &impl Print) {
-    single(rt, "TB1 width 15", tb1(1, 15).refusal);
-    single(rt, "TB1 width 16", tb1(1, 16).refusal);
-    single(rt, "TB1 width 32", tb1(1, 32).refusal);
-    single(rt, "TB1 width 33", tb1(1, 33).refusal);
+    for width in [15, 16, 32, 33] {
+        single(rt, "TB1 width", width, tb1(1, width));
+    }
 }
 
 fn main(rt: HostRuntime) {
