@@ -4,8 +4,7 @@ use Rattle.standard.specs.Bytes.{part}
 use Rattle.standard.specs.Cores.{bl1_with}
 use Rattle.standard.specs.Keys.{chosen}
 use Rattle.standard.specs.Expansions.{exp2}
-use Rattle.standard.specs.Lists.{record_at}
-use Rattle.standard.specs.Sizes.{challenge_size}
+use Rattle.classes.specs.declared.Session.{Session}
 
 -- of an output of the core: the response and the key that the masks choose
 unfoldable pub record_from : (rm km : ℕ) → List ℕ → List ℕ
@@ -15,6 +14,6 @@ record_from rm km o = part 0 4 (chosen rm o) ++ part 0 10 (chosen km o)
 unfoldable pub record_with : (keys : List ℕ) (rm km : ℕ) → List ℕ → List ℕ
 record_with keys rm km x = record_from rm km (bl1_with keys (exp2 x))
 
--- challenge i of a class, expanded
-abbrev pub input_at : List ℕ → ℕ → List ℕ
-input_at xs i = exp2 (record_at challenge_size xs i)
+-- of a challenge, in a session
+abbrev pub record_of : Session → List ℕ → List ℕ
+record_of s x = record_with s.keys s.masks.response s.masks.key x

@@ -150,12 +150,12 @@ replaced_more v i n g out₀ {out} long room h e = record {
 
 -- string i at its place; then n strings from i on at theirs
 module _ (v : ℕ) (g : ℕ → List ℕ) (long : (i : ℕ) → length (g i) ≡ v) (out₀ : List ℕ) where
-  prefix_replaced : (i j : ℕ) → j ≡ i + 1 → (out : List ℕ) → PrefixWritten v g out₀ i out → v * i + v ≤ length out₀
+  pub prefix_replaced : (i j : ℕ) → j ≡ i + 1 → (out : List ℕ) → PrefixWritten v g out₀ i out → v * i + v ≤ length out₀
       → PrefixWritten v g out₀ j (replace_at v i (g i) out)
   prefix_replaced i j e out h room =
       rw e (rw (add-sub_cancel_left (v * i) v, drop-drop v (v * i) out) at (prefix_next v g long out₀ i out h room (g i) refl))
 
-  prefix_from : (i n : ℕ) → v * (i + n) ≤ length out₀ → (out : List ℕ) → PrefixWritten v g out₀ i out
+  pub prefix_from : (i n : ℕ) → v * (i + n) ≤ length out₀ → (out : List ℕ) → PrefixWritten v g out₀ i out
       → PrefixWritten v g out₀ (i + n) (replace_from v i (λ j. g (i + j)) n out)
   prefix_from i zero room out h = rw add-zero h
   prefix_from i (suc n) room out h =
