@@ -103,7 +103,7 @@ fn between<F: Fn([u8; 3]) -> [u8; 3]>(
     xor(f(xor(f(xor(x, k)), l)), m)
 }
 
-// Three bytes of identity, encrypted, from the cipher run's output.
+// Three bytes of identity, encrypted, from the cipher run's output. It and its inverse are one walk, each promised by a definition of its own.
 #[tactic(auto, unfolding(standard::specs::Identity::encrypt_identity))]
 pub fn encrypt_identity(b: [u8; 8], x: [u8; 3]) -> [u8; 3]
     ensures { result ≡ encrypt_identity b x }
@@ -139,6 +139,7 @@ fn output_and_bytes(common_key: &[u8], identity: u64) -> Result<([u8; 8], [u8; 3
     Ok((b, bytes3(identity)))
 }
 
+// No type of the language has three bytes.
 fn number3(b: [u8; 3]) -> u32
     ensures { result ≡ number3_of b }
 {

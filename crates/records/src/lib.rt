@@ -19,7 +19,7 @@ ghost use Rattle.records.specs.RecordForms.{sealed_with, opened_with};
 use crate::parts::{head_with, ring_c};
 use arrays::{byte_at, copy, join, part};
 use identity::{IdentityStrings, bc, decrypt_identity, encrypt_identity};
-pub use parts::{core_key, ring_bytes};
+pub use parts::core_key;
 use standard::{Algorithm, Kind, PLAIN_RECORD, Refusal, RingBytes, RingKey, SEALED_RECORD};
 use texts::{body_of, flag_of, input_of, with8};
 

@@ -3,18 +3,10 @@ ghost use Rattle.std.specs.Prelude.{◌∷◌, ◌++◌, ◌≡◌};
 ghost use Rattle.standard.specs.Books.{ring_key, sealing_key, common_key};
 ghost use Rattle.standard.specs.Bytes.{◌!◌, part, bytes_of};
 ghost use Rattle.standard.specs.Seals.{form};
-ghost use Rattle.standard.specs.Sizes.{ring_size};
 
 use arrays::part;
 use standard::{Algorithm, Kind, RingBytes, RingKey, Version};
 use texts::{key10, key16};
-
-// A ring's bytes, from a string that has as many.
-pub fn ring_bytes(s: &[u8]) -> RingBytes
-    ensures { result ≡ part 0 ring_size s.now }
-{
-    part(s, 0)
-}
 
 // The common key C.
 pub(crate) fn ring_c(r: &RingBytes) -> [u8; 10]
