@@ -12,8 +12,8 @@ use standard::Refusal;
 fn given_filled(p: Record) -> bool
     ensures { result ≡ given_filled p }
 {
-    let after_key = same(&p[16..], &[0; 6]);
-    same(&p[1..5], &[0; 4]) && (p[5] == 16 || (p[5] == 10 && after_key))
+    let given = (p[5] == 16) | ((p[5] == 10) & same(&p[16..], &[0; 6]));
+    same(&p[1..5], &[0; 4]) & given
 }
 
 // Length and value zero.
