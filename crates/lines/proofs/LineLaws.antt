@@ -1,6 +1,6 @@
 -- Lines that grow at the end, and texts written into an output one after the other.
 use Rattle.standard.proofs.Prelude.{ap₂, ◌*◌, zero-le, drop-drop, le-ltb}
-use Rattle.standard.proofs.Prelude.{◌≡◌, refl, sym, ap, ◌∙◌, List, [], ◌∷◌, ◌++◌, append-nil, ℕ, zero, suc, ◌+◌, ◌-◌, ◌≤◌, ◌<◌, add-one}
+use Rattle.standard.proofs.Prelude.{◌≡◌, refl, sym, ap, ◌∙◌, List, [], ◌∷◌, ◌++◌, append-nil, ℕ, zero, suc, ◌+◌, ◌-◌, ◌/◌, ◌≤◌, ◌<◌, add-one}
 use Rattle.standard.proofs.Prelude.{arith, length, take, drop, length-append, length-drop, length-take, take_all, take_at, drop_at}
 use mathlib.Core.List.{append_assoc}
 use native.Mathlib.Nat.{sub-zero, zero-sub}
@@ -16,10 +16,10 @@ use Rattle.standard.specs.Lists.{joined, record_at}
 use Rattle.std.specs.Simd.{first_chunks}
 use lib.ListN.{get_or}
 use Rattle.standard.proofs.BytesLaws.{part_lent}
-use native.Mathlib.Nat.{mul-zero, mul-le-mul_left}
+use native.Mathlib.Nat.{mul-zero, mul-le-mul_left, mul-div-le}
 use Rattle.standard.specs.Lines.{text_call}
 use Rattle.lines.proofs.TextLaws.{hex_step, digits_none, digits_last, digits_more}
-use Rattle.lines.specs.LineStates.{room, ◌▸◌, padding, IsPadded, Over}
+use Rattle.lines.specs.LineStates.{room, ◌▸◌, padding, IsPadded, Over, put_call}
 
 -- ---- one text after the other
 
@@ -97,7 +97,8 @@ module _ (bytes w exit : List ℕ) (n : ℕ) (h : IsPadded n bytes)
   written : put_mid n (room - n) bytes exit ≡ front ++ drop (length w) (padding n)
   unfolding front
   written =
-      rw (copied, left, length-replicate, drop_of_length-le (drop n bytes) {i = room - n} (simp length-drop (omega (arith, h.whole))), append-nil, ← append_assoc) refl
+      let none = drop_of_length-le (drop n bytes) {i = room - n} (simp length-drop (omega (arith, h.whole))) in
+      rw (copied, left, length-replicate, none, append-nil, ← append_assoc) refl
 
   pub written_text : take m (put_mid n (room - n) bytes exit) ≡ take n bytes ▸ w
   unfolding ◌▸◌ front
@@ -125,6 +126,9 @@ module _ (at : ℕ) (xs : List ℕ) where
   pub lent_none : drop (length xs - at) (drop at xs) ≡ []
   lent_none = drop_of_length-le (drop at xs) {i = length xs - at} (simp length-drop (omega arith))
 
+pub put_whole : (w out : List ℕ) → length w ≤ length out → put_call w out ≡ (length w, w ++ drop (length w) out)
+put_whole w out h = rw (take_all (length out) w h)
+
 -- ---- texts over an output, one after the other
 
 over : (w out : List ℕ) {end : ℕ} {exit : List ℕ} → length w ≤ length out → end ≡ length w → exit ≡ w ++ drop (length w) out → Over w out end exit
@@ -141,17 +145,17 @@ pub over_answered : (w out : List ℕ) {end : ℕ} {exit : List ℕ} → Over w 
 unfolding text_call
 over_answered w out p = rw (p.ends, p.bytes, le-ltb (length out) (length w) (omega (arith, p.ends, p.within, p.kept)))
 
--- w, copied into the rest of the output after v
-pub over_next : (v w out₀ : List ℕ) {at : ℕ} {out exit : List ℕ} → length (v ++ w) ≤ length out₀ → Over v out₀ at out
-    → exit ≡ take (length (take (length out - at) (drop at out))) w ++ drop (length w) (take (length out - at) (drop at out))
-    → Over (v ++ w) out₀ (at + length w) (take at out ++ (exit ++ drop (length out - at) (drop at out)))
-over_next v w out₀ {at} {out} {exit} h p q =
+-- w, put into the rest of the output after v, where the output's length goes by another name
+pub over_next : (v w out₀ : List ℕ) {at n k : ℕ} {out exit : List ℕ} → length (v ++ w) ≤ length out₀ → Over v out₀ at out → k ≡ length out
+    → (n, exit) ≡ put_call w (take (k - at) (drop at out)) → Over (v ++ w) out₀ (at + n) (put_mid at (k - at) out exit)
+over_next v w out₀ {at} {n} {k} {out} {exit} h p l q =
     let rest = drop (length v) out₀ in
     let front : take at out ≡ v = ap₂ take p.ends p.bytes ∙ take_at v rest (length v) refl in
-    let after : take (length out - at) (drop at out) ≡ rest = lent_rest at out ∙ ap₂ drop p.ends p.bytes ∙ drop_at v rest (length v) refl in
+    let after : take (k - at) (drop at out) ≡ rest = rw l (lent_rest at out ∙ ap₂ drop p.ends p.bytes ∙ drop_at v rest (length v) refl) in
     let whole : take (length rest) w ≡ w = take_all (length rest) w (simp length-drop (omega (arith, h, length-append v w))) in
-    over (v ++ w) out₀ h (ap (λ (n : ℕ). n + length w) p.ends ∙ sym (length-append v w))
-    (rw (front, lent_none at out, append-nil, q, after, whole, drop-drop, append_assoc, length-append))
+    let there : exit ≡ w ++ drop (length w) rest = rw (after, whole) at (ap (λ (x : ℕ × List ℕ). x.1) q) in
+    over (v ++ w) out₀ h (ap₂ ◌+◌ p.ends (ap (λ (x : ℕ × List ℕ). x.0) q) ∙ sym (length-append v w))
+    (rw (l, front, lent_none at out, append-nil, there, drop-drop, append_assoc, length-append))
 
 -- ---- the lines g 0, g 1, .. one after the other
 
@@ -159,21 +163,24 @@ pub joined_most : (g : ℕ → List ℕ) → ((j : ℕ) → length (g j) ≤ roo
 joined_most g h zero = omega arith
 joined_most g h (suc n) = simp length-append (omega (arith, joined_most g h n, h n))
 
--- a turn of a loop that copies line i after those before it
-pub lines_next : (g : ℕ → List ℕ) (i : ℕ) (out₀ : List ℕ) {at : ℕ} {line out exit : List ℕ} → line ≡ g i
-    → length (joined (suc i) g) ≤ length out₀ → Over (joined i g) out₀ at out
-    → exit ≡ take (length (take (length out - at) (drop at out))) line ++ drop (length line) (take (length out - at) (drop at out))
-    → Over (joined (i + 1) g) out₀ (at + length line) (take at out ++ (exit ++ drop (length out - at) (drop at out)))
-lines_next g i out₀ e h p q = rw (e, add-one i) (over_next (joined i g) (g i) out₀ h p (rw e at q))
+-- a turn of a loop that puts line i after those before it
+pub lines_next : (g : ℕ → List ℕ) (i : ℕ) (out₀ : List ℕ) {at n k : ℕ} {line out exit : List ℕ} → line ≡ g i
+    → length (joined (suc i) g) ≤ length out₀ → Over (joined i g) out₀ at out → k ≡ length out
+    → (n, exit) ≡ put_call line (take (k - at) (drop at out)) → Over (joined (i + 1) g) out₀ (at + n) (put_mid at (k - at) out exit)
+lines_next g i out₀ e h p l q = rw (add-one i) (over_next (joined i g) (g i) out₀ h p l (rw e at q))
 
--- row i of the rows of w bytes that a list was cut into
-pub row_at : (w k : ℕ) (xs : List ℕ) (i : ℕ) (d : List ℕ) → w * k ≤ length xs → i < k → get_or (first_chunks w k xs) i d ≡ record_at w xs i
-row_at w zero xs i d h l = absurd (omega arith)
-row_at w (suc k) xs zero d h l = rw mul-zero (part_lent 0 w xs (omega (arith, h)))
-row_at w (suc k) xs (suc i) d h l =
+-- the records of w bytes that a list was cut into, one by one
+chunk_at : (w k : ℕ) (xs : List ℕ) (i : ℕ) (d : List ℕ) → w * k ≤ length xs → i < k → get_or (first_chunks w k xs) i d ≡ record_at w xs i
+chunk_at w zero xs i d h l = absurd (omega arith)
+chunk_at w (suc k) xs zero d h l = rw mul-zero (part_lent 0 w xs (omega (arith, h)))
+chunk_at w (suc k) xs (suc i) d h l =
     let rest : length xs - w ≡ length (drop w xs) = sym (length-drop w xs) in
     let most : w * (i + 1) ≤ w * k = mul-le-mul_left w (omega arith) in
-    row_at w k (drop w xs) i d (omega (arith, h, rest)) (omega arith)
+    chunk_at w k (drop w xs) i d (omega (arith, h, rest)) (omega arith)
     ∙ sym (part_lent (w * i) w (drop w xs) (omega (arith, h, rest, most)))
     ∙ ap (take w) (drop-drop (w * i) w xs ∙ ap (λ (n : ℕ). drop n xs) (omega arith))
     ∙ part_lent (w * suc i) w xs (omega (arith, h, most))
+
+pub row_at : (w : ℕ) (xs : List ℕ) (i : ℕ) (d : List ℕ) {rows : List (List ℕ)} → rows ≡ first_chunks w (length xs / w) xs → i < length xs / w
+    → get_or rows i d ≡ record_at w xs i
+row_at w xs i d cut h = ap (λ (rows : List (List ℕ)). get_or rows i d) cut ∙ chunk_at w (length xs / w) xs i d (mul-div-le (length xs) w) h

@@ -28,6 +28,10 @@ padded_whole f n bytes h =
     let long : length (take n bytes) ≡ n = length-take-le n bytes (omega (arith, h.whole, h.within)) in
     rw (long, ← h.padded, take-append-drop)
 
+-- a text over the front of an output, as far as both go: how long the text is, and the output then
+abbrev pub put_call : List ℕ → List ℕ → ℕ × List ℕ
+put_call w out = (length w, take (length out) w ++ drop (length w) out)
+
 -- w over the front of an output that has room for it: where w ends, and the output then
 pub record Over (w out : List ℕ) (end : ℕ) (exit : List ℕ) : Type 0 where
   pub ends : end ≡ length w

@@ -4,7 +4,7 @@
 ghost use Rattle.std.specs.Prelude.{[], ◌∷◌, ◌≡◌, ◌≤◌, length};
 ghost use Rattle.standard.specs.Answers.{text_answer};
 ghost use Rattle.standard.specs.Lines.{digits as digits_of, decimal as decimal_of, hex_digit, hex_byte, hex as hex_of, text_call};
-ghost use Rattle.lines.specs.LineStates.{◌▸◌};
+ghost use Rattle.lines.specs.LineStates.{◌▸◌, put_call};
 
 use arrays::copy;
 use standard::Refusal;
@@ -112,16 +112,23 @@ impl Line {
         r
     }
 
+    // The text over the front of an output, as far as both go; how long it is.
+    pub fn put(&self, out: &mut [u8]) -> usize
+        ensures { (result, out.new) ≡ put_call self.now out.old }
+    {
+        let text = self.text();
+        copy(text, out);
+        text.len()
+    }
+
     // The text into an output that has room for it.
     #[tactic(auto, unfolding(standard::specs::Lines::text_call))]
     pub fn write(self, out: &mut [u8]) -> Result<usize, Refusal>
         ensures { (text_answer result, out.new) ≡ text_call self out.old }
     {
-        let text = self.text();
-        if out.len() < text.len() {
+        if out.len() < self.text().len() {
             return Err(Refusal::OutputShort);
         }
-        copy(text, out);
-        Ok(text.len())
+        Ok(self.put(out))
     }
 }

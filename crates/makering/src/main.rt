@@ -4,19 +4,17 @@
 ghost use Rattle.programs.specs.Reading.{Read};
 
 use keys::sitting_ring;
-use programs::{
-    FAILED, Input, answer_version, read_argument, read_input, report_answer, write_output,
-};
-use standard::{BookAnswer, RING, RingMade, SITTING};
+use programs::{answer_version, read_argument, read_input, report_answer, write_output};
+use standard::{RING, RefusedAt, RingAndResponses, SITTING, Written};
 use std::env::FillError;
 use std::rt::Env;
 
-fn read_sitting(rt: &HostRuntime, buf: &mut [u8]) -> Input
+fn read_sitting(rt: &HostRuntime, buf: &mut [u8]) -> Option<usize>
     ensures { Read result buf.old buf.new }
 {
     if !matches!(rt.arg(2, &mut []), Err(FillError::NotPresent)) {
         let _ = eprintln!(rt; "usage: makering [SITTING]");
-        return FAILED;
+        return None;
     }
     if !matches!(rt.arg(1, &mut []), Err(FillError::NotPresent)) {
         return read_argument(rt, b"makering", buf);
@@ -24,7 +22,7 @@ fn read_sitting(rt: &HostRuntime, buf: &mut [u8]) -> Input
     read_input(rt, b"makering", buf)
 }
 
-fn write_made(rt: &HostRuntime, made: RingMade) -> bool {
+fn write_made(rt: &HostRuntime, made: RingAndResponses) -> bool {
     let ring = made.ring;
     let response1 = made.response1;
     let response2 = made.response2;
@@ -35,32 +33,28 @@ fn write_made(rt: &HostRuntime, made: RingMade) -> bool {
 
 // One byte more than a sitting, so that a longer file is seen to be longer.
 fn main(rt: HostRuntime) {
-    if answer_version(&rt, b"makering").len > 0 {
+    if answer_version(&rt, b"makering").is_some() {
         return;
     }
     let mut sitting = [0u8; SITTING + 1];
-    let input = read_sitting(&rt, &mut sitting);
-    if input.failed {
+    let Some(n) = read_sitting(&rt, &mut sitting) else {
         return;
-    }
-    let n = input.len;
+    };
     if n != SITTING {
         let _ = eprintln!(rt; "makering: the sitting does not have 83 bytes");
         return;
     }
-    let made = sitting_ring(&sitting[..n]);
-    if made.refusal != 0 {
-        report_answer(&rt, BookAnswer::refused(made.refusal, 0));
-        return;
-    }
-    if write_made(&rt, made) {
-        report_answer(
-            &rt,
-            BookAnswer {
-                refusal: 0,
-                index: 0,
-                written: RING + 8,
-            },
-        );
-    }
+    let answer: Result<Written, RefusedAt> = match sitting_ring(&sitting[..n]) {
+        Ok(made) => {
+            if !write_made(&rt, made) {
+                return;
+            }
+            Ok(Written {
+                records: 0,
+                bytes: RING + 8,
+            })
+        }
+        Err(refusal) => Err(refusal.into()),
+    };
+    report_answer(&rt, answer.into());
 }

@@ -1,20 +1,22 @@
 -- The lines of the listing: none is longer than a line may be, and the book's lines one after the other.
 use Rattle.standard.proofs.Prelude.{◌≡◌, refl, ◌∙◌, Bool, true, false, List, ◌++◌, ℕ, ◌+◌, ◌*◌, ◌/◌, ◌≤◌, arith, eqb, length, length-append}
-use Rattle.standard.proofs.Prelude.{eqb-true, eq-eqb, ne_eqb}
+use Rattle.standard.proofs.Prelude.{eqb-true}
+use Rattle.standard.proofs.RefusalLaws.{not_zero}
+use Rattle.standard.specs.Answers.{refusal_number}
+use Rattle.standard.specs.declared.Refusal.{Refusal}
 use Rattle.standard.proofs.AnswerLaws.{is_accepted, lengths_fine}
 use Rattle.standard.proofs.BytesLaws.{length_table}
 use Rattle.standard.specs.Books.{record_kind, plain_fault, check_plain}
-use Rattle.standard.specs.Lists.{record_at}
+use Rattle.standard.specs.Lists.{record_at, refused}
 use Rattle.standard.specs.Bytes.{◌!◌, part, choose}
 use Rattle.standard.specs.PlainListing.{number_text, entry_line, entry_lines, entries_line, refused_line, listing, listing_room}
 use Rattle.standard.specs.PlainListingFacts.{ListingFits}
 use Rattle.standard.specs.Seals.{key_length}
 use Rattle.standard.specs.Sizes.{plain_size}
 use Rattle.standard.specs.Lines.{hex}
-use Rattle.standard.specs.declared.BookAnswer.{BookAnswer}
 use Rattle.standard.specs.declared.Algorithm.TheVariants.{Ta31, Ta51, Ta81, Ta91}
 use Rattle.standard.specs.declared.Algorithm.{Algorithm}
-use Rattle.lines.proofs.LineLaws.{joined_most}
+use Rattle.lines.proofs.LineLaws.{line_none, line_cons, line_append, line_whole, joined_most}
 use Rattle.lines.proofs.TextLaws.{digits_few, hex_twice}
 use Rattle.lines.specs.LineStates.{room}
 
@@ -51,6 +53,9 @@ pub refused_short : (refusal index : ℕ) → length (refused_line refusal index
 unfolding refused_line
 refused_short refusal index = simp length-append (omega (arith, digits_few 20 refusal, digits_few 20 index))
 
+-- what such a line follows from
+pub ruleset line_steps = (line_none, line_cons, line_append, line_whole, entries_short, refused_short)
+
 -- ---- the lines one after the other
 
 pub lines_short : (n : ℕ) (p : List ℕ) → length (entry_lines n p) ≤ room * n
@@ -61,16 +66,17 @@ lines_short n p = joined_most (λ i. entry_line i (record_at 18 p i)) (λ i. ent
 pub entries_most : (n : ℕ) (p : List ℕ) → n ≤ 1024 → length (entry_lines n p ++ entries_line n) ≤ listing_room
 entries_most n p h = simp length-append (omega (arith, h, lines_short n p, entries_short n))
 
--- ---- the calls
+-- ---- the call
 
-module _ (p : List ℕ) {a : BookAnswer} (e : a ≡ check_plain p) where
-  pub listing_refused : (a.refusal ≡ 0 → ⊥) → listing p ≡ refused_line a.refusal a.index
+module _ (p : List ℕ) where
+  pub listed : {n w : ℕ} → record { refusal = 0; index = n; written = w } ≡ check_plain p
+      → listing p ≡ entry_lines (length p / 18) p ++ entries_line (length p / 18)
   unfolding listing
-  listing_refused r = rw (← e, ne_eqb _ _ r)
+  listed e = rw (← e)
 
-  pub listing_entries : a.refusal ≡ 0 → listing p ≡ entry_lines (length p / 18) p ++ entries_line (length p / 18)
+  pub refused_listed : (r : Refusal) {i : ℕ} → refused (refusal_number r) i ≡ check_plain p → listing p ≡ refused_line (refusal_number r) i
   unfolding listing
-  listing_entries z = rw (← e, eq-eqb _ _ z)
+  refused_listed r e = rw (← e, not_zero r)
 
 -- an accepted book has at most 1,024 records, so that no listing is longer than its output
 pub accepted_few : (p : List ℕ) → (check_plain p).refusal ≡ 0 → length p / 18 ≤ 1024

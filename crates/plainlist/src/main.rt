@@ -7,13 +7,9 @@ use standard::{MOST_RECORDS, PLAIN_RECORD};
 use std::env::FillError;
 use std::rt::Env;
 
-fn print(rt: &HostRuntime, listing: &[u8; LISTING], n: usize) {
-    write_output(rt, b"plainlist", listing, n);
-}
-
 // The input has one byte more than the longest book, so that a longer one is seen to be longer.
 fn main(rt: HostRuntime) {
-    if answer_version(&rt, b"plainlist").len > 0 {
+    if answer_version(&rt, b"plainlist").is_some() {
         return;
     }
     if !matches!(rt.arg(1, &mut []), Err(FillError::NotPresent)) {
@@ -21,12 +17,10 @@ fn main(rt: HostRuntime) {
         return;
     }
     let mut plain = [0u8; PLAIN_RECORD * MOST_RECORDS + 1];
-    let input = read_input(&rt, b"plainlist", &mut plain);
-    if input.failed {
+    let Some(n) = read_input(&rt, b"plainlist", &mut plain) else {
         return;
-    }
-    let n = input.len;
+    };
     let mut out = [0u8; LISTING];
     let written = list_plain(&plain[..n], &mut out);
-    print(&rt, &out, written);
+    write_output(&rt, b"plainlist", &out, written);
 }

@@ -1,16 +1,13 @@
 -- The lines of the tables one after the other, and the ways in which the call returns.
-use Rattle.standard.proofs.Prelude.{◌≡◌, refl, ap, ◌∙◌, List, [], ◌∷◌, ◌++◌, ℕ, ◌+◌, ◌-◌, ◌/◌, ◌≤◌, ◌<◌, arith, length, take, drop}
+use Rattle.standard.proofs.Prelude.{◌≡◌, refl, ap, ◌∙◌, List, [], ◌∷◌, ◌++◌, ℕ, ◌+◌, ◌-◌, ◌≤◌, ◌<◌, arith, length, take, drop}
 use Rattle.standard.proofs.PrintedTablesLaws.{inverse_made, line_length, text_length}
 use Rattle.standard.specs.Bytes.{◌!◌, part}
 use Rattle.standard.specs.Hurdle.{S, S⁻¹}
 use Rattle.standard.specs.PrintedTables.{inverse, rotations, spaced, table_line, table_lines, tables_text, tables_call}
 use Rattle.standard.specs.Lines.{ascii, hex_byte, text_call}
-use Rattle.lines.proofs.LineLaws.{line_none, line_append, line_after, line_next, line_whole, over_answered, over_next, row_at}
+use Rattle.lines.proofs.LineLaws.{line_none, line_append, line_after, line_next, line_whole, over_next}
 use Rattle.standard.proofs.Prelude.{lt-ltb}
-use Rattle.standard.specs.Lists.{record_at}
-use Rattle.std.specs.Simd.{first_chunks}
-use lib.ListN.{get_or}
-use Rattle.lines.specs.LineStates.{◌▸◌, Over}
+use Rattle.lines.specs.LineStates.{◌▸◌, Over, put_call}
 
 -- ---- entries, with a space after each
 
@@ -38,12 +35,6 @@ line_shown t s {l} e f =
     (f ∙ ap (λ (w : List ℕ). [] ▸ spaced w ▸ hex_byte (t ! 15) ▸ ascii "\n") e ∙ simp line_append refl)
     (omega (arith, line_length t))
 
--- row i of a table
-pub row_line : (t : List ℕ) (i : ℕ) (d : List ℕ) {rows : List (List ℕ)} {line text : List ℕ} → length t ≡ 256 → rows ≡ first_chunks 16 (length t / 16) t
-    → i < length t / 16 → line ≡ table_line (get_or rows i d) → text ≡ line → text ≡ table_line (record_at 16 t i)
-row_line t i d long cut h e f =
-    f ∙ e ∙ ap table_line (ap (λ (rows : List (List ℕ)). get_or rows i d) cut ∙ row_at 16 (length t / 16) t i d (omega (arith, long)) h)
-
 -- ---- the call
 
 module _ (out : List ℕ) where
@@ -51,11 +42,11 @@ module _ (out : List ℕ) where
   unfolding text_call
   short h = rw (lt-ltb (length out) (length tables_text) (omega (arith, h, text_length)))
 
-  pub whole : {at : ℕ} {line out₁ exit : List ℕ} → 816 ≤ length out → Over (table_lines 16 S⁻¹) out at out₁ → line ≡ table_line rotations
-      → exit ≡ take (length (take (length out₁ - at) (drop at out₁))) line ++ drop (length line) (take (length out₁ - at) (drop at out₁))
-      → (record { refusal = 0; written = 816 }, take at out₁ ++ (exit ++ drop (length out₁ - at) (drop at out₁))) ≡ tables_call out
+  -- the last line after those of the inverse
+  pub whole : {at n : ℕ} {line out₁ exit : List ℕ} → 816 ≤ length out → Over (table_lines 16 S⁻¹) out at out₁ → line ≡ table_line rotations
+      → (n, exit) ≡ put_call line (take (length out₁ - at) (drop at out₁))
+      → Over tables_text out (at + n) (take at out₁ ++ (exit ++ drop (length out₁ - at) (drop at out₁)))
   unfolding tables_text
   whole {at} {out₁ = out₁} h a e b =
       let lines : Over (table_lines 16 (inverse S)) out at out₁ = rw inverse_made a in
-      let both = over_next (table_lines 16 (inverse S)) (table_line rotations) out (omega (arith, h, text_length)) lines (rw e at b) in
-      rw (← text_length) (rw both.ends at (over_answered tables_text out both))
+      over_next (table_lines 16 (inverse S)) (table_line rotations) out (omega (arith, h, text_length)) lines refl (rw e at b)

@@ -7,7 +7,6 @@ ghost use Rattle.standard.specs.Hurdle.{S⁻¹};
 ghost use Rattle.standard.specs.PrintedTables.{rotations as rotations_of, spaced as spaced_of, table_line, table_lines, tables_call};
 ghost use Rattle.lines.specs.LineStates.{◌▸◌, Over};
 
-use arrays::copy;
 use hurdle::{A, S};
 use lines::Line;
 use standard::Refusal;
@@ -64,10 +63,7 @@ fn table_lines(t: &[u8; 256], out: &mut [u8]) -> usize
     let (rows, _) = t.as_chunks();
     let mut at = 0;
     for row in rows {
-        let line = table_line(row);
-        let text = line.text();
-        copy(text, &mut out[at..]);
-        at += text.len();
+        at += table_line(row).put(&mut out[at..]);
     }
     at
 }
@@ -80,6 +76,5 @@ pub fn print_tables(out: &mut [u8]) -> Result<usize, Refusal>
         return Err(Refusal::OutputShort);
     }
     let at = table_lines(&inverse(), out);
-    copy(table_line(&rotations()).text(), &mut out[at..]);
-    Ok(TABLES_TEXT)
+    Ok(at + table_line(&rotations()).put(&mut out[at..]))
 }

@@ -5,7 +5,4 @@ use Rattle.plain_listing.proofs.entries_line.Goals as goal
 
 pub returns : goal.returns
 unfolding entries_line
-returns c =
-    line_whole (entries_line _) {l = c.word-2.result}
-    (simp line_append (rw (c.word-2.ensures, c.decimal.ensures, c.word.ensures, c.empty.ensures)))
-    (entries_short _)
+returns c = line_whole (entries_line _) {l = c.word-2.result} (simp line_append cc) (entries_short _)

@@ -13,8 +13,8 @@ unfolding entry_line
 returns c =
     let p = c.args.p.now in
     let k = key_length (record_kind p).algorithm in
-    let identity = part_lent 1 3 p (omega (arith, c.requires)) in
-    let key = part_lent 6 k p (omega (arith, c.requires, key_short (record_kind p).algorithm)) in
+    let identity = part_lent 1 3 p (omega arith) in
+    let key = part_lent 6 k p (omega (arith, key_short (record_kind p).algorithm)) in
     line_whole (entry_line c.args.index p) {l = c.back.result}
     (simp line_append (rw (← identity, ← key, ← add-sub_cancel_left 6 k, ← c.kind_at.ensures, c.back.ensures, c.front.ensures)))
     (entry_short c.args.index p)

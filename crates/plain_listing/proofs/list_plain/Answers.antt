@@ -1,24 +1,19 @@
-use Rattle.std.proofs.Common.{sym, ap, ◌∙◌, ◌≤◌, arith, rules, length}
-use Rattle.lines.proofs.LineLaws.{written_over}
-use Rattle.plain_listing.proofs.ListLaws.{accepted_few, listing_fits, listing_refused, listing_entries}
-use Rattle.standard.specs.PlainListing.{listing, listing_room}
+use Rattle.std.proofs.Common.{sym, ap, ◌∙◌, arith}
+use Rattle.lines.proofs.LineLaws.{put_whole}
+use Rattle.plain_listing.proofs.ListLaws.{accepted_few, listed, listing_fits, refused_listed}
+use Rattle.standard.specs.PlainListing.{listing}
 use Rattle.standard.specs.declared.BookAnswer.{BookAnswer}
 use Rattle.plain_listing.proofs.list_plain.Goals as goal
 
-pub returns-then-answer-ne0 : goal.returns-then-answer-ne0
-returns-then-answer-ne0 c =
-    let room : listing_room ≤ length c.args.out.now = search rules in
-    let refused = listing_refused c.args.plain.now c.check_plain-answer.ensures c.if-answer-ne0.true in
-    let over = written_over (listing c.args.plain.now) c.args.out.now (omega (arith, room, listing_fits c.args.plain.now))
-    (rw (c.refused_line.ensures, ← refused) at c.write-line.ensures) in
-    rw (over.ends, over.bytes)
-
 pub list_entries-requires : goal.list_entries-requires
-list_entries-requires c =
-    let few = accepted_few c.args.plain.now (ap (λ (a : BookAnswer). a.refusal) (sym c.check_plain-answer.ensures) ∙ c.if-answer-ne0.false) in
-    (omega arith, omega (arith, few), search rules)
+list_entries-requires c = accepted_few c.args.plain.now (sym (ap (λ (a : BookAnswer). a.refusal) c.in-Ok.ensures))
 
-pub returns : goal.returns
-returns c =
-    let entries = listing_entries c.args.plain.now c.check_plain-answer.ensures c.if-answer-ne0.false in
-    rw (entries, c.list_entries.ensures.ends, c.list_entries.ensures.bytes)
+pub returns-in-Ok : goal.returns-in-Ok
+returns-in-Ok c = rw (listed c.args.plain.now c.in-Ok.ensures, c.list_entries.ensures.ends, c.list_entries.ensures.bytes)
+
+pub returns-in-Err : goal.returns-in-Err
+returns-in-Err c =
+    let p = c.args.plain.now in
+    let line = refused_listed p c.in-Err.field-0.refusal c.in-Err.ensures in
+    rw (c.refused_line.ensures, c.into.ensures, ← line) at c.put.ensures
+    ∙ put_whole (listing p) c.args.out.now (omega (arith, listing_fits p))

@@ -1,9 +1,8 @@
-use Rattle.std.proofs.Common.{suc, ◌+◌, ◌≤◌, arith, length}
+use Rattle.std.proofs.Common.{refl, ap, ◌∙◌, suc, ◌+◌, ◌≤◌, arith, length}
 use Rattle.standard.proofs.PrintedTablesLaws.{lines_length}
 use Rattle.standard.specs.Lists.{record_at}
 use Rattle.standard.specs.PrintedTables.{table_line, table_lines}
-use Rattle.lines.proofs.LineLaws.{over_none, lines_next}
-use Rattle.printed_tables.proofs.PrintLaws.{row_line}
+use Rattle.lines.proofs.LineLaws.{over_none, lines_next, row_at}
 use Rattle.printed_tables.proofs.table_lines.Goals as goal
 
 pub loop-row-init : goal.loop-row-init
@@ -15,9 +14,9 @@ unfolding table_lines
 loop-row-preserved c =
     let i = c.loop-row.row-index in
     let t = c.args.t.now in
-    let made = row_line t i _ c.told-t c.as_chunks.ensures.front (omega arith) c.table_line-line.ensures c.text-text.ensures in
+    let made = c.table_line.ensures ∙ ap table_line (row_at 16 t i _ c.as_chunks.ensures.front (omega arith)) in
     let fits : length (table_lines (suc i) t) ≤ length c.args.out.now = omega (arith, lines_length (suc i) t) in
-    lines_next (λ i. table_line (record_at 16 t i)) i c.args.out.now made fits c.loop-row.invariant c.copy.ensures
+    lines_next (λ i. table_line (record_at 16 t i)) i c.args.out.now made fits c.loop-row.invariant refl c.put-at.ensures
 
 -- where the next line ends is a small number
 pub overflow_add-at : goal.overflow_add-at
