@@ -37,10 +37,9 @@ fn unseal_numbered(
 {
     let (text, sealing_key) = both_exactly(text, sealing_key)?;
     let opened = open_text(algorithm, key16(sealing_key, version), text);
-    let body = opened.body;
     Ok(OpenedNumbered {
-        key: part(&body, 0),
-        number: pair(body[10], body[11]),
+        key: part(&opened.body, 0),
+        number: pair(opened.body[10], opened.body[11]),
         failed_checks: opened.failed,
     })
 }
@@ -60,9 +59,8 @@ pub fn ta32(text: &[u8], sealing_key: &[u8], version: Version) -> Result<Opened<
 {
     let (text, sealing_key) = both_exactly(text, sealing_key)?;
     let opened = open_text(Algorithm::Ta31, key10(sealing_key, version), text);
-    let body = opened.body;
     Ok(Opened {
-        key: part(&body, 0),
+        key: part(&opened.body, 0),
         failed_checks: opened.failed,
     })
 }
