@@ -321,6 +321,7 @@ pub extern "C" fn taa1_tb6_inverse(cipher_key: &[u8], res: &[u8]) -> CarrierIden
     inverses::tb6_inverse(cipher_key, res).into()
 }
 
+// The sides are a number, as C hands them in.
 #[unsafe(no_mangle)]
 pub extern "C" fn taa1_ring(
     root: &[u8],
@@ -349,7 +350,8 @@ pub extern "C" fn taa1_ring(
         sides,
         response_mask,
         key_mask,
-    ).into()
+    )
+    .into()
 }
 
 #[unsafe(no_mangle)]

@@ -10,7 +10,7 @@ use arrays::part;
 use keys::{core, reversed, ta71_of};
 use mixing::tb4_of;
 
-// TA11, TA21, TA41, TB4 or TA71 of the keys in two values.
+// TA11, TA21, TA41, TB4 or TA71 of the keys in two values. The operation stays its byte, as in `derived_length`.
 fn derive(operation: u8, a: Value, b: Value) -> Value
     ensures { result ≡ part 0 value_size (derived operation a b) }
 {

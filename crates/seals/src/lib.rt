@@ -22,7 +22,8 @@ fn seal_key(algorithm: Algorithm, key: [u8; 16], cipher_key: [u8; 10], number: [
     seal_body(algorithm, key, join(cipher_key, number))
 }
 
-// A text unsealed to a cipher key and its number, which TA51 seals after a zero byte.
+// A text unsealed to a cipher key and its number, which TA51 seals after a zero byte. TA52 and TA82 are this, under the names that 000 gives
+// them.
 fn unseal_numbered(
     algorithm: Algorithm,
     text: &[u8],
