@@ -12,7 +12,7 @@ use Rattle.std.specs.Simd.{first_chunks}
 use Rattle.keys.proofs.MaskLaws.{part_filled, front_filled}
 use Rattle.keys.specs.Masks.{Counted}
 use Rattle.lists.proofs.ListReturnLaws.{call_refused, call_done}
-use Rattle.standard.proofs.BookLaws.{joined_same}
+use Rattle.standard.proofs.BookLaws.{each_same, joined_same}
 use Rattle.standard.proofs.FirstLaws.{first_append}
 use Rattle.standard.proofs.RefusalLaws.{not_zero}
 use Rattle.standard.specs.Answers.{refusal_number}
@@ -113,12 +113,19 @@ module _ (ks xs : List ℕ) (rm km : ℕ) (h : length ks ≡ 16) (m : 0 ≡ firs
   unfolding record_with record_from class_record ta12_call bl1
   same_record x l = rw (eq-eqb _ _ h, eq-eqb _ _ l, ← m)
 
-  pub same_records : {cs : List (List ℕ)} → cs ≡ first_chunks challenge_size (length xs / challenge_size) xs → length cs ≡ length xs / challenge_size
+  pub same_records : (n : ℕ) → each n challenge_size (record_with (schedule ks) rm km) xs ≡ each n challenge_size (class_record ks rm km) xs
+  same_records n =
+      each_same n challenge_size challenge_size (record_with (schedule ks) rm km) (class_record ks rm km) xs xs
+      (λ i k. same_record (record_at challenge_size xs i) refl)
+
+  -- of the challenges as the call finds them, in whole chunks
+  pub same_chunks : {cs : List (List ℕ)} → cs ≡ first_chunks challenge_size (length xs / challenge_size) xs → length cs ≡ length xs / challenge_size
       → joined (length cs) (λ i. record_with (schedule ks) rm km (lane cs i)) ≡ each (length xs / challenge_size) challenge_size (class_record ks rm km) xs
-  same_records {cs} e l =
-      joined_same (length cs) (λ i. record_with (schedule ks) rm km (lane cs i)) (λ i. class_record ks rm km (record_at challenge_size xs i))
-      (λ i k. ap (record_with (schedule ks) rm km) (chunk_at challenge_size xs e l i k) ∙ same_record (record_at challenge_size xs i) refl)
-      ∙ ap (λ (n : ℕ). each n challenge_size (class_record ks rm km) xs) l
+  same_chunks {cs} e l =
+      joined_same (length cs) (λ i. record_with (schedule ks) rm km (lane cs i)) (λ i. record_with (schedule ks) rm km (record_at challenge_size xs i))
+      (λ i k. ap (record_with (schedule ks) rm km) (chunk_at challenge_size xs e l i k))
+      ∙ ap (λ (n : ℕ). each n challenge_size (record_with (schedule ks) rm km) xs) l
+      ∙ same_records (length xs / challenge_size)
 
 -- ---- the ways in which the call returns: its tests are the key's length, those of the lengths, and those of the masks
 
@@ -156,6 +163,6 @@ module _ (ks xs : List ℕ) (rm km : ℕ) (out : List ℕ) where
           → (record { refusal = 0; index = count; written = authentication_size * count }, exit) ≡ ta12_class_call ks xs rm km out
       unfolding ta12_class_call
       all_written m eq es er ek en ec l e =
-          rw (e, es, eq, er, ek, en, same_records ks xs rm km (eqb-true _ _ h) m ec l, l)
+          rw (e, es, eq, er, ek, en, same_chunks ks xs rm km (eqb-true _ _ h) m ec l, l)
           (call_done tests n (λ i. 0) authentication_size (each n challenge_size (class_record ks rm km) xs) out
           (rw (h, first_append lengths masks refl, ← z) m) (λ j l. refl))
