@@ -1,11 +1,12 @@
--- A copy over the front of zeros: of a string's end, and of two strings, one after the other.
+-- A copy over the front of an output: of a string's end, and of two strings, one after the other.
 use Rattle.standard.proofs.Prelude.{◌≡◌, refl, sym, ap, ap₂, ◌∙◌, List, [], ◌∷◌, ◌++◌, append-nil, ℕ, zero, suc, ◌+◌, ◌-◌, ◌≤◌, ◌<◌}
 use Rattle.standard.proofs.Prelude.{zero-add, arith, length, take, drop, length-append, length-drop, drop_of_length-le, take_all, take_at, drop_at}
 use lib.ListN.{get_or-eq_default, replicate, length-replicate}
 use Rattle.std.proofs.lemmas.List.{drop-replicate}
 use lib.Seq.{get_or-drop, get_or-append-add}
 use borrow.Rule.Slice.PartMut.{mid_of, put_mid}
-use Rattle.standard.proofs.BytesLaws.{length_table, table_same, table_add, part_left, part_whole}
+use Rattle.std.specs.Array.{IsFirstChunk}
+use Rattle.standard.proofs.BytesLaws.{length_table, table_same, table_add, part_left, part_whole, part_lent, spelled}
 use Rattle.standard.specs.Bytes.{◌!◌, table, part, zeros}
 
 -- what `copy` makes of `out`
@@ -32,6 +33,12 @@ pub read_zeros : (from n : ℕ) (s : List ℕ) → over (take (length s - from) 
 read_zeros from n s =
     rw (take_all (length s - from) (drop from s) (omega (arith, length-drop from s)))
     (over_made n (drop from s) ∙ table_same n (λ i. drop from s ! (0 + i)) (λ i. s ! (from + i)) (λ i h. ap (◌!◌ (drop from s)) (zero-add i) ∙ get_or-drop from s i 0))
+
+-- and of a string that has so many bytes there the first of them
+pub read_whole : (from n : ℕ) (s w : List ℕ) → from < length s → IsFirstChunk (take (length s - from) (drop from s)) w n → w ≡ part from n s
+read_whole from n s w h c =
+    let all : take (length s - from) (drop from s) ≡ drop from s = take_all (length s - from) (drop from s) (omega (arith, length-drop from s)) in
+    c.same ∙ ap (take n) all ∙ part_lent from n s (omega (arith, h, c.enough, ap length all, length-drop from s))
 
 -- past the end
 pub zeros_past : (n from : ℕ) (s : List ℕ) → length s ≤ from → replicate n 0 ≡ part from n s
@@ -74,3 +81,32 @@ module _ (m l : ℕ) (a b : List ℕ) (ha : length a ≡ m) where
 pub both_whole : (m n l : ℕ) (a b : List ℕ) → length a ≡ m → length b ≡ n → m + n ≡ l → part 0 l (a ++ b) ≡ part 0 m a ++ part 0 n b
 both_whole m n l a b ha hb h =
     ap (λ (j : ℕ). part 0 j (a ++ b)) (sym h) ∙ first_and_part m n a b ha ∙ ap (λ (z : List ℕ). z ++ part 0 n b) (sym (part_whole m a ha))
+
+-- ---- two copied one after the other, over whatever stood there
+
+module _ (m : ℕ) (a b out : List ℕ) (ha : length a ≡ m) (h : length out ≡ m + length b) where
+  pub over_front : over a out ≡ a ++ drop m out
+  over_front = ap₂ ◌++◌ (take_all (length out) a (omega arith)) (ap (λ (k : ℕ). drop k out) ha)
+
+  rest : length (drop m out) ≡ length b
+  rest = rw (length-drop, h) (omega arith)
+
+  over_rest : over b (drop m out) ≡ b
+  over_rest =
+      rw (rest, drop_of_length-le (drop m out) {i = length b} (omega (arith, rest)), append-nil) (take_all (length b) b (omega arith))
+
+  pub two_copied : (n : ℕ) (r₁ r₂ : List ℕ) → n ≡ length b → r₁ ≡ over a out → r₂ ≡ over b (mid_of m n r₁) → put_mid m n r₁ r₂ ≡ a ++ b
+  two_copied n r₁ r₂ k e₁ e₂ =
+      let f₁ : r₁ ≡ a ++ drop m out = e₁ ∙ over_front in
+      let f₂ : r₂ ≡ b =
+      (rw (f₁, drop_at a (drop m out) m ha, take_all n (drop m out) (omega (arith, rest))) at e₂) ∙ over_rest in
+      rw (f₁, f₂, take_at a (drop m out) m ha, drop_at a (drop m out) m ha, drop_of_length-le (drop m out) {i = n} (omega (arith, rest)), append-nil)
+
+  -- the same, where the second takes all that is left
+  pub both_copied_over : (r₁ r₂ : List ℕ) → r₁ ≡ over a out → r₂ ≡ over b (mid_of m (length r₁ - m) r₁)
+      → put_mid m (length r₁ - m) r₁ r₂ ≡ part 0 m a ++ part 0 (length out - m) b
+  both_copied_over r₁ r₂ e₁ e₂ =
+      let l : length r₁ ≡ length a + length (drop m out) = ap length (e₁ ∙ over_front) ∙ length-append a (drop m out) in
+      simp zero-add
+      (two_copied (length r₁ - m) r₁ r₂ (omega (arith, rest)) e₁ e₂
+      ∙ ap₂ ◌++◌ (sym (spelled m a ha)) (sym (spelled (length out - m) b (omega arith))))

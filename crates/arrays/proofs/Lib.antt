@@ -1,2 +1,3 @@
 pub mod CopyLaws
 pub mod SameLaws
+pub mod WordLaws

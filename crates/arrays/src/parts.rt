@@ -22,13 +22,17 @@ pub fn byte_at(s: &[u8], i: usize) -> u8
     s.get(i).copied().unwrap_or(0)
 }
 
-// The N bytes of `s` from index `from` on.
+// The N bytes of `s` from index `from` on. Where there are so many, N bytes are copied, a number that the compiler knows.
 pub fn part<const N: usize>(s: &[u8], from: usize) -> [u8; N]
     ensures { result ≡ part from N s.now }
 {
     let mut out = [0u8; N];
     if from < s.len() {
-        copy(&s[from..], &mut out);
+        let rest = &s[from..];
+        if let Some(whole) = rest.first_chunk() {
+            return *whole;
+        }
+        copy(rest, &mut out);
     }
     out
 }

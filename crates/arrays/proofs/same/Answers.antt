@@ -1,6 +1,5 @@
-use Rattle.std.proofs.Common.{◌∙◌, true}
-use Rattle.arrays.proofs.SameLaws.{same_is}
+use Rattle.arrays.proofs.SameLaws.{same_not}
 use Rattle.arrays.proofs.same.Goals as goal
 
-pub returns : goal.returns
-returns c = c.eq.ensures ∙ same_is true c.args.a.now c.args.b.now
+pub returns-then-a-b : goal.returns-then-a-b
+returns-then-a-b c = same_not c.args.a.now c.args.b.now c.if-a-b.true
