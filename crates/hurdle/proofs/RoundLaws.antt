@@ -1,13 +1,13 @@
 -- The steps of the code add up to f, to the rounds and to the block.
 use Rattle.standard.proofs.Prelude.{◌≡◌, refl, sym, ap, ap₂, ◌∙◌, List, [], ◌∷◌, ◌++◌, ℕ, zero, suc, ◌+◌, ◌*◌, ◌/◌, ◌%◌, ◌^◌, ◌<◌}
-use Rattle.standard.proofs.Prelude.{mod-eq_of_lt, add-one, arith, xor_zero_r, drop-drop, take, drop}
+use Rattle.standard.proofs.Prelude.{div-one, mod-eq_of_lt, add-one, arith, xor_zero_r, drop-drop, take, drop}
 use Rattle.std.proofs.Common.{map}
 use Rattle.std.specs.Simd.{first_chunks}
 use Rattle.std.proofs.Common.{get_or, zero-mul}
 use lib.Bits.{bit_xor, xor_shr, xor_mod}
 use Rattle.hurdle.specs.declared.round.Direction.{Direction}
 use Rattle.hurdle.specs.declared.round.Halves.{Halves as Words}
-use Rattle.standard.specs.Bytes.{◌!◌, byte, bit, ◌⊞◌, xors}
+use Rattle.standard.specs.Bytes.{◌!◌, byte, bit, ◌⊞◌, xors, bytes_of}
 use Rattle.standard.specs.Hurdle.{S, E, T, of_bits, f, Halves, round, rounds, crypt, round_key}
 use Rattle.hurdle.specs.RoundSteps.{bytes4, half_bytes, links_over, nibbles_over, second_over, third_over, f_over, spread_of, spreads}
 use Rattle.hurdle.specs.RoundSteps.{round_over, rounds_over, HalvesOf, place}
@@ -35,6 +35,10 @@ bits t n = of_bits (λ m. bit n (t m))
 bits_lt : (t : ℕ → ℕ) (n : ℕ) → bits t n < 256
 bits_lt t n =
     omega (arith, bit_lt n (t 0), bit_lt n (t 1), bit_lt n (t 2), bit_lt n (t 3), bit_lt n (t 4), bit_lt n (t 5), bit_lt n (t 6), bit_lt n (t 7))
+
+-- the bytes of a word
+pub word_bytes : (w : ℕ) → bytes_of 4 w ≡ bytes4 w
+word_bytes w = rw (div-one w)
 
 -- four bytes in a word, and out again
 bytes4_of : (a b c d : ℕ) → a < 256 → b < 256 → c < 256 → d < 256 → bytes4 (a + 256 * b + 65536 * c + 16777216 * d) ≡ d ∷ c ∷ b ∷ a ∷ []
@@ -77,21 +81,21 @@ record Found (i : List ℕ) (u : ℕ → ℕ) : Type 0 where
   at_3 : S ! (i ! 3) ≡ u 3
 
 -- T0 to T3, where T0 is a link after 0; T4 to T7; T8 to T11
-links_0 : (x k : List ℕ) → Found (links_over 0 x k 0) (λ j. T x k j)
+links_0 : (x k : List ℕ) → Found (links_over S 0 x k 0) (λ j. T x k j)
 unfolding T links_over
 links_0 x k = rw (xor_zero_r (E x 0 ⊞ byte 12 k 0)) (record { at_0 = refl; at_1 = refl; at_2 = refl; at_3 = refl })
 
-links_4 : (x k : List ℕ) → Found (links_over (T x k 3) x k 4) (λ j. T x k (j + 4))
+links_4 : (x k : List ℕ) → Found (links_over S (T x k 3) x k 4) (λ j. T x k (j + 4))
 unfolding T links_over
 links_4 x k = record { at_0 = refl; at_1 = refl; at_2 = refl; at_3 = refl }
 
-links_8 : (x k : List ℕ) → Found (links_over (T x k 7) x k 8) (λ j. T x k (j + 8))
+links_8 : (x k : List ℕ) → Found (links_over S (T x k 7) x k 8) (λ j. T x k (j + 8))
 unfolding T links_over
 links_8 x k = record { at_0 = refl; at_1 = refl; at_2 = refl; at_3 = refl }
 
 -- their bits, spread
 nibbles : {i : List ℕ} {u : ℕ → ℕ} → Found i u
-    → nibbles_over i ≡ (spread_of (u 0) + 2 * spread_of (u 1) + 4 * spread_of (u 2) + 8 * spread_of (u 3)) % 4294967296
+    → nibbles_over spreads i ≡ (spread_of (u 0) + 2 * spread_of (u 1) + 4 * spread_of (u 2) + 8 * spread_of (u 3)) % 4294967296
 nibbles {i} p =
     rw (spread_at (i ! 0), spread_at (i ! 1), spread_at (i ! 2), spread_at (i ! 3), p.at_0, p.at_1, p.at_2, p.at_3)
 
@@ -99,13 +103,13 @@ nibbles {i} p =
 both_nibbles : (a b : ℕ) → (a % 4294967296 + 16 * (b % 4294967296)) % 4294967296 ≡ (a + 16 * b) % 4294967296
 both_nibbles a b = omega arith
 
-f_spread : (x k : List ℕ) → f_over x k ≡ of_bits (λ m. spread_of (T x k (m + 4))) % 4294967296
+f_spread : (x k : List ℕ) → f_over S spreads x k ≡ of_bits (λ m. spread_of (T x k (m + 4))) % 4294967296
 unfolding f_over second_over third_over
 f_spread x k =
     rw ((links_0 x k).at_3, (links_4 x k).at_3, nibbles (links_4 x k), nibbles (links_8 x k))
     (both_nibbles _ _ ∙ ap (λ (n : ℕ). n % 4294967296) (omega arith))
 
-pub f_word : (x k : List ℕ) → bytes4 (f_over x k) ≡ f x k
+pub f_word : (x k : List ℕ) → bytes4 (f_over S spreads x k) ≡ f x k
 unfolding f
 f_word x k = ap bytes4 (f_spread x k) ∙ gathered (λ m. T x k (m + 4))
 
@@ -117,7 +121,7 @@ xor_byte a b k = rw xor_shr (xor_mod (a / 2 ^ k) (b / 2 ^ k) 8)
 bytes4_xor : (a b : ℕ) → bytes4 (bit_xor a b) ≡ xors 4 (bytes4 a) (bytes4 b)
 bytes4_xor a b = cc (xor_byte a b 24, xor_byte a b 16, xor_byte a b 8, xor_mod a b 8)
 
-pub round_word : (k : List ℕ) (h : Words) → half_bytes (round_over k h) ≡ round k (half_bytes h)
+pub round_word : (k : List ℕ) (h : Words) → half_bytes (round_over S spreads k h) ≡ round k (half_bytes h)
 unfolding round
 round_word k h = ap (λ (y : List ℕ). (bytes4 h.r, y)) (bytes4_xor h.l _ ∙ ap (xors 4 (bytes4 h.l)) (f_word (bytes4 h.r) k))
 
@@ -128,10 +132,10 @@ rounds_word d keys zero h = refl
 rounds_word d keys (suc n) h = round_word _ _ ∙ ap (round (round_key keys (place d n))) (rounds_word d keys n h)
 
 -- one round more
-pub round_more : (d : Direction) (keys : List ℕ) (i : ℕ) (h : Words) {n : ℕ} {k : List ℕ} {state next : Words} → n ≡ place d i → k ≡ round_key keys n
-    → state ≡ rounds_over d keys i h → next ≡ round_over k state → next ≡ rounds_over d keys (i + 1) h
+pub round_more : (d : Direction) (keys : List ℕ) (i : ℕ) (h : Words) {n : ℕ} {k s w : List ℕ} {state next : Words} → s ≡ S → w ≡ spreads
+    → n ≡ place d i → k ≡ round_key keys n → state ≡ rounds_over d keys i h → next ≡ round_over s w k state → next ≡ rounds_over d keys (i + 1) h
 unfolding rounds_over
-round_more d keys i h at_n key before here = here ∙ rw (key, at_n, before) (ap (λ (m : ℕ). rounds_over d keys m h) (sym (add-one i)))
+round_more d keys i h of_S of_spreads at_n key before here = here ∙ rw (of_S, of_spreads, key, at_n, before) (ap (λ (m : ℕ). rounds_over d keys m h) (sym (add-one i)))
 
 -- a round key where it is laid out
 pub chunk_at : (n k i : ℕ) (xs : List ℕ) → i < k → get_or (first_chunks n k xs) i [] ≡ take n (drop (i * n) xs)

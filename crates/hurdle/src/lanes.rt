@@ -7,26 +7,26 @@ ghost use Rattle.hurdle.specs.Lanes.{lanes, lane, lent, each_lane};
 ghost use Rattle.hurdle.specs.RoundSteps.{bytes4, f_over, round_over, rounds_over, place as place_of, HalvesOf, halves_at};
 
 use crate::round::{
-    Direction, Halves, block_of, exchanged, first, round_key, second, split, third,
+    Direction, Halves, Part, block_of, exchanged, first, round_key, second, split, third,
 };
-use crate::tables::Part;
+use crate::tables::{s_table, spread_table};
 use std::array;
 
 // f in each lane, four links at a time.
 #[tactic(auto, unfolding(crate::specs::RoundSteps::f_over))]
-fn f_x4(h: [Halves; 4], k: [&[u8; 12]; 4]) -> [u32; 4]
-    ensures { each_lane (λ j. result ! j ≡ f_over (bytes4 (halves_at h j).r) (lent k.entry j)) }
+fn f_x4(s: &[u8; 256], w: &[u32; 256], h: [Halves; 4], k: [&[u8; 12]; 4]) -> [u32; 4]
+    ensures { each_lane (λ j. result ! j ≡ f_over s.now w.now (bytes4 (halves_at h j).r) (lent k.entry j)) }
 {
-    let t: [u8; 4] = array::from_fn(|j| first(h[j].r, k[j]));
-    let p: [Part; 4] = array::from_fn(|j| second(t[j], h[j].r, k[j]));
-    array::from_fn(|j| third(p[j], h[j].r, k[j]))
+    let t: [u8; 4] = array::from_fn(|j| first(s, w, h[j].r, k[j]));
+    let p: [Part; 4] = array::from_fn(|j| second(s, w, t[j], h[j].r, k[j]));
+    array::from_fn(|j| third(s, w, p[j], h[j].r, k[j]))
 }
 
 // A round in each lane.
-fn round_x4(h: [Halves; 4], k: [&[u8; 12]; 4]) -> [Halves; 4]
-    ensures { each_lane (λ j. halves_at result j ≡ round_over (lent k.entry j) (halves_at h j)) }
+fn round_x4(s: &[u8; 256], w: &[u32; 256], h: [Halves; 4], k: [&[u8; 12]; 4]) -> [Halves; 4]
+    ensures { each_lane (λ j. halves_at result j ≡ round_over s.now w.now (lent k.entry j) (halves_at h j)) }
 {
-    let y = f_x4(h, k);
+    let y = f_x4(s, w, h, k);
     array::from_fn(|j| exchanged(h[j], y[j]))
 }
 
@@ -43,9 +43,11 @@ fn round_keys(keys: [&[u8; 192]; 4], n: usize) -> [&[u8; 12]; 4]
 fn rounds_x4(keys: [&[u8; 192]; 4], h: [Halves; 4], direction: Direction) -> [Halves; 4]
     ensures { each_lane (λ j. halves_at result j ≡ rounds_over direction (lent keys.entry j) 16 (halves_at h j)) }
 {
+    let s = s_table();
+    let w = spread_table();
     let mut state = h;
     for i in 0..16 {
-        let next = round_x4(state, round_keys(keys, direction.place(i)));
+        let next = round_x4(s, w, state, round_keys(keys, direction.place(i)));
         state = next;
     }
     state

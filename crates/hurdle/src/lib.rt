@@ -22,7 +22,7 @@ use arrays::both_exactly;
 pub use key_schedule::doubled;
 pub use round::{Direction, Halves, block_of, round_under, split};
 use standard::Refusal;
-pub use tables::{A, D, S};
+pub use tables::{A, D, S, SPREAD, s_table, spread_table};
 
 // All sixteen round keys, the first one first.
 pub fn schedule(key: [u8; 16]) -> [u8; 192]

@@ -5,7 +5,7 @@ ghost use Rattle.standard.specs.Hurdle.{crypt as crypt_of, round_key as round_ke
 ghost use Rattle.hurdle.specs.RoundSteps.{bytes4, link_over, linked, four_over, first_over, second_over, third_over, f_over, exchanged_by, round_over, rounds_over};
 ghost use Rattle.hurdle.specs.RoundSteps.{place as place_of, HalvesOf};
 
-use crate::tables::{Part, link_at};
+use crate::tables::{s_table, spread_table};
 use arrays::{join, part};
 use std::num::wrapping_add_u8;
 
@@ -18,21 +18,29 @@ fn index(t: u8, e: u8, k: u8) -> usize
     ((usize::from(wrapping_add_u8(e, k)) + 256) ^ usize::from(t)) - 256
 }
 
-// A link after t.
-fn link(t: u8, e: u8, k: u8) -> Part
-    ensures { result ≡ link_over ((e ⊞ k) ⊕ t) }
+// A byte of f's chain, and the bits of it or of four, spread.
+#[derive(Clone, Copy)]
+pub(crate) struct Part {
+    pub t: u8,
+    pub y: u32,
+}
+
+// A link after t: S's byte and its bits, spread.
+fn link(s: &[u8; 256], w: &[u32; 256], t: u8, e: u8, k: u8) -> Part
+    ensures { result ≡ link_over s.now w.now ((e ⊞ k) ⊕ t) }
 {
-    link_at(index(t, e, k))
+    let i = index(t, e, k);
+    Part { t: s[i], y: w[i] }
 }
 
 // Four links after t: the last one's byte, and in byte n of the word the bits n of all four.
-fn links(t: u8, e: [u8; 4], k: [u8; 4]) -> Part
-    ensures { result ≡ four_over (table 4 (linked t (◌!◌ e) (◌!◌ k))) }
+fn links(s: &[u8; 256], w: &[u32; 256], t: u8, e: [u8; 4], k: [u8; 4]) -> Part
+    ensures { result ≡ four_over s.now w.now (table 4 (linked s.now t (◌!◌ e) (◌!◌ k))) }
 {
-    let a = link(t, e[0], k[0]);
-    let b = link(a.t, e[1], k[1]);
-    let c = link(b.t, e[2], k[2]);
-    let d = link(c.t, e[3], k[3]);
+    let a = link(s, w, t, e[0], k[0]);
+    let b = link(s, w, a.t, e[1], k[1]);
+    let c = link(s, w, b.t, e[2], k[2]);
+    let d = link(s, w, c.t, e[3], k[3]);
     let sum = u64::from(a.y) + 2 * u64::from(b.y) + 4 * u64::from(c.y) + 8 * u64::from(d.y);
     Part {
         t: d.t,
@@ -50,41 +58,41 @@ fn key_bytes(k: &[u8; 12], n: usize) -> [u8; 4]
 
 // f's chain in three fours of links; E numbers the bytes of a half from the rightmost on. The first ends with T3; T0 is a link after 0.
 #[tactic(auto, unfolding(crate::specs::RoundSteps::links_over))]
-pub(crate) fn first(x: u32, k: &[u8; 12]) -> u8
-    ensures { result ≡ first_over (bytes4 x) k.now }
+pub(crate) fn first(s: &[u8; 256], w: &[u32; 256], x: u32, k: &[u8; 12]) -> u8
+    ensures { result ≡ first_over s.now (bytes4 x) k.now }
 {
-    let p = links(0, x.to_le_bytes(), key_bytes(k, 8));
+    let p = links(s, w, 0, x.to_le_bytes(), key_bytes(k, 8));
     p.t
 }
 
 // T7, and the bits of T4 to T7.
 #[tactic(auto, unfolding(crate::specs::RoundSteps::links_over, crate::specs::RoundSteps::second_over))]
-pub(crate) fn second(t: u8, x: u32, k: &[u8; 12]) -> Part
-    ensures { result ≡ second_over t (bytes4 x) k.now }
+pub(crate) fn second(s: &[u8; 256], w: &[u32; 256], t: u8, x: u32, k: &[u8; 12]) -> Part
+    ensures { result ≡ second_over s.now w.now t (bytes4 x) k.now }
 {
     let e = x.to_le_bytes();
-    links(t, [e[0], e[2], e[1], e[3]], key_bytes(k, 4))
+    links(s, w, t, [e[0], e[2], e[1], e[3]], key_bytes(k, 4))
 }
 
 // T8 to T11, after T7: byte n of the result has bit n of T(m+4) as its bit m.
 #[tactic(auto, unfolding(crate::specs::RoundSteps::links_over, crate::specs::RoundSteps::third_over))]
-pub(crate) fn third(p: Part, x: u32, k: &[u8; 12]) -> u32
-    ensures { result ≡ third_over p (bytes4 x) k.now }
+pub(crate) fn third(s: &[u8; 256], w: &[u32; 256], p: Part, x: u32, k: &[u8; 12]) -> u32
+    ensures { result ≡ third_over s.now w.now p (bytes4 x) k.now }
 {
     let e = x.to_le_bytes();
-    let q = links(p.t, [e[2], e[0], e[3], e[1]], key_bytes(k, 0));
+    let q = links(s, w, p.t, [e[2], e[0], e[3], e[1]], key_bytes(k, 0));
     ((u64::from(p.y) + 16 * u64::from(q.y)) % 4294967296) as u32
 }
 
-// f of a half and a round key. It stays a function: within the loop of the rounds it would take a twentieth more instructions.
+// f of a half and a round key, over tables that are lent. It stays a function: within the loop of the rounds it would take a twentieth more instructions.
 #[inline(never)]
 #[tactic(auto, unfolding(crate::specs::RoundSteps::f_over))]
-fn f(x: u32, k: &[u8; 12]) -> u32
-    ensures { result ≡ f_over (bytes4 x) k.now }
+fn f(s: &[u8; 256], w: &[u32; 256], x: u32, k: &[u8; 12]) -> u32
+    ensures { result ≡ f_over s.now w.now (bytes4 x) k.now }
 {
-    let t = first(x, k);
-    let p = second(t, x, k);
-    third(p, x, k)
+    let t = first(s, w, x, k);
+    let p = second(s, w, t, x, k);
+    third(s, w, p, x, k)
 }
 
 #[derive(Clone, Copy)]
@@ -100,10 +108,10 @@ pub(crate) fn exchanged(h: Halves, y: u32) -> Halves
     Halves { l: h.r, r: h.l ^ y }
 }
 
-fn round(h: Halves, k: &[u8; 12]) -> Halves
-    ensures { result ≡ round_over k.now h }
+fn round(s: &[u8; 256], w: &[u32; 256], h: Halves, k: &[u8; 12]) -> Halves
+    ensures { result ≡ round_over s.now w.now k.now h }
 {
-    exchanged(h, f(h.r, k))
+    exchanged(h, f(s, w, h.r, k))
 }
 
 // The round key in a register: bytes 11 to 0.
@@ -114,11 +122,11 @@ fn low_bytes(q: &[u8; 16]) -> &[u8; 12]
     &k[0]
 }
 
-// A round under a register.
-pub fn round_under(h: Halves, q: &[u8; 16]) -> Halves
-    ensures { result ≡ round_over (part 4 12 q.now) h }
+// A round under a register, over any tables in the places of S and of SPREAD.
+pub fn round_under(s: &[u8; 256], w: &[u32; 256], h: Halves, q: &[u8; 16]) -> Halves
+    ensures { result ≡ round_over s.now w.now (part 4 12 q.now) h }
 {
-    round(h, low_bytes(q))
+    round(s, w, h, low_bytes(q))
 }
 
 // Which way a block goes through the rounds.
@@ -171,9 +179,11 @@ pub fn block_of(h: Halves) -> [u8; 8]
 fn rounds(keys: &[u8; 192], h: Halves, direction: Direction) -> Halves
     ensures { result ≡ rounds_over direction keys.now 16 h }
 {
+    let s = s_table();
+    let w = spread_table();
     let mut state = h;
     for i in 0..16 {
-        state = round(state, round_key(keys, direction.place(i)));
+        state = round(s, w, state, round_key(keys, direction.place(i)));
     }
     state
 }

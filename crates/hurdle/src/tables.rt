@@ -1,8 +1,8 @@
 // The constants of HURDLE-II (000, 6.5 and 6.7).
-ghost use Rattle.std.specs.Prelude.{◌≡◌, ◌<◌};
+ghost use Rattle.std.specs.Prelude.{◌≡◌};
 ghost use Rattle.standard.specs.Bytes.{◌!◌};
 ghost use Rattle.standard.specs.Hurdle.{S as s_of, S⁻¹ as s_inverse_of};
-ghost use Rattle.hurdle.specs.RoundSteps.{link_over};
+ghost use Rattle.hurdle.specs.RoundSteps.{spreads};
 
 pub const S: [u8; 256] = *b"\
     \xf4\x65\x01\x00\xba\x7a\xa7\x47\x98\xdd\x9d\xad\x96\x5d\xaa\x3d\
@@ -41,7 +41,7 @@ pub const S_INVERSE: [u8; 256] = *b"\
     \xe0\xe4\xb6\xe9\x00\x8c\xd0\xc9\x41\xd7\xeb\x76\x7c\xfc\x7d\xfe";
 
 // The low four bits of each entry of S, spread over the bytes of a word: bit n is the lowest bit of byte n.
-static SPREAD: [u32; 256] = [
+pub const SPREAD: [u32; 256] = [
     0x0010000, 0x0010001, 0x0000001, 0x0000000, 0x1000100, 0x1000100, 0x0010101, 0x0010101,
     0x1000000, 0x1010001, 0x1010001, 0x1010001, 0x0010100, 0x1010001, 0x1000100, 0x1010001,
     0x1000000, 0x0000000, 0x0000100, 0x1000000, 0x0010100, 0x1010000, 0x1010100, 0x0000000,
@@ -108,6 +108,8 @@ static S_ENTRIES: [u8; 256] = S;
 
 static S_INVERSE_ENTRIES: [u8; 256] = S_INVERSE;
 
+static SPREAD_ENTRIES: [u32; 256] = SPREAD;
+
 // A function that names a table is proved with all its entries in sight, so the others call these.
 pub(crate) fn s_at(b: u8) -> u8
     ensures { result ≡ s_of ! b }
@@ -121,20 +123,15 @@ pub(crate) fn s_inverse_at(b: u8) -> u8
     S_INVERSE_ENTRIES[usize::from(b)]
 }
 
-// A byte of f's chain, and the bits of it or of four, spread.
-#[derive(Clone, Copy)]
-pub(crate) struct Part {
-    pub t: u8,
-    pub y: u32,
+// S and SPREAD, lent where they stand.
+pub fn s_table() -> &'static [u8; 256]
+    ensures { result.now ≡ s_of }
+{
+    &S_ENTRIES
 }
 
-// S's entry and its bits, spread. The index comes as a word, as `index` in round.rt makes it.
-pub(crate) fn link_at(i: usize) -> Part
-    requires { i < 256 }
-    ensures { result ≡ link_over i }
+pub fn spread_table() -> &'static [u32; 256]
+    ensures { result.now ≡ spreads }
 {
-    Part {
-        t: S_ENTRIES[i],
-        y: SPREAD[i],
-    }
+    &SPREAD_ENTRIES
 }

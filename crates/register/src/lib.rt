@@ -3,14 +3,17 @@
 #![tactic(auto)]
 
 ghost use Rattle.std.specs.Prelude.{◌≡◌, ◌<◌, ◌≤◌};
-ghost use Rattle.hurdle.specs.RoundSteps.{place, crypt_call};
+ghost use Rattle.hurdle.specs.RoundSteps.{place, round_over, spreads, crypt_call};
 ghost use Rattle.register.specs.RegisterStates.{state_of, turn as turn_of, turns};
 ghost use Rattle.standard.specs.Answers.{bytes8, bytes16};
-ghost use Rattle.standard.specs.Hurdle.{crypt as crypt_of, encrypt_call, decrypt_call, rotl, round_key, schedule};
+ghost use Rattle.standard.specs.Bytes.{part};
+ghost use Rattle.standard.specs.Hurdle.{S as s_of, crypt as crypt_of, encrypt_call, decrypt_call, rotl, round_key, schedule};
 ghost use Rattle.standard.specs.Register.{step as step_of, step_back as step_back_of, turned as turned_of, register_call};
 
 use arrays::{both_exactly, exactly, xor};
-use hurdle::{A, D, Direction, Halves, block_of, doubled, round_under, split};
+use hurdle::{
+    A, D, Direction, Halves, block_of, doubled, round_under, s_table, split, spread_table,
+};
 use standard::Refusal;
 use std::array;
 
@@ -44,6 +47,13 @@ fn step_back(q: [u8; 16], i: usize) -> [u8; 16]
     rotated(xor(q, D), 16 - ROTATIONS[i])
 }
 
+// A round under the register, over S.
+fn round(h: Halves, q: &[u8; 16]) -> Halves
+    ensures { result ≡ round_over s_of spreads (part 4 12 q.now) h }
+{
+    round_under(s_table(), spread_table(), h, q)
+}
+
 // What the rounds keep: the register, and the block's halves beside it.
 #[derive(Clone, Copy)]
 struct State {
@@ -59,7 +69,7 @@ fn turn(s: State, i: usize, direction: Direction) -> State
     match direction {
         Direction::Encrypting => {
             let q = s.register;
-            let halves = round_under(s.halves, &q);
+            let halves = round(s.halves, &q);
             State {
                 register: step(q, i),
                 halves,
@@ -69,7 +79,7 @@ fn turn(s: State, i: usize, direction: Direction) -> State
             let q = step_back(s.register, 15 - i);
             State {
                 register: q,
-                halves: round_under(s.halves, &q),
+                halves: round(s.halves, &q),
             }
         }
     }
