@@ -3,19 +3,20 @@
 
 mod ring_input;
 
-ghost use Rattle.std.specs.Prelude.{true, [], ◌≡◌, ◌≤◌, eqb, length, min, take, IfOk, IfSome, OnOk};
+ghost use Rattle.std.specs.Prelude.{true, [], ◌≡◌, ◌≤◌, eqb, length, min, take, None, Some, MatchOption, IfOk, IfSome, OnOk};
 ghost use Rattle.std.specs.Io.{StartsWith};
 ghost use Rattle.std.specs.Io.KnownBytes.{Appends, ReadConsumes};
 ghost use Rattle.standard.specs.Bytes.{same as same_of};
 ghost use Rattle.standard.specs.Lines.{ascii};
 ghost use Rattle.lines.specs.LineStates.{◌▸◌};
+ghost use Rattle.standard.specs.Sizes.{ring_size};
 ghost use Rattle.programs.specs.Reading.{counted, Gathered, Read, RingRead, ReadToEnd};
 
 use arrays::{copy, same};
 use lines::{Line, ROOM};
 use reports::{report, report_counted};
 pub use ring_input::RingInput;
-use standard::{BookAnswer, CountedAnswer, MOST_RECORDS, RING, SEALED_RECORD};
+use standard::{BookAnswer, CountedAnswer, MOST_RECORDS, RING, RingBytes, SEALED_RECORD};
 use std::env::FillError;
 use std::fmt::InlineText;
 use std::fs::File;
@@ -210,6 +211,15 @@ fn usage(program: &[u8]) -> Line {
         .word(b" RING\n")
 }
 
+// A ring counts as far as it was read.
+fn ring_read(ring: RingBytes, read: Option<usize>) -> Option<RingInput>
+    requires { IfSome read (λ n. n ≤ ring_size) }
+    ensures { MatchOption result (read ≡ None) (λ r. (r.ring ≡ ring) × (read ≡ Some r.len)) }
+{
+    let len = read?;
+    Some(RingInput { ring, len })
+}
+
 // The ring, from the first bytes of the file that the only argument names. A shorter file is left to the calls, which refuse it.
 pub fn read_ring(rt: &HostRuntime, program: &[u8]) -> Option<RingInput>
     ensures { RingRead result }
@@ -219,8 +229,8 @@ pub fn read_ring(rt: &HostRuntime, program: &[u8]) -> Option<RingInput>
         write_error(rt, usage(program).text());
         return None;
     }
-    let len = read_argument(rt, program, &mut ring)?;
-    Some(RingInput { ring, len })
+    let read = read_argument(rt, program, &mut ring);
+    ring_read(ring, read)
 }
 
 // The first n bytes to standard output. True only where there are so many, and all were taken.
