@@ -1,5 +1,5 @@
 -- Lines that grow at the end, and texts written into an output one after the other.
-use Rattle.standard.proofs.Prelude.{ap₂, ◌*◌, zero-le, drop-drop, le-ltb}
+use Rattle.standard.proofs.Prelude.{Bool, true, false, ltb, ap₂, ◌*◌, zero-le, drop-drop, lt-ltb, le-ltb, ltb-true, ltb-false}
 use Rattle.standard.proofs.Prelude.{◌≡◌, refl, sym, ap, ◌∙◌, List, [], ◌∷◌, ◌++◌, append-nil, ℕ, zero, suc, ◌+◌, ◌-◌, ◌/◌, ◌≤◌, ◌<◌, add-one}
 use Rattle.standard.proofs.Prelude.{arith, length, take, drop, length-append, length-drop, length-take, take_all, take_at, drop_at}
 use mathlib.Core.List.{append_assoc}
@@ -9,15 +9,15 @@ use Prim.Native.Nat.{min}
 use borrow.Rule.Slice.PartMut.{put_mid}
 use lib.ListN.{replicate, length-replicate, drop_of_length-le}
 use lib.Seq.{length-take-le, take-nil, take-suc}
-use Rattle.std.proofs.lemmas.List.{drop-replicate}
-use Rattle.standard.specs.Bytes.{◌!◌}
+use Rattle.std.proofs.lemmas.List.{drop-replicate, take_min}
+use Rattle.standard.specs.Bytes.{◌!◌, choose}
 use Rattle.standard.specs.Lines.{hex_byte, hex}
 use Rattle.standard.specs.Lists.{joined, record_at}
 use Rattle.std.specs.Simd.{first_chunks}
 use lib.ListN.{get_or}
 use Rattle.standard.proofs.BytesLaws.{part_lent}
 use native.Mathlib.Nat.{mul-zero, mul-le-mul_left, mul-div-le}
-use Rattle.standard.specs.Lines.{text_call}
+use Rattle.standard.specs.Lines.{text_call, TextAnswer}
 use Rattle.lines.proofs.TextLaws.{hex_step, digits_none, digits_last, digits_more}
 use Rattle.lines.specs.LineStates.{room, ◌▸◌, padding, IsPadded, Over, put_call}
 
@@ -27,10 +27,24 @@ pub line_none : (l : List ℕ) → l ≡ l ▸ []
 unfolding ◌▸◌
 line_none l = simp (take-nil, append-nil) refl
 
--- a byte more, if there is room for it
-pub line_push : (l : List ℕ) (b : ℕ) → length l < room → l ▸ (b ∷ []) ≡ l ++ (b ∷ [])
+-- a byte more; a full line stays as it is
+pub line_push : (l : List ℕ) (b : ℕ) → l ▸ (b ∷ []) ≡ choose (ltb (length l) room) (l ++ (b ∷ [])) l
 unfolding ◌▸◌
-line_push l b h = ap (λ (w : List ℕ). l ++ w) (take_all (room - length l) (b ∷ []) (omega arith))
+line_push l b = go (ltb (length l) room) refl
+  where
+    go : (t : Bool) → ltb (length l) room ≡ t → l ++ take (room - length l) (b ∷ []) ≡ choose t (l ++ (b ∷ [])) l
+    go true e = ap (λ (w : List ℕ). l ++ w) (take_all (room - length l) (b ∷ []) (omega (arith, ltb-true (length l) room e)))
+    go false e =
+        let none : room - length l ≡ 0 = omega (arith, ltb-false (length l) room e) in
+        ap (λ (n : ℕ). l ++ take n (b ∷ [])) none ∙ append-nil l
+
+-- of a line's room the first bytes, as many as are said
+pub front_whole : (bytes : List ℕ) (n : ℕ) {m : ℕ} {w l : List ℕ} → length bytes ≡ room → m ≡ min n room → w ≡ take m bytes → l ≡ [] ▸ w → l ≡ take n bytes
+unfolding ◌▸◌
+front_whole bytes n {m} whole least cut e =
+    let all : take room (take m bytes) ≡ take m bytes = take_all room (take m bytes) (simp length-take (omega (arith, whole))) in
+    let of_n : take m bytes ≡ take n bytes = ap (λ (k : ℕ). take k bytes) least ∙ ap (λ (k : ℕ). take (min n k) bytes) (sym whole) ∙ take_min n bytes in
+    e ∙ ap (take room) cut ∙ all ∙ of_n
 
 take_append : (n : ℕ) (v w : List ℕ) → take n (v ++ w) ≡ take n v ++ take (n - length v) w
 take_append zero v w = simp zero-sub refl
@@ -126,8 +140,37 @@ module _ (at : ℕ) (xs : List ℕ) where
   pub lent_none : drop (length xs - at) (drop at xs) ≡ []
   lent_none = drop_of_length-le (drop at xs) {i = length xs - at} (simp length-drop (omega arith))
 
+-- an output that is too short for the text, and one that is not
+pub text_short : (w out : List ℕ) {n : ℕ} → n ≡ length w → length out < n → (record { refusal = 12; written = 0 }, out) ≡ text_call w out
+unfolding text_call
+text_short w out e h = rw (lt-ltb (length out) (length w) (omega arith))
+
+pub text_whole : (w out : List ℕ) → length w ≤ length out → (record { refusal = 0; written = length w }, w ++ drop (length w) out) ≡ text_call w out
+unfolding text_call
+text_whole w out h = rw (le-ltb (length out) (length w) h)
+
+take_taken : (m : ℕ) (xs : List ℕ) → take (length (take m xs)) xs ≡ take m xs
+take_taken zero xs = refl
+take_taken (suc m) [] = refl
+take_taken (suc m) (x ∷ xs) = ap (λ (r : List ℕ). x ∷ r) (take_taken m xs)
+
+-- the copy of a line's text
+pub text_copied : (bytes out : List ℕ) (m : ℕ) {n : ℕ} {exit : List ℕ} → n ≡ length (take m bytes) → n ≤ length out
+    → exit ≡ take (length out) (take n bytes) ++ drop (length (take n bytes)) out → (record { refusal = 0; written = n }, exit) ≡ text_call (take m bytes) out
+text_copied bytes out m {n} e h f =
+    rw (f, text, take_all (length out) (take m bytes) (omega arith), e) (text_whole (take m bytes) out (omega arith))
+  where
+    text : take n bytes ≡ take m bytes
+    text = ap (λ (k : ℕ). take k bytes) e ∙ take_taken m bytes
+
 pub put_whole : (w out : List ℕ) → length w ≤ length out → put_call w out ≡ (length w, w ++ drop (length w) out)
 put_whole w out h = rw (take_all (length out) w h)
+
+-- what `write` answers, where there is room, is what `put` does
+pub put_answered : (w out : List ℕ) {r : TextAnswer} {exit : List ℕ} → length w ≤ length out → (r, exit) ≡ text_call w out → (r.written, exit) ≡ put_call w out
+put_answered w out h e =
+    let t = e ∙ sym (text_whole w out h) in
+    ap (λ (x : TextAnswer × List ℕ). (x.0.written, x.1)) t ∙ sym (put_whole w out h)
 
 -- ---- texts over an output, one after the other
 
@@ -136,6 +179,11 @@ over w out {end} {exit} h e f = record { ends = e; bytes = f; within = omega (ar
   where
     kept : length exit ≡ length out
     kept = ap length f ∙ simp (length-append, length-drop) (omega arith)
+
+pub written_over : (w out : List ℕ) {r : TextAnswer} {exit : List ℕ} → length w ≤ length out → (r, exit) ≡ text_call w out → Over w out r.written exit
+written_over w out h e =
+    let t = e ∙ sym (text_whole w out h) in
+    over w out h (ap (λ (x : TextAnswer × List ℕ). x.0.written) t) (ap (λ (x : TextAnswer × List ℕ). x.1) t)
 
 pub over_none : (out : List ℕ) → Over [] out 0 out
 over_none out = record { ends = refl; bytes = refl; within = zero-le; kept = refl }

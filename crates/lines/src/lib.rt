@@ -1,7 +1,7 @@
 // Text in the making: fixed words and numbers, put together in a line, and a line written into an output.
 #![tactic(auto)]
 
-ghost use Rattle.std.specs.Prelude.{[], ◌∷◌, ◌≡◌, ◌≤◌, length};
+ghost use Rattle.std.specs.Prelude.{[], ◌∷◌, ◌≡◌, ◌≤◌, length, take};
 ghost use Rattle.standard.specs.Answers.{text_answer};
 ghost use Rattle.standard.specs.Lines.{digits as digits_of, decimal as decimal_of, hex_digit, hex_byte, hex as hex_of, text_call};
 ghost use Rattle.lines.specs.LineStates.{◌▸◌, put_call};
@@ -53,6 +53,21 @@ impl Line {
             bytes: [0; ROOM],
             len: 0,
         }
+    }
+
+    // Of any bytes as many as are said, as far as a line has room. Nothing else about them is asked.
+    #[tactic(auto, using(crate::proofs::LineLaws::front_whole))]
+    pub fn of(bytes: &[u8; ROOM], len: usize) -> Line
+        ensures { result ≡ take len bytes.now }
+    {
+        Line::empty().word(&bytes[..len.min(ROOM)])
+    }
+
+    // The length of its text.
+    pub fn size(&self) -> usize
+        ensures { result ≡ length self.now }
+    {
+        self.text().len()
     }
 
     // The text, lent.
@@ -126,7 +141,7 @@ impl Line {
     pub fn write(self, out: &mut [u8]) -> Result<usize, Refusal>
         ensures { (text_answer result, out.new) ≡ text_call self out.old }
     {
-        if out.len() < self.text().len() {
+        if out.len() < self.size() {
             return Err(Refusal::OutputShort);
         }
         Ok(self.put(out))
