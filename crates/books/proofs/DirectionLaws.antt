@@ -1,5 +1,5 @@
 -- Sealing and opening, in the terms of the definitions.
-use Rattle.standard.proofs.Prelude.{◌≡◌, refl, List, ◌++◌, ℕ, ◌+◌, ◌*◌, ◌/◌, ◌≤◌, ◌<◌, arith, length, drop}
+use Rattle.standard.proofs.Prelude.{◌≡◌, refl, Bool, true, false, eqb, List, ◌++◌, ℕ, ◌+◌, ◌*◌, ◌/◌, ◌≤◌, ◌<◌, arith, length, drop}
 use Rattle.identity.specs.declared.IdentityStrings.{IdentityStrings}
 use Rattle.lists.proofs.WalkLaws.{end_fits, first_fit, Wrote, wrote_none, wrote_one, wrote_from}
 use Rattle.lists.specs.Walks.{replace_at, replace_from}
@@ -9,20 +9,47 @@ use Rattle.standard.proofs.RunLaws.{inspection_most}
 use Rattle.standard.specs.Books.{common_key, seal_record, open_record}
 use Rattle.standard.specs.Identity.{bc}
 use Rattle.standard.specs.Lists.{each}
-use Rattle.standard.specs.Runs.{identity_runs, first_pass}
+use Rattle.standard.specs.Bytes.{choose}
+use Rattle.standard.specs.Runs.{identity_runs, first_pass, second_pass}
 use Rattle.standard.specs.Seals.{seal, unseal}
 use Rattle.standard.specs.declared.Kind.{Kind}
 use Rattle.books.specs.BothDirections.{size_of, output_size_of, fault_at, inspection_of, inspection_at, record_of, made_of, convert_of, convert_at}
 use Rattle.books.specs.declared.direction.Direction.{Direction}
 use Rattle.books.specs.declared.direction.Direction.TheVariants.{Sealing, Opening}
 
--- the cipher runs: two for an inspection at most
+-- ---- sizes
+
+pub sizes : (d : Direction) → (0 < size_of d) × (size_of d ≤ 21) × (output_size_of d ≤ 21)
+sizes Sealing = omega arith
+sizes Opening = omega arith
+
+pub places_fit : (d : Direction) (i most : ℕ) → size_of d * (i + 4) ≤ most → i + 4 ≤ most
+places_fit Sealing i most h = omega (arith, h)
+places_fit Opening i most h = omega (arith, h)
+
+-- ---- the cipher runs: two for an inspection at most
+
 pub inspections_most : (d : Direction) (x : List ℕ) → inspection_of d x ≤ 2
 inspections_most Sealing x = omega arith
 inspections_most Opening x = inspection_most x
 
 pub inspections_few : (r : List ℕ) (d : Direction) (xs : List ℕ) (n : ℕ) → first_pass n (fault_at r d xs) (inspection_at d xs) ≤ 2 * n
 inspections_few r d xs n = pass_most (fault_at r d xs) (inspection_at d xs) 2 n (λ j. inspections_most d _)
+
+-- they fit where a book of n records does
+pub runs_fit : (d : Direction) (n size : ℕ) → size_of d * n ≤ size → 4 * n ≤ size
+runs_fit Sealing n size h = omega (arith, h)
+runs_fit Opening n size h = omega (arith, h)
+
+pub both_fit : (r : List ℕ) (d : Direction) (xs : List ℕ) (n size : ℕ) → size_of d * n ≤ size
+    → first_pass n (fault_at r d xs) (inspection_at d xs) + second_pass n ≤ size + 1
+both_fit r d xs n size h = go (eqb n 0)
+  where
+    go : (t : Bool) → first_pass n (fault_at r d xs) (inspection_at d xs) + (choose t 0 1 + 2 * n) ≤ size + 1
+    go true = omega (arith, inspections_few r d xs n, runs_fit d n size h)
+    go false = omega (arith, inspections_few r d xs n, runs_fit d n size h)
+
+-- ---- what is converted
 
 pub made_length : (d : Direction) (k : Kind) (b x o : List ℕ) → length (made_of d k b x o) ≡ output_size_of d
 unfolding sealed_with opened_with

@@ -1,6 +1,6 @@
 -- A class's records are those of single calls, and its tests as code makes them one after the other.
 use Rattle.standard.proofs.Prelude.{◌≡◌, refl, sym, ap, ap₂, ◌∙◌, Bool, true, false, List, [], ◌∷◌, ◌++◌, append-nil, ℕ, zero, suc, ◌+◌, ◌-◌, ◌*◌, ◌/◌, ◌^◌, ◌<◌, ◌≤◌, mul-suc, arith, length, take, drop}
-use Rattle.standard.proofs.Prelude.{add-sub_cancel_left, length-drop, drop_of_length-le, take_all, take_at, drop_at, eq-eqb, eqb-true}
+use Rattle.standard.proofs.Prelude.{add-sub_cancel_left, length-append, length-drop, drop_of_length-le, take_all, take_at, drop_at, eq-eqb, eqb-true}
 use lib.Count.{ones}
 use borrow.Rule.Slice.PartMut.{mid_of, put_mid}
 use Rattle.hurdle.specs.Lanes.{lane}
@@ -35,6 +35,11 @@ module _ (rm km : ℕ) (o out r₁ r₂ : List ℕ) (hr : rm < 2 ^ 16) (hk : km 
     (e₁ : r₁ ≡ take (length (take (ones rm) out)) (chosen rm o) ++ drop (length (chosen rm o)) (take (ones rm) out)) where
   abbrev rest : List ℕ
   rest = drop (ones rm) out
+
+  pub rest_length : length (r₁ ++ rest) ≡ authentication_size
+  rest_length =
+      let responded : r₁ ≡ chosen rm o = front_filled rm o out r₁ hr (omega (arith, l, counted.0)) e₁ in
+      length-append r₁ rest ∙ omega (arith, ap length responded, length_chosen rm o hr, length-drop (ones rm) out, l, counted.0)
 
   abbrev mid : List ℕ
   mid = mid_of (ones rm) (ones rm + ones km - ones rm) (r₁ ++ rest)
@@ -154,8 +159,11 @@ module _ (ks xs : List ℕ) (rm km : ℕ) (out : List ℕ) where
     lengths_refused refusal e = tests_refused refusal (rw (h, first_append lengths masks refl, ← e, not_zero refusal) refl)
 
     module _ (z : 0 ≡ first lengths) where
+      masks_last : {mask : ℕ} → mask ≡ first masks → mask ≡ first tests
+      masks_last m = rw (h, first_append lengths masks refl, ← z) m
+
       pub masks_refused : (refusal : Refusal) → refusal_number refusal ≡ first masks → (refused (refusal_number refusal) 0, out) ≡ ta12_class_call ks xs rm km out
-      masks_refused refusal e = tests_refused refusal (rw (h, first_append lengths masks refl, ← z) e)
+      masks_refused refusal e = tests_refused refusal (masks_last e)
 
       pub all_written : 0 ≡ first masks → {key keys exit : List ℕ} {r k count : ℕ} {cs : List (List ℕ)} → key ≡ ks → keys ≡ schedule key → r ≡ rm → k ≡ km
           → count ≡ n → cs ≡ first_chunks challenge_size n xs → length cs ≡ n

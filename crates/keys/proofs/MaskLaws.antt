@@ -93,6 +93,17 @@ module _ {m j k k' : ℕ} {o d out out' : List ℕ} (h : j < 16) (given : Gather
   turn_passed b e f =
       rw (e, f) (at_next j k out (gather_past given (omega arith) (λ z. b (subst (λ (n : ℕ). bit n m ≡ 1) (omega arith) z))))
 
+-- a test that bytes are left and the part has room
+pub going : (i k n : ℕ) → ltb 0 i && ltb k n ≡ true → (0 < i) × (k < n)
+going i k n t = let s = and_split _ _ t in (ltb-true 0 i s.0, ltb-true k n s.1)
+
+pub ended : (i k n : ℕ) → k ≤ n → ltb 0 i && ltb k n ≡ false → (i ≡ 0) ⊎ (k ≡ n)
+ended i k n h f = go (ltb 0 i) refl
+  where
+    go : (t : Bool) → ltb 0 i ≡ t → (i ≡ 0) ⊎ (k ≡ n)
+    go true e = inr (omega (arith, h, ltb-false k n (rw e at f)))
+    go false e = inl (omega (arith, ltb-false 0 i e))
+
 -- ---- a part as long as its mask has ones becomes the chosen bytes
 
 pub part_filled : (m : ℕ) (o p r : List ℕ) → m < 2 ^ 16 → length p ≡ ones m

@@ -8,7 +8,7 @@ ghost use Rattle.keys.specs.Masks.{Counted};
 
 use standard::{Refusal, ResponseAndKey};
 
-// Masks that no test refuses.
+// Masks with four and ten ones. `new` makes them of those that no test refuses.
 #[derive(Clone, Copy, Debug, PartialEq, Eq)]
 pub struct Masks {
     pub response: u16,

@@ -7,7 +7,7 @@ use Rattle.standard.proofs.BytesLaws.{spelled}
 use Rattle.standard.proofs.LineageLaws.{from_same, value_length, parents_before, value_step}
 use Rattle.standard.specs.Bytes.{◌!◌, table, part}
 use Rattle.standard.specs.Keys.{core, ta71}
-use Rattle.standard.specs.Lineage.{operation, filled, parent_tests, lineage_fault}
+use Rattle.standard.specs.Lineage.{operation, parent1, parent2, filled, parent_tests, lineage_fault, value_from}
 use Rattle.standard.specs.Lineage.{derived, value_of}
 use Rattle.standard.specs.Lists.{record_at}
 use Rattle.standard.specs.Mixing.{tb4}
@@ -60,6 +60,12 @@ module _ (k : ℕ) (a b : List ℕ) {t o : List ℕ} (et : t ≡ part 0 10 b) wh
 -- ---- the value of a record
 
 module _ (s values : List ℕ) (i : ℕ) where
+  pub value_derived : (a b : List ℕ) → (operation (record_at sheet_size s i) ≡ 0 → ⊥)
+      → a ≡ record_at value_size values (parent1 (record_at sheet_size s i)) → b ≡ record_at value_size values (parent2 (record_at sheet_size s i))
+      → part 0 value_size (derived (operation (record_at sheet_size s i)) a b) ≡ from_values s values i
+  unfolding from_values value_from
+  value_derived a b z ea eb = rw (ea, eb, ne_eqb (operation (record_at sheet_size s i)) 0 z)
+
   -- where the values before it are written, it is the record's
   pub value_next : (n : ℕ) → Clean (lineage_fault s) n → i < n → (out₀ : List ℕ) → PrefixWritten value_size (value_of s) out₀ i values
       → from_values s values i ≡ value_of s i

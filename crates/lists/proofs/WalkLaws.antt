@@ -53,6 +53,9 @@ overwritten v own y exit h l e = e ∙ rw (drop_of_length-le own {i = v} (omega 
 
 -- ---- the scan
 
+pub clean_none : (g : ℕ → ℕ) → Clean g 0
+clean_none g j h = omega arith
+
 pub clean_more : (g : ℕ → ℕ) (i : ℕ) → Clean g i → g i ≡ 0 → Clean g (i + 1)
 clean_more g i h e j k = go (eq-or-lt_of_le (le_of_suc-le-suc (subst (λ (n : ℕ). j < n) (add-one i) k)))
   where

@@ -6,13 +6,20 @@ mod fields;
 ghost use Rattle.std.specs.Prelude.{[], ◌∷◌, ◌≡◌};
 ghost use Rattle.standard.specs.Answers.{bytes10, bytes16, refused_by};
 ghost use Rattle.standard.specs.Expansions.{grouped};
-ghost use Rattle.standard.specs.Mixing.{tb4 as tb4_of, tb7 as tb7_of, tb1_call, tb2_call, tb3_call, tb4_call, tb5_call, tb6_call, tb7_call};
+ghost use Rattle.standard.specs.Mixing.{tb2 as tb2_of, tb4 as tb4_of, tb7 as tb7_of, tb1_call, tb2_call, tb3_call, tb4_call, tb5_call, tb6_call, tb7_call};
 ghost use Rattle.standard.specs.Refusals.{valid_width, fits, wrong_width, value_wide, first};
 
 use crate::fields::{fits_in, tb1_of, tb5_of, tb6_of};
 use arrays::{both_exactly, exactly, join, part, xor};
 pub use fields::valid_width;
 use standard::Refusal;
+
+// TB2 on a typed array.
+fn tb2_of(input: [u8; 16]) -> [u8; 16]
+    ensures { result ≡ tb2_of input }
+{
+    input
+}
 
 // TB4 on typed arrays.
 pub fn tb4_of(a: [u8; 10], b: [u8; 10]) -> [u8; 10]
@@ -67,11 +74,11 @@ pub fn tb1(value: u64, width: u64) -> Result<[u8; 16], Refusal>
     Ok(tb1_of(value, width))
 }
 
-#[tactic(auto, using(crate::proofs::WholeLaws::input_answered))]
+#[tactic(auto, unfolding(standard::specs::Mixing::tb2_call))]
 pub fn tb2(input: &[u8]) -> Result<[u8; 16], Refusal>
     ensures { bytes16 result ≡ tb2_call input.now }
 {
-    exactly(input)
+    Ok(tb2_of(exactly(input)?))
 }
 
 #[tactic(auto, unfolding(standard::specs::Mixing::tb3_call, standard::specs::Mixing::tb3))]
@@ -124,5 +131,6 @@ pub fn tb6(cipher_key: &[u8], carrier: u64, identity: u64) -> Result<[u8; 10], R
 pub fn tb7(group_key: &[u8]) -> Result<[u8; 16], Refusal>
     ensures { bytes16 result ≡ tb7_call group_key.now }
 {
-    exactly(group_key).map(tb7_of)
+    let group_key = exactly(group_key)?;
+    Ok(tb7_of(group_key))
 }

@@ -1,9 +1,10 @@
 -- The lines of the listing: none is longer than a line may be, and the book's lines one after the other.
 use Rattle.standard.proofs.Prelude.{◌≡◌, refl, ◌∙◌, Bool, true, false, List, ◌++◌, ℕ, ◌+◌, ◌*◌, ◌/◌, ◌≤◌, arith, eqb, length, length-append}
-use Rattle.standard.proofs.Prelude.{eqb-true}
+use Rattle.standard.proofs.Prelude.{eqb-true, eqb-false, ne_eqb}
 use Rattle.standard.proofs.RefusalLaws.{not_zero}
 use Rattle.standard.specs.Answers.{refusal_number}
 use Rattle.standard.specs.declared.Refusal.{Refusal}
+use Rattle.standard.specs.declared.BookAnswer.{BookAnswer}
 use Rattle.standard.proofs.AnswerLaws.{is_accepted, lengths_fine}
 use Rattle.standard.proofs.BytesLaws.{length_table}
 use Rattle.standard.specs.Books.{record_kind, plain_fault, check_plain}
@@ -74,9 +75,12 @@ module _ (p : List ℕ) where
   unfolding listing
   listed e = rw (← e)
 
-  pub refused_listed : (r : Refusal) {i : ℕ} → refused (refusal_number r) i ≡ check_plain p → listing p ≡ refused_line (refusal_number r) i
+  pub listing_refused : {a : BookAnswer} → a ≡ check_plain p → (a.refusal ≡ 0 → ⊥) → listing p ≡ refused_line a.refusal a.index
   unfolding listing
-  refused_listed r e = rw (← e, not_zero r)
+  listing_refused e r = rw (← e, ne_eqb _ _ r)
+
+  pub refused_listed : (r : Refusal) {i : ℕ} → refused (refusal_number r) i ≡ check_plain p → listing p ≡ refused_line (refusal_number r) i
+  refused_listed r e = listing_refused e (eqb-false _ _ (not_zero r))
 
 -- an accepted book has at most 1,024 records, so that no listing is longer than its output
 pub accepted_few : (p : List ℕ) → (check_plain p).refusal ≡ 0 → length p / 18 ≤ 1024
