@@ -8,15 +8,16 @@ use Rattle.standard.specs.Refusals.{first}
 use Rattle.standard.specs.declared.Refusal.{Refusal}
 use Rattle.lists.specs.Walks.{Clean, FirstFault}
 
--- where a walk stopped is the first fault
-pub stopped_first : (n : ℕ) (g : ℕ → ℕ) {refusal : Refusal} {index : ℕ} → FirstFault n g refusal index → index ≡ first_fault n g
-stopped_first n g {refusal} s =
-    first_one
-    (record { within = omega (arith, s.within); below = s.before; stop = λ l z. eqb-false _ _ (not_zero refusal) (s.fault ∙ z) })
-    (first_fault_lem n g)
-
 no_zero : (refusal : Refusal) → refusal_number refusal ≡ 0 → ⊥
 no_zero refusal = eqb-false _ _ (not_zero refusal)
+
+-- where a walk stopped is the first fault
+number_first : (n : ℕ) (g : ℕ → ℕ) {index : ℕ} → index < n → Clean g index → (g index ≡ 0 → ⊥) → index ≡ first_fault n g
+number_first n g within before some =
+    first_one (record { within = omega (arith, within); below = before; stop = λ l z. some z }) (first_fault_lem n g)
+
+pub stopped_first : (n : ℕ) (g : ℕ → ℕ) {refusal : Refusal} {index : ℕ} → FirstFault n g refusal index → index ≡ first_fault n g
+stopped_first n g {refusal} s = number_first n g s.within s.before (λ z. no_zero refusal (s.fault ∙ z))
 
 -- of any number that is not 0, and then of a refusal's
 module _ (head n : ℕ) (g : ℕ → ℕ) (bytes : ℕ) where
@@ -31,8 +32,7 @@ module _ (head n : ℕ) (g : ℕ → ℕ) (bytes : ℕ) where
       → refused fault index ≡ answer head n g bytes
   unfolding answer
   number_stopped z fault index within before e some =
-      let at : index ≡ first_fault n g =
-      first_one (record { within = omega (arith, within); below = before; stop = λ l y. some (e ∙ y) }) (first_fault_lem n g) in
+      let at : index ≡ first_fault n g = number_first n g within before (λ y. some (e ∙ y)) in
       rw (← z, ← at, ne_eqb index n (λ y. omega (arith, within)), e)
 
   pub answer_stopped : 0 ≡ head → (refusal : Refusal) (index : ℕ) → FirstFault n g refusal index
